@@ -1,0 +1,110 @@
+-- Laws of tests, counts and lists over the numbers below n.
+use mathlib.Core.Bool.{Bool, true, false, cond, _||_, _&&_, false≢true}
+use mathlib.Core.Logic.{_⊎_, inl, inr}
+use mathlib.Core.Option.{Option, none, some}
+use mathlib.Core.Path.{_≡_, refl, ap₂}
+use Prim.Native.Nat.{ℕ, zero, suc, _<_}
+use native.Mathlib.Nat.{not-suc-le-zero}
+use native.Mathlib.Omega.{arith}
+use lib.Dec.{eqb}
+use Rattle.graph.specs.Below.{anyBelow, allBelow, leastBelow, count, listed}
+use Rattle.graph.proofs.Truth.{true-or-false, or-cases, or-left, or-right, and-left, and-right, and-both, eqb-eq, eqb-ne}
+
+-- a number below n + 1 is below n, or n
+pub below-or-last : (n i : ℕ) → i < suc n → (i < n) ⊎ (i ≡ n)
+below-or-last n i h = go (true-or-false (eqb i n))
+  where
+    go : (eqb i n ≡ true) ⊎ (eqb i n ≡ false) → (i < n) ⊎ (i ≡ n)
+    go (inl d) = inr (eqb-eq i n d)
+    go (inr d) = inl (omega (arith, eqb-ne i n d))
+
+-- if one number below n passes the test, some number below n does
+pub any-below : (n : ℕ) (p : ℕ → Bool) (i : ℕ) → i < n → p i ≡ true → anyBelow n p ≡ true
+unfolding anyBelow
+any-below zero p i h e = absurd (not-suc-le-zero h)
+any-below (suc n) p i h e = go (any-below n p i) (below-or-last n i h)
+  where
+    go : (i < n → p i ≡ true → anyBelow n p ≡ true) → (i < n) ⊎ (i ≡ n) → (anyBelow n p || p n) ≡ true
+    go f (inl l) = or-left (f l e) (p n)
+    go f (inr d) = or-right (anyBelow n p) (rw d at e)
+
+-- a number below n that passes the test
+pub record Below (n : ℕ) (p : ℕ → Bool) : Type 0 where
+  pub at : ℕ
+  pub below : at < n
+  pub passes : p at ≡ true
+
+-- if some number below n passes the test, here is one
+pub some-below : (n : ℕ) (p : ℕ → Bool) → anyBelow n p ≡ true → Below n p
+unfolding anyBelow
+some-below zero p e = absurd (false≢true e)
+some-below (suc n) p e = go (some-below n p) (or-cases (anyBelow n p) (p n) e)
+  where
+    up : Below n p → Below (suc n) p
+    up b = record { at = b .at; below = omega arith; passes = b .passes }
+
+    go : (anyBelow n p ≡ true → Below n p) → (anyBelow n p ≡ true) ⊎ (p n ≡ true) → Below (suc n) p
+    go f (inl h) = up (f h)
+    go f (inr h) = record { at = n; below = omega arith; passes = h }
+
+-- if each number below n passes the test, all do
+pub all-below : (n : ℕ) (p : ℕ → Bool) → ((i : ℕ) → i < n → p i ≡ true) → allBelow n p ≡ true
+unfolding allBelow
+all-below zero p f = refl
+all-below (suc n) p f = and-both (all-below n p (λ i h. f i (omega arith))) (f n (omega arith))
+
+-- if all numbers below n pass the test, each does
+pub each-below : (n : ℕ) (p : ℕ → Bool) → allBelow n p ≡ true → (i : ℕ) → i < n → p i ≡ true
+unfolding allBelow
+each-below zero p e i h = absurd (not-suc-le-zero h)
+each-below (suc n) p e i h = go (each-below n p (and-left (allBelow n p) (p n) e) i) (below-or-last n i h)
+  where
+    go : (i < n → p i ≡ true) → (i < n) ⊎ (i ≡ n) → p i ≡ true
+    go f (inl l) = f l
+    go f (inr d) = rw d (and-right (allBelow n p) (p n) e)
+
+-- the tests agree below n
+abbrev pub Agree : ℕ → (ℕ → Bool) → (ℕ → Bool) → Type 0
+Agree n p q = (i : ℕ) → i < n → p i ≡ q i
+
+fewer : (n : ℕ) (p q : ℕ → Bool) → Agree (suc n) p q → Agree n p q
+fewer n p q f i h = f i (omega arith)
+
+-- tests that agree below n agree on whether some number passes
+pub any-below-same : (n : ℕ) (p q : ℕ → Bool) → Agree n p q → anyBelow n p ≡ anyBelow n q
+unfolding anyBelow
+any-below-same zero p q f = refl
+any-below-same (suc n) p q f = ap₂ _||_ (any-below-same n p q (fewer n p q f)) (f n (omega arith))
+
+-- tests that agree below n agree on whether all numbers pass
+pub all-below-same : (n : ℕ) (p q : ℕ → Bool) → Agree n p q → allBelow n p ≡ allBelow n q
+unfolding allBelow
+all-below-same zero p q f = refl
+all-below-same (suc n) p q f = ap₂ _&&_ (all-below-same n p q (fewer n p q f)) (f n (omega arith))
+
+-- tests that agree below n agree on the least number that passes
+pub least-below-same : (n : ℕ) (p q : ℕ → Bool) → Agree n p q → leastBelow n p ≡ leastBelow n q
+unfolding leastBelow
+least-below-same zero p q f = refl
+least-below-same (suc n) p q f =
+    ap₂
+    (λ (o : Option ℕ) (b : Bool). elim o [ some k ↦ some k | none ↦ cond b (some n) none ])
+    (least-below-same n p q (fewer n p q f))
+    (f n (omega arith))
+
+-- tests that agree below n agree on how many numbers pass
+pub count-same : (n : ℕ) (p q : ℕ → Bool) → Agree n p q → count n p ≡ count n q
+unfolding count
+count-same zero p q f = refl
+count-same (suc n) p q f = rw (count-same n p q (fewer n p q f), f n (omega arith))
+
+-- tests that agree below n agree on the list of the numbers that pass
+pub listed-same : (n : ℕ) (p q : ℕ → Bool) → Agree n p q → listed n p ≡ listed n q
+unfolding listed
+listed-same zero p q f = refl
+listed-same (suc n) p q f = rw (listed-same n p q (fewer n p q f), f n (omega arith))
+
+-- a last number that fails is not listed
+pub listed-skip : (n : ℕ) (p : ℕ → Bool) → p n ≡ false → listed (suc n) p ≡ listed n p
+unfolding listed
+listed-skip n p e = rw e

@@ -1,0 +1,12 @@
+pub mod Truth
+pub mod Below
+pub mod Labels
+pub mod LabelGroups
+pub mod Joined
+pub mod Walks
+pub mod VertexMore
+pub mod Turned
+pub mod Ends
+pub mod Block
+pub mod BlockVertices
+pub mod SharedBlock

@@ -1,0 +1,126 @@
+-- The networks of document 01's marked histories, and their groups.
+use mathlib.Core.Bool.{Bool, true, false}
+use mathlib.Core.List.{List, [], _∷_, map}
+use mathlib.Core.Path.{_≡_, refl}
+use mathlib.Core.Option.{Option, none, some}
+use Prim.Native.Nat.{ℕ}
+use Rattle.graph.specs.Below
+use Rattle.graph.specs.Labels
+use Rattle.graph.specs.Network
+use Rattle.graph.specs.Groups
+use Rattle.graph.specs.Block
+use Rattle.graph.specs.Between
+
+-- The groups of items below n: for each item the least item of its group.
+unfoldable pub leasts : ℕ → (ℕ → ℕ → Bool) → List (Option ℕ)
+leasts n groups = Below.tabulate n (λ x. Below.leastBelow n (groups x))
+
+-- The groups of a network, which of its edges are bridges, and what lies between its vertices 0 and 2.
+pub record Summary : Type 0 where
+  pub components : List (Option ℕ)
+  pub bridgeBlocks : List (Option ℕ)
+  pub blocks : List (Option ℕ)
+  pub bridges : List Bool
+  pub shared : Option ℕ
+  pub bridgesThere : List ℕ
+  pub bridgesBack : List ℕ
+  pub cuts : List ℕ
+
+unfoldable pub summary : Network.Network → Summary
+summary g =
+    record {
+      components = leasts (g .vertices) (Groups.component g);
+      bridgeBlocks = leasts (g .vertices) (Groups.bridgeBlock g);
+      blocks = leasts (Network.edgeCount g) (Block.block g);
+      bridges = Below.tabulate (Network.edgeCount g) (Groups.bridge g);
+      shared = Block.sharedBlock g 0 2;
+      bridgesThere = Between.bridgesBetween g 0 2;
+      bridgesBack = Between.bridgesBetween g 2 0;
+      cuts = Between.cutsBetween g 0 2;
+    }
+
+unfoldable pub between : ℕ → ℕ → Network.Edge
+between x y = record { left = x; right = y }
+
+unfoldable pub network : ℕ → List Network.Edge → Network.Network
+network n edges = record { rule = Network.never; vertices = n; edges = edges }
+
+-- No edge; two edges between one pair; a chain; a triangle; two pairs of edges that meet; two such pairs in a loop.
+unfoldable pub examples : List Network.Network
+examples =
+    network 3 []
+    ∷ network 3 (between 0 1 ∷ between 0 1 ∷ [])
+    ∷ network 3 (between 0 1 ∷ between 1 2 ∷ [])
+    ∷ network 3 (between 0 1 ∷ between 1 2 ∷ between 2 0 ∷ [])
+    ∷ network 3 (between 1 2 ∷ between 1 2 ∷ between 0 1 ∷ between 0 1 ∷ [])
+    ∷ network 4 (between 0 1 ∷ between 0 1 ∷ between 2 3 ∷ between 2 3 ∷ between 1 2 ∷ between 0 3 ∷ [])
+    ∷ []
+
+unfoldable pub summaries : List Summary
+summaries =
+    record {
+      components = some 0 ∷ some 1 ∷ some 2 ∷ [];
+      bridgeBlocks = some 0 ∷ some 1 ∷ some 2 ∷ [];
+      blocks = [];
+      bridges = [];
+      shared = none;
+      bridgesThere = [];
+      bridgesBack = [];
+      cuts = [];
+    }
+    ∷ record {
+      components = some 0 ∷ some 0 ∷ some 2 ∷ [];
+      bridgeBlocks = some 0 ∷ some 0 ∷ some 2 ∷ [];
+      blocks = some 0 ∷ some 0 ∷ [];
+      bridges = false ∷ false ∷ [];
+      shared = none;
+      bridgesThere = [];
+      bridgesBack = [];
+      cuts = [];
+    }
+    ∷ record {
+      components = some 0 ∷ some 0 ∷ some 0 ∷ [];
+      bridgeBlocks = some 0 ∷ some 1 ∷ some 2 ∷ [];
+      blocks = some 0 ∷ some 1 ∷ [];
+      bridges = true ∷ true ∷ [];
+      shared = none;
+      bridgesThere = 0 ∷ 1 ∷ [];
+      bridgesBack = 1 ∷ 0 ∷ [];
+      cuts = 1 ∷ [];
+    }
+    ∷ record {
+      components = some 0 ∷ some 0 ∷ some 0 ∷ [];
+      bridgeBlocks = some 0 ∷ some 0 ∷ some 0 ∷ [];
+      blocks = some 0 ∷ some 0 ∷ some 0 ∷ [];
+      bridges = false ∷ false ∷ false ∷ [];
+      shared = some 0;
+      bridgesThere = [];
+      bridgesBack = [];
+      cuts = [];
+    }
+    ∷ record {
+      components = some 0 ∷ some 0 ∷ some 0 ∷ [];
+      bridgeBlocks = some 0 ∷ some 0 ∷ some 0 ∷ [];
+      blocks = some 0 ∷ some 0 ∷ some 2 ∷ some 2 ∷ [];
+      bridges = false ∷ false ∷ false ∷ false ∷ [];
+      shared = none;
+      bridgesThere = [];
+      bridgesBack = [];
+      cuts = 1 ∷ [];
+    }
+    ∷ record {
+      components = some 0 ∷ some 0 ∷ some 0 ∷ some 0 ∷ [];
+      bridgeBlocks = some 0 ∷ some 0 ∷ some 0 ∷ some 0 ∷ [];
+      blocks = some 0 ∷ some 0 ∷ some 0 ∷ some 0 ∷ some 0 ∷ some 0 ∷ [];
+      bridges = false ∷ false ∷ false ∷ false ∷ false ∷ false ∷ [];
+      shared = some 0;
+      bridgesThere = [];
+      bridgesBack = [];
+      cuts = [];
+    }
+    ∷ []
+
+-- The definitions give these groups.
+pub examples-have-their-groups : map summary examples ≡ summaries
+unfolding summary examples summaries network between leasts Below.anyBelow Below.allBelow Below.leastBelow Below.listed Below.tabulate Labels.relabel Labels.labels Labels.same Network.touches Network.otherEnd Network.never Network.edgeCount Network.edge Network.mates Network.nothing Network.lossOf Network.without Network.kept Network.joined Groups.component Groups.parts Groups.bridge Groups.bridgeBlock Block.linkAt Block.link Block.pairsBelow Block.links Block.block Block.atBoth Block.sharedBlock Between.insert Between.sort Between.leastMate Between.isBridgeBetween Between.bridgeBefore Between.bridgesBetween Between.isCutBetween Between.cutBefore Between.cutsBetween
+examples-have-their-groups = refl

@@ -1,0 +1,10 @@
+pub mod Below
+pub mod Lists
+pub mod Labels
+pub mod Network
+pub mod Groups
+pub mod Cycle
+pub mod Block
+pub mod BlockPath
+pub mod Between
+pub mod Examples

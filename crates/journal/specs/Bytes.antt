@@ -1,0 +1,20 @@
+-- Numbers as bytes, high byte first.
+use mathlib.Core.List.{List, [], _∷_, _++_}
+use Prim.Native.Nat.{ℕ, _+_, _*_, _/_, _%_}
+
+-- The number that two bytes give.
+unfoldable pub number : ℕ → ℕ → ℕ
+number high low = high * 256 + low
+
+-- A number below 65,536 in two bytes.
+unfoldable pub twoBytes : ℕ → List ℕ
+twoBytes n = n / 256 % 256 ∷ n % 256 ∷ []
+
+-- A number below 4,294,967,296 in four bytes.
+unfoldable pub fourBytes : ℕ → List ℕ
+fourBytes n = twoBytes (n / 65536) ++ twoBytes n
+
+-- Each number of a list in two bytes.
+unfoldable pub twoBytesEach : List ℕ → List ℕ
+twoBytesEach [] = []
+twoBytesEach (n ∷ ns) = twoBytes n ++ twoBytesEach ns

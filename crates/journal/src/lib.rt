@@ -1,0 +1,1 @@
+// The journal of commands: its bytes, answers, refusals and the run. Definitions in specs/, laws in proofs/.

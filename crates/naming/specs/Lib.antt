@@ -1,0 +1,4 @@
+pub mod Rename
+pub mod Book
+pub mod Log
+pub mod Examples

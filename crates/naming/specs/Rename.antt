@@ -1,0 +1,50 @@
+-- Names of groups of any item, and what becomes of them when groups become one.
+use mathlib.Core.Bool.{Bool, not, cond, _&&_, _||_}
+use mathlib.Core.List.{List, [], _∷_}
+use Prim.Native.Nat.{ℕ}
+use lib.Dec.{eqb, leb, ltb}
+use lib.ListN.{length, getD}
+use Rattle.graph.specs.Below.{anyBelow, count, listed, tabulate}
+
+-- Which items share a group.
+abbrev pub Grouping : Type 0
+Grouping = ℕ → ℕ → Bool
+
+-- How many of the items below n are in x's group.
+unfoldable pub size : ℕ → Grouping → ℕ → ℕ
+size n groups x = count n (groups x)
+
+-- The name of item x.
+unfoldable pub nameOf : List ℕ → ℕ → ℕ
+nameOf names x = getD names x 0
+
+-- What a group brings to a join: its size and its name.
+pub record Candidate : Type 0 where
+  pub size : ℕ
+  pub name : ℕ
+
+-- The larger group wins; among equals, the least name.
+unfoldable pub better : Candidate → Candidate → Candidate
+better c d = cond (ltb (d .size) (c .size) || (eqb (c .size) (d .size) && leb (c .name) (d .name))) c d
+
+-- The best of the listed items' groups and one more.
+unfoldable pub bestOf : (ℕ → Candidate) → Candidate → List ℕ → Candidate
+bestOf candidate c [] = c
+bestOf candidate c (x ∷ xs) = better (candidate x) (bestOf candidate c xs)
+
+module _ (before after : Grouping) (names : List ℕ) where
+  -- What the group that held item x before brings.
+  unfoldable pub candidate : ℕ → Candidate
+  candidate x = record { size = size (length names) before x; name = nameOf names x }
+
+  -- The group that holds x after holds several of those before: it has an item that was not in x's group.
+  unfoldable pub holdsSeveral : ℕ → Bool
+  holdsSeveral x = anyBelow (length names) (λ y. after x y && not (before x y))
+
+  -- The name of the largest of the groups before that make up x's group after; among equals, the least name.
+  unfoldable pub bestName : ℕ → ℕ
+  bestName x = bestOf candidate (candidate x) (listed (length names) (after x)) .name
+
+  -- Wherever one group after holds several before, each of its items gets the best of their names. All other names stay.
+  unfoldable pub rename : List ℕ
+  rename = tabulate (length names) (λ x. cond (holdsSeveral x) (bestName x) (nameOf names x))
