@@ -37,13 +37,15 @@ within-parts R (p ∷ ps) qs a = let r = within-parts R ps qs (a .1) in ((a .0, 
 abbrev row : ℕ → ℕ → (ℕ → ℕ → Bool) → List Pair
 row s m f = map (λ t. record { left = s; right = t }) (listed m (f s))
 
-within-map : (R : ℕ → ℕ → Type 0) (s : ℕ) (ts : List ℕ) → All (R s) ts → Within R (map (λ t. record { left = s; right = t }) ts)
-within-map R s [] a = tt
-within-map R s (t ∷ ts) a = (a .0, within-map R s ts (a .1))
+row-within : (R : ℕ → ℕ → Type 0) (s : ℕ) (ts : List ℕ) → All (R s) ts
+    → Within R (map (λ t. record { left = s; right = t }) ts)
+row-within R s [] a = tt
+row-within R s (t ∷ ts) a = (a .0, row-within R s ts (a .1))
 
-map-within : (R : ℕ → ℕ → Type 0) (s : ℕ) (ts : List ℕ) → Within R (map (λ t. record { left = s; right = t }) ts) → All (R s) ts
-map-within R s [] a = tt
-map-within R s (t ∷ ts) a = (a .0, map-within R s ts (a .1))
+within-row : (R : ℕ → ℕ → Type 0) (s : ℕ) (ts : List ℕ) → Within R (map (λ t. record { left = s; right = t }) ts)
+    → All (R s) ts
+within-row R s [] a = tt
+within-row R s (t ∷ ts) a = (a .0, within-row R s ts (a .1))
 
 all-listed : (P : ℕ → Type 0) (n : ℕ) (p : ℕ → Bool) → ((t : ℕ) → t < n → p t ≡ true → P t) → All P (listed n p)
 unfolding listed
@@ -72,7 +74,7 @@ unfolding pairsBelow
 within-pairs R zero m f w = tt
 within-pairs R (suc n) m f w =
     within-append R (row n m f) (pairsBelow n m f)
-    (within-map R n (listed m (f n)) (all-listed (R n) m (f n) (λ t h e. w n t (omega arith) h e)))
+    (row-within R n (listed m (f n)) (all-listed (R n) m (f n) (λ t h e. w n t (omega arith) h e)))
     (within-pairs R n m f (λ s t h k e. w s t (omega arith) k e))
 
 pairs-within : (R : ℕ → ℕ → Type 0) (n m : ℕ) (f : ℕ → ℕ → Bool)
@@ -85,22 +87,25 @@ pairs-within R (suc n) m f a s t h k e = go (eq-or-lt-of-le (omega arith)) (pair
     both = within-parts R (row n m f) (pairsBelow n m f) a
 
     go : (s ≡ n) ⊎ (s < n) → (s < n → t < m → f s t ≡ true → R s t) → R s t
-    go (inl q) r = rw q (listed-all (R n) m (f n) (map-within R n (listed m (f n)) (both .0)) t k (rw q at e))
+    go (inl q) r = rw q (listed-all (R n) m (f n) (within-row R n (listed m (f n)) (both .0)) t k (rw q at e))
     go (inr l) r = r l k e
 
--- sharing a block is an equivalence
+-- every edge shares a block with itself
 pub block-refl : (g : Network) (s : ℕ) → block g s s ≡ true
 unfolding block
 block-refl g s = same-refl (links g) s
 
+-- to share a block is symmetric
 pub block-sym : (g : Network) (s t : ℕ) → block g s t ≡ true → block g t s ≡ true
 unfolding block
 block-sym g s t e = same-sym (links g) s t e
 
+-- and transitive
 pub block-trans : (g : Network) (s t u : ℕ) → block g s t ≡ true → block g t u ≡ true → block g s u ≡ true
 unfolding block
 block-trans g s t u e f = same-trans (links g) s t u e f
 
+-- the order of the two edges does not matter
 pub block-swap : (g : Network) (s t : ℕ) → block g s t ≡ block g t s
 block-swap g s t = bool-ext (block g s t) (block g t s) (block-sym g s t) (block-sym g t s)
 

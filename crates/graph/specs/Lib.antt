@@ -7,4 +7,5 @@ pub mod Cycle
 pub mod Block
 pub mod BlockPath
 pub mod Between
+pub mod Travel
 pub mod Examples

@@ -1,1 +1,9 @@
 pub mod Room
+pub mod Bytes
+pub mod Decode
+pub mod DecodeCount
+pub mod Tabulate
+pub mod SizedBook
+pub mod Notices
+pub mod NoticeOrder
+pub mod NameList

@@ -1,1 +1,12 @@
--- laws of the names of groups
+-- laws
+pub mod Count
+pub mod Listed
+pub mod Equivalent
+pub mod Best
+pub mod Rename
+pub mod Naming
+pub mod Merge
+pub mod Single
+pub mod Doubling
+pub mod Log
+pub mod Bound

@@ -1,0 +1,115 @@
+-- Laws of mates, the edges that are lost together, and of components.
+use mathlib.Core.Bool.{true, false, _&&_}
+use mathlib.Core.Logic.{_⊎_, inl, inr, Equivalence}
+use mathlib.Core.Path.{_≡_, refl, sym, subst, subst₂}
+use Prim.Native.Nat.{ℕ, _<_}
+use lib.Dec.{eqb}
+use Rattle.graph.specs.Network.{Network, Edge, Loss, MateRule, edge, edgeCount, parallel, mates, nothing, lossOf, joined}
+use Rattle.graph.specs.Groups.{component}
+use Rattle.graph.proofs.Truth.{bool-ext, and-left, and-right, or-left, or-right, or-cases, eqb-eq, eqb-same}
+use Rattle.graph.proofs.Joined.{joined-refl, joined-sym, joined-trans, joined-swap, joined-edge, joined-less-lost}
+
+-- whatever holds of a parallel edge's two ends, in whichever order, holds of the edge's own
+pub parallel-carries : (P : ℕ → ℕ → Type 0) → ((x y : ℕ) → P x y → P y x) → (e f : Edge) → parallel e f ≡ true
+    → P (f .left) (f .right) → P (e .left) (e .right)
+unfolding parallel
+parallel-carries P swap e f h p =
+    go (or-cases (eqb (e .left) (f .left) && eqb (e .right) (f .right)) (eqb (e .left) (f .right) && eqb (e .right) (f .left)) h)
+  where
+    two : (x y : ℕ) → (eqb (e .left) x && eqb (e .right) y) ≡ true → P x y → P (e .left) (e .right)
+    two x y k = subst₂ P
+        (sym (eqb-eq (e .left) x (and-left (eqb (e .left) x) (eqb (e .right) y) k)))
+        (sym (eqb-eq (e .right) y (and-right (eqb (e .left) x) (eqb (e .right) y) k)))
+
+    go : ((eqb (e .left) (f .left) && eqb (e .right) (f .right)) ≡ true) ⊎ ((eqb (e .left) (f .right) && eqb (e .right) (f .left)) ≡ true)
+        → P (e .left) (e .right)
+    go (inl k) = two (f .left) (f .right) k p
+    go (inr k) = two (f .right) (f .left) k (swap (f .left) (f .right) p)
+
+-- every edge is its own mate
+pub mates-refl : (g : Network) (s : ℕ) → mates g s s ≡ true
+unfolding mates
+mates-refl g s = or-left (eqb-same s) (g .rule (edge g s) (edge g s))
+
+module _ (g : Network) (r : MateRule (g .rule)) where
+  -- a mate is the edge itself or one that the rule gives
+  mates-cases : (P : ℕ → Type 0) (s t : ℕ) → mates g s t ≡ true → P s → (g .rule (edge g s) (edge g t) ≡ true → P t) → P t
+  unfolding mates
+  mates-cases P s t h same other = go (or-cases (eqb s t) (g .rule (edge g s) (edge g t)) h)
+    where
+      go : (eqb s t ≡ true) ⊎ (g .rule (edge g s) (edge g t) ≡ true) → P t
+      go (inl e) = subst P (eqb-eq s t e) same
+      go (inr e) = other e
+
+  rule-mates : (s t : ℕ) → g .rule (edge g s) (edge g t) ≡ true → mates g s t ≡ true
+  unfolding mates
+  rule-mates s t e = or-right (eqb s t) e
+
+  -- being mates is symmetric
+  pub mates-sym : (s t : ℕ) → mates g s t ≡ true → mates g t s ≡ true
+  mates-sym s t h = mates-cases (λ u. mates g u s ≡ true) s t h (mates-refl g s)
+      (λ e. rule-mates t s (r .symmetric (edge g s) (edge g t) e))
+
+  -- being mates is transitive
+  pub mates-trans : (s t u : ℕ) → mates g s t ≡ true → mates g t u ≡ true → mates g s u ≡ true
+  mates-trans s t u h k = mates-cases (λ v. mates g s v ≡ true) t u k h (λ e.
+      mates-cases (λ v. g .rule (edge g v) (edge g u) ≡ true → mates g s u ≡ true) s t h
+      (λ f. rule-mates s u f)
+      (λ d f. rule-mates s u (r .transitive (edge g s) (edge g t) (edge g u) d f)) e)
+
+  -- being mates is an equivalence
+  pub mates-equivalence : Equivalence (λ s t. mates g s t ≡ true)
+  mates-equivalence = record { refl = mates-refl g; symm = mates-sym; trans = mates-trans }
+
+  -- being mates is the same from either edge
+  pub mates-swap : (s t : ℕ) → mates g s t ≡ mates g t s
+  mates-swap s t = bool-ext (mates g s t) (mates g t s) (mates-sym s t) (mates-sym t s)
+
+  -- the loss of an edge and that of its mate are one
+  pub loss-of-mates : (s t : ℕ) → mates g s t ≡ true → (u : ℕ) → lossOf g s u ≡ lossOf g t u
+  unfolding lossOf
+  loss-of-mates s t h u =
+      bool-ext (mates g s u) (mates g t u) (mates-trans t s u (mates-sym s t h)) (mates-trans s t u h)
+
+  -- whatever holds of a mate's two ends, in whichever order, holds of the edge's own
+  pub mates-carry : (P : ℕ → ℕ → Type 0) → ((x y : ℕ) → P x y → P y x) → (s t : ℕ) → mates g s t ≡ true
+      → P (edge g t .left) (edge g t .right) → P (edge g s .left) (edge g s .right)
+  mates-carry P swap s t h =
+      mates-cases (λ u. P (edge g u .left) (edge g u .right) → P (edge g s .left) (edge g s .right)) s t h (λ p. p)
+      (λ e. parallel-carries P swap (edge g s) (edge g t) (r .only-parallel (edge g s) (edge g t) e))
+
+  -- a mate that is not lost joins the ends of the edge
+  pub joined-by-mate : (lost : Loss) (s t : ℕ) → t < edgeCount g → lost t ≡ false → mates g s t ≡ true
+      → joined g lost (edge g s .left) (edge g s .right) ≡ true
+  joined-by-mate lost s t h k e =
+      mates-carry (λ x y. joined g lost x y ≡ true) (joined-sym g lost) s t e (joined-edge g lost t h k)
+
+-- a vertex shares its own component
+pub component-refl : (g : Network) (x : ℕ) → component g x x ≡ true
+unfolding component
+component-refl g x = joined-refl g nothing x
+
+-- sharing a component is symmetric
+pub component-sym : (g : Network) (x y : ℕ) → component g x y ≡ true → component g y x ≡ true
+unfolding component
+component-sym g x y e = joined-sym g nothing x y e
+
+-- sharing a component is transitive
+pub component-trans : (g : Network) (x y z : ℕ) → component g x y ≡ true → component g y z ≡ true → component g x z ≡ true
+unfolding component
+component-trans g x y z e f = joined-trans g nothing x y z e f
+
+-- sharing a component is the same from either vertex
+pub component-swap : (g : Network) (x y : ℕ) → component g x y ≡ component g y x
+unfolding component
+component-swap g x y = joined-swap g nothing x y
+
+-- the ends of an edge share a component
+pub component-edge : (g : Network) (s : ℕ) → s < edgeCount g → component g (edge g s .left) (edge g s .right) ≡ true
+unfolding component nothing
+component-edge g s h = joined-edge g nothing s h refl
+
+-- vertices that are joined, whatever is lost, share a component
+pub joined-component : (g : Network) (lost : Loss) (x y : ℕ) → joined g lost x y ≡ true → component g x y ≡ true
+unfolding component nothing
+joined-component g lost x y e = joined-less-lost g lost nothing (λ s h k. refl) x y e

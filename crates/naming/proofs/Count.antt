@@ -1,0 +1,115 @@
+-- Laws of counting the numbers below n that pass a test, and of sums over them.
+use mathlib.Core.Bool.{Bool, true, false, cond}
+use mathlib.Core.Logic.{_⊎_, inl, inr}
+use mathlib.Core.Path.{_≡_, refl, _∙_}
+use Prim.Native.Nat.{ℕ, zero, suc, _+_, _*_, _≤_, _<_}
+use native.Mathlib.Nat.{not-suc-le-zero, le-refl}
+use native.Mathlib.Omega.{arith}
+use Rattle.graph.specs.Below.{count}
+use Rattle.graph.proofs.Truth.{not-both}
+use Rattle.graph.proofs.Below.{below-or-last}
+use Rattle.naming.specs.Total.{total}
+
+-- at most n numbers below n pass
+pub count-at-most : (n : ℕ) (p : ℕ → Bool) → count n p ≤ n
+unfolding count
+count-at-most zero p = omega arith
+count-at-most (suc n) p = step (p n) (count-at-most n p)
+  where
+    step : (a : Bool) {c : ℕ} → c ≤ n → cond a (suc c) c ≤ suc n
+    step true h = omega arith
+    step false h = omega arith
+
+-- if some number below n passes, the count is at least 1
+pub count-positive : (n : ℕ) (p : ℕ → Bool) (i : ℕ) → i < n → p i ≡ true → 1 ≤ count n p
+unfolding count
+count-positive zero p i h e = absurd (not-suc-le-zero h)
+count-positive (suc n) p i h e = go (count-positive n p i) (below-or-last n i h)
+  where
+    more : (a : Bool) {c : ℕ} → 1 ≤ c → 1 ≤ cond a (suc c) c
+    more true l = omega arith
+    more false l = l
+
+    go : (i < n → p i ≡ true → 1 ≤ count n p) → (i < n) ⊎ (i ≡ n) → 1 ≤ cond (p n) (suc (count n p)) (count n p)
+    go f (inl l) = more (p n) (f l e)
+    go f (inr d) = rw (rw d at e) (omega arith)
+
+-- a test that passes wherever another does counts at least as many
+pub count-monotone : (n : ℕ) (p q : ℕ → Bool) → ((i : ℕ) → i < n → p i ≡ true → q i ≡ true) → count n p ≤ count n q
+unfolding count
+count-monotone zero p q f = omega arith
+count-monotone (suc n) p q f = step (p n) (q n) (f n (omega arith)) (count-monotone n p q (λ i h. f i (omega arith)))
+  where
+    step : (a b : Bool) → (a ≡ true → b ≡ true) → {c d : ℕ} → c ≤ d → cond a (suc c) c ≤ cond b (suc d) d
+    step true true g h = omega arith
+    step true false g h = absurd (not-both (g refl) refl)
+    step false true g h = omega arith
+    step false false g h = h
+
+-- two tests that never both pass, each passing only where a third does, count together at most as many as the third
+pub count-disjoint : (n : ℕ) (p q r : ℕ → Bool)
+    → ((i : ℕ) → p i ≡ true → r i ≡ true)
+    → ((i : ℕ) → q i ≡ true → r i ≡ true)
+    → ((i : ℕ) → p i ≡ true → q i ≡ true → ⊥)
+    → count n p + count n q ≤ count n r
+unfolding count
+count-disjoint zero p q r f g apart = omega arith
+count-disjoint (suc n) p q r f g apart =
+    step (p n) (q n) (r n) (f n) (g n) (apart n) (count n p) (count n q) (count n r) (count-disjoint n p q r f g apart)
+  where
+    step : (a b t : Bool)
+        → (a ≡ true → t ≡ true)
+        → (b ≡ true → t ≡ true)
+        → (a ≡ true → b ≡ true → ⊥)
+        → (c d e : ℕ)
+        → c + d ≤ e
+        → cond a (suc c) c + cond b (suc d) d ≤ cond t (suc e) e
+    step true true t u v w c d e h = absurd (w refl refl)
+    step true false true u v w c d e h = omega arith
+    step true false false u v w c d e h = absurd (not-both (u refl) refl)
+    step false true true u v w c d e h = omega arith
+    step false true false u v w c d e h = absurd (not-both (v refl) refl)
+    step false false true u v w c d e h = omega arith
+    step false false false u v w c d e h = h
+
+le-zero : (k : ℕ) → k ≤ 0 → k ≡ 0
+le-zero k h = omega arith
+
+-- more numbers, no smaller count
+pub count-more : (k n : ℕ) (p : ℕ → Bool) → k ≤ n → count k p ≤ count n p
+unfolding count
+count-more k zero p h = rw (le-zero k h) (omega arith)
+count-more k (suc n) p h = go (count-more k n p) (below-or-last (suc n) k (omega arith))
+  where
+    step : (a : Bool) {b c : ℕ} → b ≤ c → b ≤ cond a (suc c) c
+    step true l = omega arith
+    step false l = l
+
+    go : (k ≤ n → count k p ≤ count n p) → (k < suc n) ⊎ (k ≡ suc n) → count k p ≤ cond (p n) (suc (count n p)) (count n p)
+    go f (inl l) = step (p n) (f (omega arith))
+    go f (inr d) = rw d (le-refl _)
+
+count-zero : (p : ℕ → Bool) → count 0 p ≡ 0
+unfolding count
+count-zero p = refl
+
+-- a number that does not pass adds nothing
+pub count-last-out : (n : ℕ) (p : ℕ → Bool) → p n ≡ false → count (suc n) p ≡ count n p
+unfolding count
+count-last-out n p e = rw e
+
+-- a number that passes adds 1
+pub count-last-in : (n : ℕ) (p : ℕ → Bool) → p n ≡ true → count (suc n) p ≡ suc (count n p)
+unfolding count
+count-last-in n p e = rw e
+
+-- if no number below n passes, the count is 0
+pub count-none : (n : ℕ) (p : ℕ → Bool) → ((i : ℕ) → i < n → p i ≡ false) → count n p ≡ 0
+count-none zero p f = count-zero p
+count-none (suc n) p f = count-last-out n p (f n (omega arith)) ∙ count-none n p (λ i h. f i (omega arith))
+
+-- a sum of n numbers, each at most b, is at most n times b
+pub total-at-most : (n b : ℕ) (f : ℕ → ℕ) → ((i : ℕ) → i < n → f i ≤ b) → total n f ≤ n * b
+unfolding total
+total-at-most zero b f h = omega arith
+total-at-most (suc n) b f h = omega (arith, total-at-most n b f (λ i l. h i (omega arith)), h n (omega arith))
