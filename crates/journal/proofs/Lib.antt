@@ -1,4 +1,14 @@
+pub mod Cases
 pub mod Room
+pub mod Reading
+pub mod Steps
+pub mod Place
+pub mod Table
+pub mod Causes
+pub mod Start
+pub mod Returned
+pub mod Kept
+pub mod Report
 pub mod Bytes
 pub mod Decode
 pub mod DecodeCount

@@ -1,34 +1,18 @@
 -- The run without room, and the run with room: which answers fit, and where the run is cut.
-use mathlib.Core.Bool.{true, false}
 use mathlib.Core.List.{List, [], _∷_, _++_, append-assoc}
 use mathlib.Core.Logic.{_⊎_, inl, inr}
 use mathlib.Core.Option.{Option, some}
 use mathlib.Core.Path.{_≡_, refl, sym, _∙_, ap}
 use Prim.Native.Nat.{ℕ, zero, suc, _+_, _-_, _≤_, _<_, suc-le-suc}
 use native.Mathlib.Omega.{arith}
-use lib.Dec.{leb, nleb→lt}
 use lib.ListN.{length, take, drop, length-append, take-append-drop}
 use lib.Seq.{take-length, length-take-le}
-use Rattle.graph.proofs.Truth.{true-or-false, leb-le, le-leb, not-of-false, false-of-not, to-T}
+use Rattle.graph.proofs.Truth.{le-leb}
 use Rattle.naming.specs.Book.{Book}
 use Rattle.journal.specs.Answer.{answerBytes}
 use Rattle.journal.specs.Refusal.{Refusal, noRoom, Capacities}
 use Rattle.journal.specs.Run.{Accepted, Run, stop, andThen, runFrom, fitting, bytesOfAnswers}
-
--- one number is at most the other, or above it
-pub le-or-gt : (m n : ℕ) → (m ≤ n) ⊎ (n < m)
-le-or-gt m n = go (true-or-false (leb m n))
-  where
-    go : (leb m n ≡ true) ⊎ (leb m n ≡ false) → (m ≤ n) ⊎ (n < m)
-    go (inl e) = inl (leb-le m n e)
-    go (inr e) = inr (nleb→lt m n (to-T (not-of-false e)))
-
--- a number above the other is not at most it
-pub gt-leb : (m n : ℕ) → n < m → leb m n ≡ false
-gt-leb m n h = false-of-not (leb m n) (λ e. go (leb-le m n e))
-  where
-    go : m ≤ n → ⊥
-    go l = omega arith
+use Rattle.journal.proofs.Cases.{le-or-gt, gt-leb}
 
 -- to run with operands to skip is to run from behind them
 pub run-skips-operands : (caps : Capacities) (b : Book) (k : ℕ) (bytes : List ℕ) → runFrom caps b k bytes ≡ runFrom caps b 0 (drop k bytes)
@@ -151,10 +135,12 @@ pub record Prefix {ℓ} {A : Type ℓ} (l m : List A) : Type ℓ where
   pub shorter : length l ≤ length m
   pub same : l ≡ take (length l) m
 
+-- the first k of a list begin it
 pub take-is-prefix {ℓ} : {A : Type ℓ} (k : ℕ) (l : List A) → k ≤ length l → Prefix (take k l) l
 take-is-prefix k l h =
     record { shorter = rw (length-take-le k l h) h; same = ap (λ n. take n l) (sym (length-take-le k l h)) }
 
+-- and still do behind one more element
 pub cons-prefix {ℓ} : {A : Type ℓ} (a : A) {l m : List A} → Prefix l m → Prefix (a ∷ l) (a ∷ m)
 cons-prefix {A = A} a p = record { shorter = suc-le-suc (p .shorter); same = ap {B = List A} (λ r. a ∷ r) (p .same) }
 
