@@ -12,22 +12,10 @@ use lib.Seq.{getD-at}
 use Rattle.graph.proofs.Truth.{true-or-false, not-both, bool-ext, eqb-eq, eq-eqb}
 use Rattle.graph.proofs.Below.{below-or-last}
 use Rattle.naming.specs.Rename.{Grouping, size, nameOf, candidate, holdsSeveral, bestName, rename}
+pub use Rattle.naming.specs.Naming.{Naming}
 use Rattle.naming.proofs.Equivalent.{Equivalent, Finer, size-same}
 use Rattle.naming.proofs.Best.{BestOf, at-most-refl, best-same, best-unique}
 use Rattle.naming.proofs.Rename.{AgreeBelow, InGroup, length-rename, nameOf-rename, best-name-is, holds-one}
-
--- The list names the groups of the items below n.
-pub record Naming (n : ℕ) (groups : Grouping) (names : List ℕ) : Type 0 where
-  -- each item has a name
-  pub sized : length names ≡ n
-  -- items of one group have one name
-  pub one-name : (x y : ℕ) → x < n → y < n → groups x y ≡ true → nameOf names x ≡ nameOf names y
-  -- items of one name are in one group
-  pub one-group : (x y : ℕ) → x < n → y < n → nameOf names x ≡ nameOf names y → groups x y ≡ true
-  -- a name is the number of an item
-  pub name-below : (x : ℕ) → x < n → nameOf names x < n
-  -- and that item is in the group
-  pub name-within : (x : ℕ) → x < n → groups x (nameOf names x) ≡ true
 
 -- no items, no names
 pub naming-none : (groups : Grouping) → Naming 0 groups []

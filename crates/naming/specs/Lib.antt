@@ -1,4 +1,5 @@
 pub mod Rename
+pub mod Naming
 pub mod Book
 pub mod Log
 pub mod Total
