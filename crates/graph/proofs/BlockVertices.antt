@@ -12,7 +12,7 @@ use Rattle.graph.proofs.Truth.{true-or-false, not-both, false-of-not, b
 use Rattle.graph.proofs.Below.{any-below, some-below, Below}
 use Rattle.graph.proofs.Joined.{joined-refl, joined-sym, joined-trans}
 use Rattle.graph.proofs.Block.{block-refl, block-sym, block-trans, link-block, block-least}
-use Rattle.graph.proofs.Ends.{touches-left, other-end-touches, other-end-differs, ends-joined, ends-joined-without}
+use Rattle.graph.proofs.Ends.{touches-left, touched-known, other-end-touches, other-end-differs, ends-joined, ends-joined-without}
 use Rattle.graph.proofs.Ends.{LinkedAt, at-link, link-at}
 
 -- an edge of the block of s that touches x
@@ -35,6 +35,10 @@ on-block g s x e = go (some-below (edgeCount g) (λ t. block g s t && touches (e
           within = and-left (block g s (b .at)) (touches (edge g (b .at)) x) (b .passes);
           at = and-right (block g s (b .at)) (touches (edge g (b .at)) x) (b .passes);
         }
+
+-- a vertex on a block is a vertex of the network
+pub on-block-known : (g : Network) → Proper g → (s x : ℕ) → onBlock g s x ≡ true → x < g .vertices
+on-block-known g p s x e = let o = on-block g s x e in touched-known g p (o .by) x (o .known) (o .at)
 
 -- an end of an edge is on the block of every edge that shares its block
 pub block-on : (g : Network) (s t x : ℕ) → t < edgeCount g → block g s t ≡ true → touches (edge g t) x ≡ true

@@ -12,7 +12,7 @@ use Rattle.graph.specs.Between.{isCutBetween, cutBefore, cutsBetween}
 use Rattle.graph.proofs.Truth.{true-or-false, false-of-not, not-both, bool-ext, false-of-not-true, and-left, and-right, and-both}
 use Rattle.graph.proofs.Truth.{or-cases, or-neither, eqb-eq, eqb-ne, ne-eqb, ltb-lt, lt-ltb, ltb-ge}
 use Rattle.graph.proofs.Joined.{joined-refl, joined-sym, joined-trans, joined-edge}
-use Rattle.graph.proofs.Ends.{without-alone}
+use Rattle.graph.proofs.Ends.{lost-vertex-alone}
 use Rattle.graph.proofs.VertexMore.{not-cut-alone}
 use Rattle.graph.proofs.Losses.{joined-stays, joined-or-near}
 use Rattle.graph.proofs.Sort.{Strict, ordered-unique, is-in-sorted, distinct-sorted, sorted-none}
@@ -98,7 +98,7 @@ module _ (g : Network) where
       where
         alone : (c x : ℕ) → eqb c x ≡ false → joined g (without g c) x c ≡ false
         alone c x n = false-of-not (joined g (without g c) x c) (λ k.
-            eqb-ne c x n (without-alone g c x (joined-sym g (without g c) x c k)))
+            eqb-ne c x n (lost-vertex-alone g c x (joined-sym g (without g c) x c k)))
 
     -- exactly the cut vertices between a and b, of those in the network, are in their list
     pub cuts-between-exactly : (c : ℕ) → isIn c (cutsBetween g a b) ≡ (ltb c (g .vertices) && isCutBetween g a b c)

@@ -1,19 +1,37 @@
 -- Laws of an edge's two ends: which vertices it touches, and how it joins them.
-use mathlib.Core.Bool.{Bool, true, false, cond, _&&_}
+use mathlib.Core.Bool.{Bool, true, false, cond, _&&_, _||_}
 use mathlib.Core.Logic.{_⊎_, inl, inr, Equivalence}
 use mathlib.Core.Path.{_≡_, refl, sym, _∙_, subst}
 use Prim.Native.Nat.{ℕ, _<_}
 use lib.Dec.{eqb}
-use Rattle.graph.specs.Network.{Network, Edge, Loss, edge, edgeCount, touches, otherEnd, without, joined}
+use Rattle.graph.specs.Network.{Network, Edge, Loss, edge, edgeCount, touches, otherEnd, nothing, without, joined, Proper}
+use Rattle.graph.specs.Groups.{component}
 use Rattle.graph.specs.Block.{linkAt, link}
-use Rattle.graph.proofs.Truth.{true-or-false, or-cases, or-left, or-right, or-neither, or-neither-left, or-neither-right, and-left, and-right, and-both, eqb-eq, eqb-same, eqb-swap}
-use Rattle.graph.proofs.Joined.{joined-refl, joined-sym, joined-edge, joined-least}
+use Rattle.graph.proofs.Truth.{true-or-false, bool-ext, or-cases, or-left, or-right, or-neither, or-neither-left, or-neither-right, and-left, and-right, and-both, eqb-eq, eqb-same, eqb-swap}
+use Rattle.graph.proofs.Joined.{joined-refl, joined-sym, joined-trans, joined-swap, joined-edge, joined-least, joined-less-lost}
 
--- an edge touches its two ends
+-- joined vertices are joined to the same vertices
+pub joined-from : (g : Network) (lost : Loss) (x y z : ℕ) → joined g lost x y ≡ true → joined g lost x z ≡ joined g lost y z
+joined-from g lost x y z e =
+    bool-ext (joined g lost x z) (joined g lost y z)
+    (joined-trans g lost y x z (joined-sym g lost x y e))
+    (joined-trans g lost x y z e)
+
+-- and to it the same vertices are joined
+pub joined-to : (g : Network) (lost : Loss) (x y z : ℕ) → joined g lost y z ≡ true → joined g lost x y ≡ joined g lost x z
+joined-to g lost x y z e = joined-swap g lost x y ∙ joined-from g lost y z x e ∙ joined-swap g lost z x
+
+-- vertices that are joined in spite of a loss share a component
+pub joined-component : (g : Network) (lost : Loss) (x y : ℕ) → joined g lost x y ≡ true → component g x y ≡ true
+unfolding component nothing
+joined-component g lost = joined-less-lost g lost nothing (λ s h k. refl)
+
+-- an edge touches its left end
 pub touches-left : (e : Edge) → touches e (e .left) ≡ true
 unfolding touches
 touches-left e = or-left (eqb-same (e .left)) (eqb (e .right) (e .left))
 
+-- and its right end
 pub touches-right : (e : Edge) → touches e (e .right) ≡ true
 unfolding touches
 touches-right e = or-right (eqb (e .left) (e .right)) (eqb-same (e .right))
@@ -26,6 +44,14 @@ touches-ends e c t = go (or-cases (eqb (e .left) c) (eqb (e .right) c) t)
     go : (eqb (e .left) c ≡ true) ⊎ (eqb (e .right) c ≡ true) → (e .left ≡ c) ⊎ (e .right ≡ c)
     go (inl h) = inl (eqb-eq (e .left) c h)
     go (inr h) = inr (eqb-eq (e .right) c h)
+
+-- a vertex that an edge touches is a vertex of the network
+pub touched-known : (g : Network) → Proper g → (s x : ℕ) → s < edgeCount g → touches (edge g s) x ≡ true → x < g .vertices
+touched-known g r s x h t = go (touches-ends (edge g s) x t)
+  where
+    go : (edge g s .left ≡ x) ⊎ (edge g s .right ≡ x) → x < g .vertices
+    go (inl q) = rw q at (r .left-known s h)
+    go (inr q) = rw q at (r .right-known s h)
 
 -- the other end is an end
 pub other-end-touches : (e : Edge) (c : ℕ) → touches e (otherEnd e c) ≡ true
@@ -45,6 +71,17 @@ other-end-differs e c d = go (true-or-false (eqb (e .left) c))
     go (inl h) = rw (h, ← eqb-eq (e .left) c h, eqb-swap (e .right) (e .left)) d
     go (inr h) = rw h h
 
+-- at one of its ends, an edge leads from that end to the other
+pub other-end-ways : (e : Edge) (c : ℕ) → touches e c ≡ true
+    → ((e .left ≡ c) × (e .right ≡ otherEnd e c)) ⊎ ((e .right ≡ c) × (e .left ≡ otherEnd e c))
+unfolding otherEnd touches
+other-end-ways e c t = go (eqb (e .left) c) refl t
+  where
+    go : (b : Bool) → eqb (e .left) c ≡ b → (b || eqb (e .right) c) ≡ true
+        → ((e .left ≡ c) × (e .right ≡ cond b (e .right) (e .left))) ⊎ ((e .right ≡ c) × (e .left ≡ cond b (e .right) (e .left)))
+    go true k t = inl (eqb-eq (e .left) c k, refl)
+    go false k t = inr (eqb-eq (e .right) c t, refl)
+
 -- an edge that is not lost joins any two of the vertices that it touches
 pub ends-joined : (g : Network) (lost : Loss) (s x y : ℕ) → s < edgeCount g → lost s ≡ false
     → touches (edge g s) x ≡ true → touches (edge g s) y ≡ true → joined g lost x y ≡ true
@@ -59,6 +96,12 @@ ends-joined g lost s x y h k t u = go (touches-ends (edge g s) x t) (touches-end
     go (inl p) (inr q) = rw (← p, ← q) over
     go (inr p) (inl q) = rw (← p, ← q) (joined-sym g lost (edge g s .left) (edge g s .right) over)
     go (inr p) (inr q) = rw (← p, ← q) (joined-refl g lost (edge g s .right))
+
+-- the vertices that an edge touches share a component
+pub ends-component : (g : Network) (s x y : ℕ) → s < edgeCount g
+    → touches (edge g s) x ≡ true → touches (edge g s) y ≡ true → component g x y ≡ true
+unfolding component nothing
+ends-component g s x y h = ends-joined g nothing s x y h refl
 
 -- without a third vertex c, an edge still joins any two of the vertices that it touches
 pub ends-joined-without : (g : Network) (c s x y : ℕ) → s < edgeCount g → eqb c x ≡ false → eqb c y ≡ false
@@ -77,9 +120,9 @@ ends-joined-without g c s x y h d f t u = go (touches-ends (edge g s) x t) (touc
     go (inr p) (inr q) = rw (← p, ← q) (joined-refl g (without g c) (edge g s .right))
 
 -- without vertex c, vertex c is joined to itself alone
-pub without-alone : (g : Network) (c y : ℕ) → joined g (without g c) c y ≡ true → c ≡ y
+pub lost-vertex-alone : (g : Network) (c y : ℕ) → joined g (without g c) c y ≡ true → c ≡ y
 unfolding without touches
-without-alone g c y e = go (joined-least (λ x y. eqb c x ≡ eqb c y) is-equivalence g (without g c) over c y e)
+lost-vertex-alone g c y e = go (joined-least (λ x y. eqb c x ≡ eqb c y) is-equivalence g (without g c) over c y e)
   where
     is-equivalence : Equivalence (λ x y. eqb c x ≡ eqb c y)
     is-equivalence = record { refl = λ x. refl; symm = λ x y p. sym p; trans = λ x y z p q. p ∙ q }
@@ -101,6 +144,7 @@ pub record LinkedAt (g : Network) (c s t : ℕ) : Type 0 where
   pub second : touches (edge g t) c ≡ true
   pub others : joined g (without g c) (otherEnd (edge g s) c) (otherEnd (edge g t) c) ≡ true
 
+-- what the test for a link at c says
 pub linked-at : (g : Network) (c s t : ℕ) → linkAt g c s t ≡ true → LinkedAt g c s t
 unfolding linkAt
 linked-at g c s t e =
@@ -112,6 +156,11 @@ linked-at g c s t e =
       second = and-right S T (and-left (S && T) J e);
       others = and-right (S && T) J e;
     }
+
+-- the order of the two edges does not matter
+pub linked-swap : (g : Network) (c s t : ℕ) → LinkedAt g c s t → LinkedAt g c t s
+linked-swap g c s t l =
+    record { first = l .second; second = l .first; others = joined-sym g _ _ _ (l .others) }
 
 -- such edges are linked
 pub at-link : (g : Network) (c s t : ℕ) → LinkedAt g c s t → link g s t ≡ true

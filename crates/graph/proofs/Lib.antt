@@ -29,3 +29,9 @@ pub mod CommonCycle
 pub mod LoneEdge
 pub mod BlockVertices
 pub mod SharedBlock
+pub mod BlockPath
+pub mod PathCuts
+pub mod EdgeMore
+pub mod EdgeMoreBlocks
+pub mod MateLoss
+pub mod EdgeMoreBridges

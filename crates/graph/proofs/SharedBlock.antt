@@ -43,13 +43,14 @@ at-both g a b s =
     (any-below-same (edgeCount g) (λ t. touches (edge g t) b && block g s t) (λ t. block g s t && touches (edge g t) b)
     (λ t h. and-comm (touches (edge g t) b) (block g s t)))
 
--- the shared block that is found is that of an edge at the first vertex, with both vertices on it
+-- an edge at the first vertex, with both vertices on its block
 pub record Shared (g : Network) (a b s : ℕ) : Type 0 where
   pub known : s < edgeCount g
   pub at-first : touches (edge g s) a ≡ true
   pub on-first : onBlock g s a ≡ true
   pub on-second : onBlock g s b ≡ true
 
+-- what a shared block that is found is
 pub shared-block-some : (g : Network) (a b s : ℕ) → sharedBlock g a b ≡ some s → Shared g a b s
 unfolding sharedBlock
 shared-block-some g a b s e = go (subst (Least (edgeCount g) (atBoth g a b)) e (least-below (edgeCount g) (atBoth g a b)))

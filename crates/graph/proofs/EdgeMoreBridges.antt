@@ -1,0 +1,276 @@
+-- One edge more: bridges and bridge-blocks, where it joins two components, where it has a mate, and which bridges are left where
+-- it has none.
+use mathlib.Core.Bool.{Bool, true, false, not, _&&_}
+use mathlib.Core.Logic.{_⊎_, inl, inr}
+use mathlib.Core.Path.{_≡_, refl, sym, _∙_, ap, ap₂, subst, fun-ext}
+use Prim.Native.Nat.{ℕ, _<_}
+use Rattle.graph.specs.Below.{allBelow}
+use Rattle.graph.specs.Network.{Network, Edge, Loss, edge, edgeCount, addEdge, MateRule, mates, nothing, lossOf, joined}
+use Rattle.graph.specs.Groups.{component, bridge, bridgeBlock}
+use Rattle.graph.proofs.Truth.{true-or-false, not-both, false-of-not, bool-ext, not-of-true, not-of-false, and-left, and-right, and-both}
+use Rattle.graph.proofs.Below.{all-below, each-below}
+use Rattle.graph.proofs.Labels.{merged, Merged, before, across, back, merged-ways, merged-true, merged-before, merged-least}
+use Rattle.graph.proofs.Joined.{joined-sym, joined-trans, joined-equivalence, joined-swap, joined-edge, joined-same-loss, edge-old, edge-new, old-or-new, joined-old, joined-new-lost, joined-new-kept}
+use Rattle.graph.proofs.Ends.{joined-component}
+use Rattle.graph.proofs.EdgeMore.{component-edge-within, old-below, new-below}
+use Rattle.graph.proofs.MateLoss.{mates-refl, mates-sym, mates-trans, mates-alike, mates-least, loss-merged, mates-old, joined-loss-old}
+
+-- two vertices share a bridge-block exactly if they share a component and are joined whatever single edge's mates are lost
+pub record InBridgeBlock (g : Network) (x y : ℕ) : Type 0 where
+  pub share : component g x y ≡ true
+  pub outlive : (s : ℕ) → s < edgeCount g → joined g (lossOf g s) x y ≡ true
+
+-- what it is to share a bridge-block
+pub bridge-block-parts : (g : Network) (x y : ℕ) → bridgeBlock g x y ≡ true → InBridgeBlock g x y
+unfolding bridgeBlock
+bridge-block-parts g x y b =
+    let A = allBelow (edgeCount g) (λ s. joined g (lossOf g s) x y) in
+    record {
+      share = and-left (component g x y) A b;
+      outlive = each-below (edgeCount g) (λ s. joined g (lossOf g s) x y) (and-right (component g x y) A b);
+    }
+
+-- and that this is enough
+pub parts-bridge-block : (g : Network) (x y : ℕ) → InBridgeBlock g x y → bridgeBlock g x y ≡ true
+unfolding bridgeBlock
+parts-bridge-block g x y b =
+    and-both (b .share) (all-below (edgeCount g) (λ s. joined g (lossOf g s) x y) (b .outlive))
+
+-- a rule stays a rule with one edge more
+rule-more : (g : Network) (e : Edge) → MateRule (g .rule) → MateRule (addEdge g e .rule)
+unfolding addEdge
+rule-more g e rule = rule
+
+module _ (g : Network) (e : Edge) where
+  bridge-old : (s : ℕ) → s < edgeCount g
+      → bridge (addEdge g e) s ≡ not (joined (addEdge g e) (lossOf (addEdge g e) s) (edge g s .left) (edge g s .right))
+  unfolding bridge
+  bridge-old s h = ap (λ f. not (joined (addEdge g e) (lossOf (addEdge g e) s) (f .left) (f .right))) (edge-old g e s h)
+
+  bridge-new : bridge (addEdge g e) (edgeCount g)
+      ≡ not (joined (addEdge g e) (lossOf (addEdge g e) (edgeCount g)) (e .left) (e .right))
+  unfolding bridge
+  bridge-new = ap (λ f. not (joined (addEdge g e) (lossOf (addEdge g e) (edgeCount g)) (f .left) (f .right))) (edge-new g e)
+
+  -- with the mates of an old edge lost, a new edge that is no mate joins its ends
+  pub loss-kept : (s x y : ℕ) → s < edgeCount g → mates (addEdge g e) s (edgeCount g) ≡ false
+      → joined (addEdge g e) (lossOf (addEdge g e) s) x y ≡ merged (joined g (lossOf g s)) (e .left) (e .right) x y
+  unfolding lossOf
+  loss-kept s x y h n =
+      joined-new-kept g e (lossOf (addEdge g e) s) n x y
+      ∙ ap (λ q. merged q (e .left) (e .right) x y) (fun-ext λ x. fun-ext λ y. joined-loss-old g e s x y h)
+
+  -- and a new edge that is a mate joins nothing
+  pub loss-lost : (s x y : ℕ) → s < edgeCount g → mates (addEdge g e) s (edgeCount g) ≡ true
+      → joined (addEdge g e) (lossOf (addEdge g e) s) x y ≡ joined g (lossOf g s) x y
+  unfolding lossOf
+  loss-lost s x y h n = joined-new-lost g e (lossOf (addEdge g e) s) n x y ∙ joined-loss-old g e s x y h
+
+  -- with a new edge lost that has no mates, everything is joined as before
+  pub loss-new : (MateRule (g .rule)) → ((s : ℕ) → s < edgeCount g → mates (addEdge g e) s (edgeCount g) ≡ false) → (x y : ℕ)
+      → joined (addEdge g e) (lossOf (addEdge g e) (edgeCount g)) x y ≡ component g x y
+  unfolding lossOf component nothing
+  loss-new rule none x y =
+      joined-new-lost g e (lossOf (addEdge g e) (edgeCount g)) (mates-refl (addEdge g e) (edgeCount g)) x y
+      ∙ joined-same-loss g (lossOf (addEdge g e) (edgeCount g)) nothing
+      (λ s h.
+      false-of-not (mates (addEdge g e) (edgeCount g) s)
+      (λ k. not-both (mates-sym (addEdge g e) (rule-more g e rule) (edgeCount g) s k) (none s h)))
+      x y
+
+  -- what a mate of the new edge joins, the new edge's ends share
+  mate-joins : MateRule (g .rule) → (s : ℕ) → s < edgeCount g → mates (addEdge g e) s (edgeCount g) ≡ true
+      → (R : ℕ → ℕ → Type 0) → ((x y : ℕ) → R x y → R y x) → R (edge g s .left) (edge g s .right) → R (e .left) (e .right)
+  mate-joins rule s h m R w k =
+      subst (λ f. R (f .left) (f .right)) (edge-new g e)
+      (mates-least (addEdge g e) (rule-more g e rule) R w s (edgeCount g) m
+      (subst (λ f. R (f .left) (f .right)) (sym (edge-old g e s h)) k))
+
+  -- two vertices share a bridge-block as before if they share a component as before and each loss joins them as before
+  bridge-block-same : (x y : ℕ)
+      → (InBridgeBlock (addEdge g e) x y → component g x y ≡ true)
+      → (component g x y ≡ true → (s : ℕ) → s < edgeCount g
+      → joined (addEdge g e) (lossOf (addEdge g e) s) x y ≡ joined g (lossOf g s) x y)
+      → (InBridgeBlock g x y → joined (addEdge g e) (lossOf (addEdge g e) (edgeCount g)) x y ≡ true)
+      → bridgeBlock (addEdge g e) x y ≡ bridgeBlock g x y
+  unfolding component
+  bridge-block-same x y c f n = bool-ext (bridgeBlock (addEdge g e) x y) (bridgeBlock g x y) down up
+    where
+      down : bridgeBlock (addEdge g e) x y ≡ true → bridgeBlock g x y ≡ true
+      down b =
+          let i = bridge-block-parts (addEdge g e) x y b in
+          parts-bridge-block g x y
+          (record { share = c i; outlive = λ s h. sym (f (c i) s h) ∙ i .outlive s (old-below g e s h) })
+
+      up : bridgeBlock g x y ≡ true → bridgeBlock (addEdge g e) x y ≡ true
+      up b =
+          parts-bridge-block (addEdge g e) x y
+          (record { share = joined-old g e nothing x y (i .share); outlive = λ s h. each s (old-or-new g e s h) })
+        where
+          i : InBridgeBlock g x y
+          i = bridge-block-parts g x y b
+
+          each : (s : ℕ) → (s < edgeCount g) ⊎ (s ≡ edgeCount g) → joined (addEdge g e) (lossOf (addEdge g e) s) x y ≡ true
+          each s (inl h) = f (i .share) s h ∙ i .outlive s h
+          each s (inr q) = rw q (n i)
+
+-- the new edge joins two components
+module _ (g : Network) (e : Edge) (rule : MateRule (g .rule)) (apart : component g (e .left) (e .right) ≡ false) where
+  -- it has no mate
+  no-mate : (s : ℕ) → s < edgeCount g → mates (addEdge g e) s (edgeCount g) ≡ false
+  unfolding component nothing
+  no-mate s h =
+      false-of-not (mates (addEdge g e) s (edgeCount g))
+      (λ m. not-both (mate-joins g e rule s h m (λ x y. component g x y ≡ true) (joined-sym g nothing) (joined-edge g nothing s h refl)) apart)
+
+  -- with the mates of an old edge lost, vertices of one component are joined as before
+  loss-between : (s x y : ℕ) → s < edgeCount g → component g x y ≡ true
+      → joined (addEdge g e) (lossOf (addEdge g e) s) x y ≡ joined g (lossOf g s) x y
+  unfolding component
+  loss-between s x y h c =
+      loss-kept g e s x y h (no-mate s h)
+      ∙ bool-ext (merged J (e .left) (e .right) x y) (J x y)
+      (λ m. go (merged-ways J (e .left) (e .right) x y m))
+      (merged-before J (e .left) (e .right))
+    where
+      J : ℕ → ℕ → Bool
+      J = joined g (lossOf g s)
+
+      share : (u v : ℕ) → J u v ≡ true → component g u v ≡ true
+      share = joined-component g (lossOf g s)
+
+      crossed : (u v : ℕ) → J x u ≡ true → J v y ≡ true → component g u v ≡ true
+      crossed u v i j =
+          joined-trans g nothing u x v (joined-sym g nothing x u (share x u i))
+          (joined-trans g nothing x y v c (joined-sym g nothing v y (share v y j)))
+
+      go : Merged J (e .left) (e .right) x y → J x y ≡ true
+      go (before j) = j
+      go (across i j) = absurd (not-both (crossed (e .left) (e .right) i j) apart)
+      go (back i j) = absurd (not-both (joined-sym g nothing _ _ (crossed (e .right) (e .left) i j)) apart)
+
+  -- it is a bridge
+  pub bridge-new-between : bridge (addEdge g e) (edgeCount g) ≡ true
+  bridge-new-between = bridge-new g e ∙ ap not (loss-new g e rule no-mate (e .left) (e .right) ∙ apart)
+
+  -- no other edge becomes a bridge or stops being one
+  pub bridge-old-between : (s : ℕ) → s < edgeCount g → bridge (addEdge g e) s ≡ bridge g s
+  unfolding component nothing bridge
+  bridge-old-between s h =
+      bridge-old g e s h ∙ ap not (loss-between s (edge g s .left) (edge g s .right) h (joined-edge g nothing s h refl))
+
+  -- no bridge-block changes
+  pub bridge-block-between : (x y : ℕ) → bridgeBlock (addEdge g e) x y ≡ bridgeBlock g x y
+  bridge-block-between x y =
+      bridge-block-same g e x y
+      (λ i. sym (loss-new g e rule no-mate x y) ∙ i .outlive (edgeCount g) (new-below g e))
+      (λ c s h. loss-between s x y h c)
+      (λ i. loss-new g e rule no-mate x y ∙ i .share)
+
+-- the new edge has a mate
+module _ (g : Network) (e : Edge) (rule : MateRule (g .rule)) (t : ℕ) (known : t < edgeCount g)
+    (mate : mates (addEdge g e) t (edgeCount g) ≡ true) where
+  -- with the mates of an old edge lost, everything is joined as before
+  loss-mate : (s x y : ℕ) → s < edgeCount g → joined (addEdge g e) (lossOf (addEdge g e) s) x y ≡ joined g (lossOf g s) x y
+  unfolding lossOf
+  loss-mate s x y h = go (true-or-false (mates (addEdge g e) s (edgeCount g)))
+    where
+      J : ℕ → ℕ → Bool
+      J = joined g (lossOf g s)
+
+      go : (mates (addEdge g e) s (edgeCount g) ≡ true) ⊎ (mates (addEdge g e) s (edgeCount g) ≡ false)
+          → joined (addEdge g e) (lossOf (addEdge g e) s) x y ≡ J x y
+      go (inl m) = loss-lost g e s x y h m
+      go (inr n) =
+          loss-kept g e s x y h n
+          ∙ bool-ext (merged J (e .left) (e .right) x y) (J x y)
+          (merged-least (λ x y. J x y ≡ true) (joined-equivalence g (lossOf g s)) J (e .left) (e .right) (λ x y j. j) across-new x y)
+          (merged-before J (e .left) (e .right))
+        where
+          kept : mates g s t ≡ false
+          kept =
+              false-of-not (mates g s t)
+              (λ k.
+              not-both
+              (mates-trans (addEdge g e) (rule-more g e rule) s t (edgeCount g) (mates-old g e s t h known ∙ k) mate)
+              n)
+
+          across-new : J (e .left) (e .right) ≡ true
+          across-new = mate-joins g e rule t known mate (λ x y. J x y ≡ true) (joined-sym g _) (joined-edge g (lossOf g s) t known kept)
+
+  loss-new-mate : (x y : ℕ) → joined (addEdge g e) (lossOf (addEdge g e) (edgeCount g)) x y ≡ joined g (lossOf g t) x y
+  unfolding lossOf
+  loss-new-mate x y =
+      joined-same-loss (addEdge g e) (lossOf (addEdge g e) (edgeCount g)) (lossOf (addEdge g e) t)
+      (λ u k. sym (mates-alike (addEdge g e) (rule-more g e rule) t (edgeCount g) u mate))
+      x y
+      ∙ loss-mate t x y known
+
+  -- it is a bridge exactly if its mate is
+  pub bridge-new-mate : bridge (addEdge g e) (edgeCount g) ≡ bridge g t
+  unfolding bridge
+  bridge-new-mate =
+      bridge-new g e
+      ∙ ap not
+      (loss-new-mate (e .left) (e .right)
+      ∙ mate-joins g e rule t known mate
+      (λ x y. joined g (lossOf g t) x y ≡ joined g (lossOf g t) (edge g t .left) (edge g t .right))
+      (λ x y q. joined-swap g (lossOf g t) y x ∙ q)
+      refl)
+
+  -- no other edge becomes a bridge or stops being one
+  pub bridge-old-mate : (s : ℕ) → s < edgeCount g → bridge (addEdge g e) s ≡ bridge g s
+  unfolding bridge
+  bridge-old-mate s h = bridge-old g e s h ∙ ap not (loss-mate s (edge g s .left) (edge g s .right) h)
+
+  -- no bridge-block changes
+  pub bridge-block-mate : (x y : ℕ) → bridgeBlock (addEdge g e) x y ≡ bridgeBlock g x y
+  unfolding component nothing
+  bridge-block-mate x y =
+      bridge-block-same g e x y
+      (λ i. sym (component-edge-within g e share x y) ∙ i .share)
+      (λ c s h. loss-mate s x y h)
+      (λ i. loss-new-mate x y ∙ i .outlive t known)
+    where
+      share : component g (e .left) (e .right) ≡ true
+      share = mate-joins g e rule t known mate (λ x y. component g x y ≡ true) (joined-sym g nothing) (joined-edge g nothing t known refl)
+
+-- where joining l and r would join a and b: joining a and b leaves l and r parted exactly if they were, and a and b were not
+still-parted : (g : Network) (lost : Loss) (a b l r : ℕ) → merged (joined g lost) l r a b ≡ true
+    → not (merged (joined g lost) a b l r) ≡ (not (joined g lost l r) && joined g lost a b)
+still-parted g lost a b l r m = go (true-or-false (J l r)) (true-or-false (J a b))
+  where
+    J : ℕ → ℕ → Bool
+    J = joined g lost
+
+    around : J a b ≡ false → Merged J l r a b → Merged J a b l r
+    around n (before j) = absurd (not-both j n)
+    around n (across i j) = across (joined-sym g lost a l i) (joined-sym g lost r b j)
+    around n (back i j) = back j i
+
+    go : (J l r ≡ true) ⊎ (J l r ≡ false) → (J a b ≡ true) ⊎ (J a b ≡ false) → not (merged J a b l r) ≡ (not (J l r) && J a b)
+    go (inl j) k = rw (merged-before J a b j, j)
+    go (inr n) (inl k) =
+        not-of-false
+        (false-of-not (merged J a b l r)
+        (λ w. not-both (merged-least (λ x y. J x y ≡ true) (joined-equivalence g lost) J a b (λ x y j. j) k l r w) n))
+        ∙ sym (ap₂ (λ p q. not p && q) n k)
+    go (inr n) (inr k) =
+        not-of-true (merged-true J a b l r (around k (merged-ways J l r a b m))) ∙ sym (ap₂ (λ p q. not p && q) n k)
+
+-- the new edge lies within a component and has no mate
+module _ (g : Network) (e : Edge) (rule : MateRule (g .rule)) (within : component g (e .left) (e .right) ≡ true)
+    (none : (s : ℕ) → s < edgeCount g → mates (addEdge g e) s (edgeCount g) ≡ false) where
+  -- it is no bridge
+  pub bridge-new-within : bridge (addEdge g e) (edgeCount g) ≡ false
+  bridge-new-within = bridge-new g e ∙ ap not (loss-new g e rule none (e .left) (e .right) ∙ within)
+
+  -- exactly the bridges whose loss does not part its ends stay bridges
+  pub bridge-old-within : (s : ℕ) → s < edgeCount g
+      → bridge (addEdge g e) s ≡ (bridge g s && joined g (lossOf g s) (e .left) (e .right))
+  unfolding bridge component
+  bridge-old-within s h =
+      bridge-old g e s h
+      ∙ ap not (loss-kept g e s (edge g s .left) (edge g s .right) h (none s h))
+      ∙ still-parted g (lossOf g s) (e .left) (e .right) (edge g s .left) (edge g s .right)
+      (loss-merged g rule s nothing (e .left) (e .right) within)

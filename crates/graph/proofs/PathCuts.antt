@@ -1,0 +1,167 @@
+-- The cut vertices between the ends of a block path are the vertices between them on the path, in its order.
+use mathlib.Core.Bool.{Bool, true, false, not, _&&_, _||_, and-false}
+use mathlib.Core.List.{List, [], _∷_}
+use mathlib.Core.Logic.{_⊎_, inl, inr, ⊎-elim}
+use mathlib.Core.Path.{_≡_, refl, sym, _∙_, ap}
+use Prim.Native.Nat.{ℕ}
+use lib.Dec.{eqb, ltb}
+use Rattle.graph.specs.Lists.{allIn, isIn, distinct, ordered}
+use Rattle.graph.specs.Network.{Network, without, joined, Proper}
+use Rattle.graph.specs.Groups.{parts}
+use Rattle.graph.specs.Cycle.{Step, anyStep}
+use Rattle.graph.specs.Between.{isCutBetween, cutBefore}
+use Rattle.graph.specs.BlockPath.{BlockPath}
+use Rattle.graph.proofs.Truth.{true-or-false, not-both, false-of-not, bool-ext, or-left, or-right, or-neither}
+use Rattle.graph.proofs.Truth.{not-of-false, false-of-not-true, and-left, and-right, and-both, eqb-eq, eqb-same, eq-eqb, eqb-swap, lt-ltb}
+use Rattle.graph.proofs.Joined.{joined-sym, joined-trans}
+use Rattle.graph.proofs.Ends.{lost-vertex-alone}
+use Rattle.graph.proofs.BlockPath.{visits, onward, stays, visits-none, visits-first, visits-later, start-fresh, visited-differs, end-visited}
+use Rattle.graph.proofs.BlockPath.{path-component, visited-known, path-outlives-vertex, later-outlives, behind-start, path-parts-at-vertex}
+
+-- every number of a list passes a test if each that stands in it does
+all-in : (f : ℕ → Bool) (xs : List ℕ) → ((x : ℕ) → isIn x xs ≡ true → f x ≡ true) → allIn f xs ≡ true
+unfolding allIn isIn
+all-in f [] h = refl
+all-in f (x ∷ xs) h =
+    and-both (h x (or-left (eqb-same x) (isIn x xs))) (all-in f xs (λ y k. h y (or-right (eqb y x) k)))
+
+-- the vertices that the steps start from
+unfoldable pub starts : ℕ → List Step → List ℕ
+starts a [] = []
+starts a (p ∷ ps) = a ∷ starts (p .to) ps
+
+-- the vertices between the ends of a path: those that every step but the first starts from
+unfoldable pub inner : List Step → List ℕ
+inner [] = []
+inner (p ∷ ps) = starts (p .to) ps
+
+-- steps start from the start and from where steps lead to, and not from the end
+in-starts : {g : Network} {a b : ℕ} {ps : List Step} → BlockPath g a ps b → (c : ℕ)
+    → isIn c (starts a ps) ≡ ((eqb c a || visits c ps) && not (eqb c b))
+unfolding starts isIn anyStep
+in-starts {a = a} {b = b} {ps = []} path c = rw (stays path) (go (eqb c b))
+  where
+    go : (z : Bool) → false ≡ ((z || false) && not z)
+    go true = refl
+    go false = refl
+in-starts {a = a} {b = b} {ps = p ∷ ps} path c =
+    ap (λ z. eqb c a || z) (in-starts (onward path .rest) c) ∙ go (true-or-false (eqb c a))
+  where
+    end-differs : eqb a b ≡ false
+    end-differs = eqb-swap a b ∙ visited-differs b a (p ∷ ps) (end-visited path) (start-fresh path)
+
+    go : (eqb c a ≡ true) ⊎ (eqb c a ≡ false)
+        → (eqb c a || ((eqb c (p .to) || visits c ps) && not (eqb c b))) ≡ ((eqb c a || visits c (p ∷ ps)) && not (eqb c b))
+    go (inl e) = rw (e, ap (λ x. eqb x b) (eqb-eq c a e), end-differs)
+    go (inr e) = rw (e, eqb-swap c (p .to))
+
+-- the vertices between the ends are those that are visited, but the last
+pub in-inner : {g : Network} {a b : ℕ} {ps : List Step} → BlockPath g a ps b → (c : ℕ)
+    → isIn c (inner ps) ≡ (visits c ps && not (eqb c b))
+unfolding inner anyStep isIn
+in-inner {ps = []} path c = refl
+in-inner {b = b} {ps = p ∷ ps} path c = in-starts (onward path .rest) c ∙ ap (λ z. (z || visits c ps) && not (eqb c b)) (eqb-swap c (p .to))
+
+-- a vertex between the ends is visited, and is not the end
+pub inner-visited : {g : Network} {a b : ℕ} {ps : List Step} → BlockPath g a ps b → (c : ℕ) → isIn c (inner ps) ≡ true
+    → visits c ps ≡ true
+inner-visited {b = b} {ps = ps} path c m = and-left (visits c ps) (not (eqb c b)) (sym (in-inner path c) ∙ m)
+
+pub inner-not-end : {g : Network} {a b : ℕ} {ps : List Step} → BlockPath g a ps b → (c : ℕ) → isIn c (inner ps) ≡ true
+    → eqb c b ≡ false
+inner-not-end {b = b} {ps = ps} path c m =
+    false-of-not-true (eqb c b) (and-right (visits c ps) (not (eqb c b)) (sym (in-inner path c) ∙ m))
+
+starts-distinct : {g : Network} {a b : ℕ} {ps : List Step} → BlockPath g a ps b → distinct (starts a ps) ≡ true
+unfolding starts distinct
+starts-distinct {ps = []} path = refl
+starts-distinct {a = a} {b = b} {ps = p ∷ ps} path =
+    let o = onward path in
+    and-both
+    (not-of-false (in-starts (o .rest) a ∙ ap (λ z. z && not (eqb a b)) (or-neither (o .away) (o .no-return))))
+    (starts-distinct (o .rest))
+
+-- none stands there twice
+pub inner-distinct : {g : Network} {a b : ℕ} {ps : List Step} → BlockPath g a ps b → distinct (inner ps) ≡ true
+unfolding inner distinct
+inner-distinct {ps = []} path = refl
+inner-distinct {ps = p ∷ ps} path = starts-distinct (onward path .rest)
+
+module _ (g : Network) (r : Proper g) where
+  -- exactly the vertices between the ends of a block path are cut vertices between them
+  pub cut-on-path : {a b : ℕ} {ps : List Step} → BlockPath g a ps b → (c : ℕ) → isCutBetween g a b c ≡ isIn c (inner ps)
+  unfolding isCutBetween parts
+  cut-on-path {a} {b} {ps} path c = go (true-or-false (visits c ps)) (true-or-false (eqb c b)) ∙ sym (in-inner path c)
+    where
+      go : (visits c ps ≡ true) ⊎ (visits c ps ≡ false) → (eqb c b ≡ true) ⊎ (eqb c b ≡ false)
+          → isCutBetween g a b c ≡ (visits c ps && not (eqb c b))
+      go v (inl d) = rw d (simp and-false)
+      go (inl v) (inr d) =
+          rw (v, d, path-component path, path-parts-at-vertex g r path c v d, visited-differs c a ps v (start-fresh path))
+      go (inr v) (inr d) = off (true-or-false (eqb c a))
+        where
+          off : (eqb c a ≡ true) ⊎ (eqb c a ≡ false) → isCutBetween g a b c ≡ (visits c ps && not (eqb c b))
+          off (inl e) = rw (e, v)
+          off (inr e) = rw (e, v, d, path-component path, path-outlives-vertex g r path c e v)
+
+  -- the list of the cut vertices between the ends, as it is searched, has exactly the vertices between them for members
+  pub inner-exact : {a b : ℕ} {ps : List Step} → BlockPath g a ps b → (c : ℕ)
+      → isIn c (inner ps) ≡ (ltb c (g .vertices) && isCutBetween g a b c)
+  inner-exact {a} {b} {ps} path c =
+      bool-ext (isIn c (inner ps)) (ltb c (g .vertices) && isCutBetween g a b c)
+      (λ m. and-both (lt-ltb c (g .vertices) (visited-known g r path c (inner-visited path c m))) (cut-on-path path c ∙ m))
+      (λ k. sym (cut-on-path path c) ∙ and-right (ltb c (g .vertices)) (isCutBetween g a b c) k)
+
+  starts-ordered : {x b : ℕ} {ps : List Step} → BlockPath g x ps b → (a : ℕ)
+      → ((d : ℕ) → visits d ps ≡ true → joined g (without g d) a x ≡ true) → ordered (cutBefore g a) (starts x ps) ≡ true
+  unfolding starts ordered cutBefore anyStep
+  starts-ordered {ps = []} path a f = refl
+  starts-ordered {x} {b} {ps = p ∷ ps} path a f =
+      and-both
+      (all-in (cutBefore g a x) (starts (p .to) ps) first)
+      (starts-ordered (onward path .rest) a
+      (λ d v. joined-trans g _ a x (p .to) (f d (visits-later d p ps v)) (later-outlives g r (onward path) d v)))
+    where
+      first : (d : ℕ) → isIn d (starts (p .to) ps) ≡ true → cutBefore g a x d ≡ true
+      first d h =
+          f d
+          (ap (λ z. z || visits d ps) (eqb-swap (p .to) d)
+          ∙ and-left (eqb d (p .to) || visits d ps) (not (eqb d b)) (sym (in-starts (onward path .rest) d) ∙ h))
+
+  -- each comes before those behind it
+  pub inner-ordered : {a b : ℕ} {ps : List Step} → BlockPath g a ps b → ordered (cutBefore g a) (inner ps) ≡ true
+  unfolding inner ordered
+  inner-ordered {ps = []} path = refl
+  inner-ordered {a} {b} {ps = p ∷ ps} path = starts-ordered (onward path .rest) a (later-outlives g r (onward path))
+
+  -- of two vertices on a block path, one is still joined to its end without the other
+  later-apart : {a b : ℕ} {ps : List Step} → BlockPath g a ps b → (c d : ℕ) → visits c ps ≡ true → visits d ps ≡ true
+      → eqb c d ≡ false → (joined g (without g c) d b ≡ true) ⊎ (joined g (without g d) c b ≡ true)
+  later-apart {ps = []} path c d v w n = absurd (not-both v (visits-none c))
+  later-apart {a} {b} {ps = p ∷ ps} path c d v w n =
+      go (visits-first c p ps v) (visits-first d p ps w) (λ v w. later-apart (onward path .rest) c d v w n)
+    where
+      go : (p .to ≡ c) ⊎ (visits c ps ≡ true) → (p .to ≡ d) ⊎ (visits d ps ≡ true)
+          → (visits c ps ≡ true → visits d ps ≡ true → (joined g (without g c) d b ≡ true) ⊎ (joined g (without g d) c b ≡ true))
+          → (joined g (without g c) d b ≡ true) ⊎ (joined g (without g d) c b ≡ true)
+      go (inl p₁) (inl q) f = absurd (not-both (eq-eqb c d (sym p₁ ∙ q)) n)
+      go (inl q) (inr k) f = inl (rw q at (behind-start g r (onward path .rest) d k))
+      go (inr k) (inl q) f = inr (rw q at (behind-start g r (onward path .rest) c k))
+      go (inr k) (inr l) f = f k l
+
+  -- no two come before one another
+  pub inner-asymmetric : {a b : ℕ} {ps : List Step} → BlockPath g a ps b → (c d : ℕ)
+      → isIn c (inner ps) ≡ true → isIn d (inner ps) ≡ true → cutBefore g a c d ≡ true → cutBefore g a d c ≡ false
+  unfolding cutBefore
+  inner-asymmetric {a} {b} {ps} path c d h k e =
+      false-of-not (joined g (without g c) a d) (λ j. go j (true-or-false (eqb c d)))
+    where
+      parted : (x y : ℕ) → isIn x (inner ps) ≡ true → joined g (without g x) a y ≡ true → joined g (without g x) y b ≡ true → ⊥
+      parted x y m i j = not-both (joined-trans g _ a y b i j) (path-parts-at-vertex g r path x (inner-visited path x m) (inner-not-end path x m))
+
+      go : joined g (without g c) a d ≡ true → (eqb c d ≡ true) ⊎ (eqb c d ≡ false) → ⊥
+      go j (inl q) =
+          not-both
+          (eq-eqb d a (lost-vertex-alone g d a (joined-sym g _ a d (rw (eqb-eq c d q) at j))))
+          (visited-differs d a ps (inner-visited path d k) (start-fresh path))
+      go j (inr n) = ⊎-elim (parted c d h j) (parted d c k e) (later-apart path c d (inner-visited path c h) (inner-visited path d k) n)
