@@ -35,3 +35,6 @@ pub mod EdgeMore
 pub mod EdgeMoreBlocks
 pub mod MateLoss
 pub mod EdgeMoreBridges
+pub mod Grows
+pub mod Lengths
+pub mod Never

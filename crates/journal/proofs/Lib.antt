@@ -17,3 +17,10 @@ pub mod SizedBook
 pub mod Notices
 pub mod NoticeOrder
 pub mod NameList
+pub mod EachKind
+pub mod RunBooks
+pub mod AnswersFit
+pub mod NoticeBound
+pub mod ReadBack
+pub mod WholeRun
+pub mod Answers

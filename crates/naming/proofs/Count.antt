@@ -113,3 +113,26 @@ pub total-at-most : (n b : ℕ) (f : ℕ → ℕ) → ((i : ℕ) → i < n → f
 unfolding total
 total-at-most zero b f h = omega arith
 total-at-most (suc n) b f h = omega (arith, total-at-most n b f (λ i l. h i (omega arith)), h n (omega arith))
+
+-- more numbers, no smaller sum
+pub total-more : (k n : ℕ) (f : ℕ → ℕ) → k ≤ n → total k f ≤ total n f
+unfolding total
+total-more k zero f h = rw (le-zero k h) (omega arith)
+total-more k (suc n) f h = go (total-more k n f) (below-or-last (suc n) k (omega arith))
+  where
+    go : (k ≤ n → total k f ≤ total n f) → (k < suc n) ⊎ (k ≡ suc n) → total k f ≤ total n f + f n
+    go ih (inl l) = omega (arith, ih (omega arith))
+    go ih (inr d) = rw d (le-refl _)
+
+-- one more for each number that passes adds the count
+pub total-and-count : (n : ℕ) (f f′ : ℕ → ℕ) (p : ℕ → Bool)
+    → ((i : ℕ) → i < n → f′ i ≡ cond (p i) (suc (f i)) (f i))
+    → total n f′ ≡ total n f + count n p
+unfolding total count
+total-and-count zero f f′ p h = refl
+total-and-count (suc n) f f′ p h =
+    rw (h n (omega arith), total-and-count n f f′ p (λ i l. h i (omega arith))) (step (p n) (total n f) (count n p) (f n))
+  where
+    step : (b : Bool) (t c k : ℕ) → t + c + cond b (suc k) k ≡ t + k + cond b (suc c) c
+    step true t c k = omega arith
+    step false t c k = omega arith

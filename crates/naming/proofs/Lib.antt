@@ -8,5 +8,7 @@ pub mod Naming
 pub mod Merge
 pub mod Single
 pub mod Doubling
+pub mod Advance
 pub mod Log
 pub mod Bound
+pub mod Book

@@ -31,11 +31,6 @@ greatest-most p (suc n) i h e = go (greatest-most p n i) (true-or-false (p (suc 
     go f (inr k) (inl l) = rw k (f (omega arith) e)
     go f (inr k) (inr l) = absurd (not-both (rw l at e) k)
 
--- 2 to the power of the logarithm is at most the number
-pub log2-power : (k : ℕ) → 1 ≤ k → 2 ^ wholeLog2 k ≤ k
-unfolding wholeLog2
-log2-power k h = leb-le (2 ^ wholeLog2 k) k (greatest-passes (λ i. leb (2 ^ i) k) k (le-leb 1 k h))
-
 -- a number is less than 2 to its power
 pub below-power : (i : ℕ) → i < 2 ^ i
 below-power zero = omega arith
@@ -45,6 +40,11 @@ below-power (suc i) = omega (arith, below-power i)
 pub log2-most : (k i : ℕ) → 2 ^ i ≤ k → i ≤ wholeLog2 k
 unfolding wholeLog2
 log2-most k i h = greatest-most (λ j. leb (2 ^ j) k) k i (omega (arith, below-power i)) (le-leb (2 ^ i) k h)
+
+-- 2 to the power of the logarithm is at most the number
+pub log2-power : (k : ℕ) → 1 ≤ k → 2 ^ wholeLog2 k ≤ k
+unfolding wholeLog2
+log2-power k h = leb-le (2 ^ wholeLog2 k) k (greatest-passes (λ i. leb (2 ^ i) k) k (le-leb 1 k h))
 
 log2-zero : wholeLog2 0 ≡ 0
 unfolding wholeLog2 greatest

@@ -1,0 +1,131 @@
+-- One edge more: whatever shared a group still does, and until it is there its number is alone.
+use mathlib.Core.Bool.{true, false, _||_}
+use mathlib.Core.Logic.{_⊎_, inl, inr, Equivalence}
+use mathlib.Core.Path.{_≡_, _∙_, ap, ap₂}
+use Prim.Native.Nat.{ℕ, _<_}
+use native.Mathlib.Omega.{arith}
+use lib.Dec.{eqb}
+use Rattle.graph.specs.Below.{anyBelow}
+use Rattle.graph.specs.Network.{Network, Edge, MateRule, edgeCount, addEdge, touches, mates, nothing, lossOf, without, joined}
+use Rattle.graph.specs.Groups.{component, bridgeBlock}
+use Rattle.graph.specs.Block.{block}
+use Rattle.graph.proofs.Truth.{true-or-false, false-of-not, not-both, bool-ext, eqb-eq, eq-eqb}
+use Rattle.graph.proofs.Below.{any-below, some-below, Below}
+use Rattle.graph.proofs.Joined.{joined-less-lost, joined-same-loss, edge-count-more, edge-old, old-or-new, joined-old}
+use Rattle.graph.proofs.Mates.{loss-of-mates}
+use Rattle.graph.proofs.BridgeBlock.{bridge-block-component, bridge-block-lasts, in-bridge-block}
+use Rattle.graph.proofs.Block.{block-refl, block-sym, block-trans, link-block, block-least, block-below}
+use Rattle.graph.proofs.Links.{Link, link-parts, link-of-parts}
+
+-- sharing a block is an equivalence
+pub block-equivalence : (g : Network) → Equivalence (λ s t. block g s t ≡ true)
+block-equivalence g = record { refl = block-refl g; symm = block-sym g; trans = block-trans g }
+
+-- the next edge's number is a block alone
+pub block-next : (g : Network) (t : ℕ) → block g (edgeCount g) t ≡ eqb (edgeCount g) t
+block-next g t =
+    bool-ext
+    (block g (edgeCount g) t)
+    (eqb (edgeCount g) t)
+    (λ b. go (block-below g (edgeCount g) t b))
+    (λ q. rw (← eqb-eq (edgeCount g) t q) (block-refl g (edgeCount g)))
+  where
+    go : (edgeCount g ≡ t) ⊎ ((edgeCount g < edgeCount g) × (t < edgeCount g)) → eqb (edgeCount g) t ≡ true
+    go (inl q) = eq-eqb (edgeCount g) t q
+    go (inr k) = absurd (omega arith)
+
+module _ (g : Network) (e : Edge) where
+  -- what shared a component still does
+  pub component-grows : (x y : ℕ) → component g x y ≡ true → component (addEdge g e) x y ≡ true
+  unfolding component
+  component-grows = joined-old g e nothing
+
+  -- mates among the old edges stay as they were
+  pub mates-old : (s t : ℕ) → s < edgeCount g → t < edgeCount g → mates (addEdge g e) s t ≡ mates g s t
+  unfolding mates addEdge
+  mates-old s t h k = ap₂ (λ f i. eqb s t || g .rule f i) (edge-old g e s h) (edge-old g e t k)
+
+  -- what outlived the loss of an old edge still does
+  pub loss-grows : (s x y : ℕ) → s < edgeCount g → joined g (lossOf g s) x y ≡ true
+      → joined (addEdge g e) (lossOf (addEdge g e) s) x y ≡ true
+  unfolding lossOf
+  loss-grows s x y h j =
+      joined-old g e (mates (addEdge g e) s) x y
+      (joined-same-loss g (mates (addEdge g e) s) (mates g s) (λ t k. mates-old s t h k) x y ∙ j)
+
+  -- what outlived the loss of every old edge outlives that of the new one: it is the loss of an old mate's, or of nothing old
+  loss-of-new : MateRule (g .rule) → (x y : ℕ) → component g x y ≡ true
+      → ((s : ℕ) → s < edgeCount g → joined g (lossOf g s) x y ≡ true)
+      → joined (addEdge g e) (lossOf (addEdge g e) (edgeCount g)) x y ≡ true
+  unfolding lossOf component nothing addEdge
+  loss-of-new r x y c w = go (true-or-false (anyBelow (edgeCount g) (mates (addEdge g e) (edgeCount g))))
+    where
+      old-mate : Below (edgeCount g) (mates (addEdge g e) (edgeCount g))
+          → joined (addEdge g e) (lossOf (addEdge g e) (edgeCount g)) x y ≡ true
+      old-mate t =
+          joined-same-loss
+          (addEdge g e)
+          (lossOf (addEdge g e) (edgeCount g))
+          (lossOf (addEdge g e) (t .at))
+          (λ u h. loss-of-mates (addEdge g e) r (edgeCount g) (t .at) (t .passes) u)
+          x
+          y
+          ∙ loss-grows (t .at) x y (t .below) (w (t .at) (t .below))
+
+      go : (anyBelow (edgeCount g) (mates (addEdge g e) (edgeCount g)) ≡ true)
+          ⊎ (anyBelow (edgeCount g) (mates (addEdge g e) (edgeCount g)) ≡ false)
+          → joined (addEdge g e) (lossOf (addEdge g e) (edgeCount g)) x y ≡ true
+      go (inl m) = old-mate (some-below (edgeCount g) (mates (addEdge g e) (edgeCount g)) m)
+      go (inr n) =
+          joined-old g e (mates (addEdge g e) (edgeCount g)) x y
+          (joined-less-lost g nothing (mates (addEdge g e) (edgeCount g))
+          (λ s h k.
+          false-of-not (mates (addEdge g e) (edgeCount g) s)
+          (λ m. not-both (any-below (edgeCount g) (mates (addEdge g e) (edgeCount g)) s h m) n))
+          x y c)
+
+  -- what shared a bridge-block still does
+  pub bridge-block-grows : MateRule (g .rule) → (x y : ℕ) → bridgeBlock g x y ≡ true → bridgeBlock (addEdge g e) x y ≡ true
+  bridge-block-grows r x y b =
+      in-bridge-block (addEdge g e) x y (component-grows x y c) (λ s h. each s (old-or-new g e s h))
+    where
+      c : component g x y ≡ true
+      c = bridge-block-component g x y b
+
+      each : (s : ℕ) → (s < edgeCount g) ⊎ (s ≡ edgeCount g) → joined (addEdge g e) (lossOf (addEdge g e) s) x y ≡ true
+      each s (inl h) = loss-grows s x y h (bridge-block-lasts g x y b s h)
+      each s (inr q) = rw q (loss-of-new r x y c (bridge-block-lasts g x y b))
+
+  -- what was joined without a vertex still is
+  pub without-grows : (c x y : ℕ) → joined g (without g c) x y ≡ true → joined (addEdge g e) (without (addEdge g e) c) x y ≡ true
+  unfolding without
+  without-grows c x y j =
+      joined-old g e (without (addEdge g e) c) x y
+      (joined-same-loss g (without (addEdge g e) c) (without g c) (λ s h. ap (λ f. touches f c) (edge-old g e s h)) x y ∙ j)
+
+  link-grows : (s t : ℕ) → s < edgeCount g → t < edgeCount g → Link g s t → Link (addEdge g e) s t
+  link-grows s t h i k =
+      record {
+        meeting = k .meeting;
+        first = k .first;
+        second = k .second;
+        first-ends = rw (edge-old g e s h) (k .first-ends);
+        second-ends = rw (edge-old g e t i) (k .second-ends);
+        around = without-grows (k .meeting) (k .first) (k .second) (k .around);
+      }
+
+  -- what shared a block still does
+  pub block-grows : (s t : ℕ) → block g s t ≡ true → block (addEdge g e) s t ≡ true
+  block-grows =
+      block-least
+      (λ s t. block (addEdge g e) s t ≡ true)
+      (block-equivalence (addEdge g e))
+      g
+      (λ s t h i k.
+      link-block
+      (addEdge g e)
+      s
+      t
+      (omega (arith, edge-count-more g e))
+      (omega (arith, edge-count-more g e))
+      (link-of-parts (addEdge g e) s t (link-grows s t h i (link-parts g s t k))))
