@@ -63,6 +63,27 @@ each-below (suc n) p e i h = go (each-below n p (and-left (allBelow n p) (p n) e
     go f (inl l) = f l
     go f (inr d) = rw d (and-right (allBelow n p) (p n) e)
 
+-- what a search for the least number below n that passes the test has found
+pub data Least (n : ℕ) (p : ℕ → Bool) : Option ℕ → Type 0 where
+  found : (k : ℕ) → k < n → p k ≡ true → ((i : ℕ) → i < k → p i ≡ false) → Least n p (some k)
+  missing : ((i : ℕ) → i < n → p i ≡ false) → Least n p none
+
+-- the search finds the least number that passes, and nothing where none does
+pub least-below : (n : ℕ) (p : ℕ → Bool) → Least n p (leastBelow n p)
+unfolding leastBelow
+least-below zero p = missing (λ i h. absurd (omega arith))
+least-below (suc n) p = go (leastBelow n p) (least-below n p) (p n) refl
+  where
+    go : (o : Option ℕ) → Least n p o → (b : Bool) → p n ≡ b
+        → Least (suc n) p (elim o [ some k ↦ some k | none ↦ cond b (some n) none ])
+    go _ (found k h t l) b e = found k (omega arith) t l
+    go _ (missing f) true e = found n (omega arith) e f
+    go _ (missing f) false e = missing (λ i h. last i (below-or-last n i h))
+      where
+        last : (i : ℕ) → (i < n) ⊎ (i ≡ n) → p i ≡ false
+        last i (inl l) = f i l
+        last i (inr d) = rw d e
+
 -- the tests agree below n
 abbrev pub Agree : ℕ → (ℕ → Bool) → (ℕ → Bool) → Type 0
 Agree n p q = (i : ℕ) → i < n → p i ≡ q i

@@ -105,6 +105,10 @@ pub block-trans : (g : Network) (s t u : ℕ) → block g s t ≡ true → block
 unfolding block
 block-trans g s t u e f = same-trans (links g) s t u e f
 
+-- so it is an equivalence
+pub block-equivalence : (g : Network) → Equivalence (λ s t. block g s t ≡ true)
+block-equivalence g = record { refl = block-refl g; symm = block-sym g; trans = block-trans g }
+
 -- the order of the two edges does not matter
 pub block-swap : (g : Network) (s t : ℕ) → block g s t ≡ block g t s
 block-swap g s t = bool-ext (block g s t) (block g t s) (block-sym g s t) (block-sym g t s)

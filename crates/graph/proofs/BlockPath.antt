@@ -1,7 +1,7 @@
 -- Block paths: a path outlives the loss of any vertex that is not on it, and parts at each vertex between its ends.
 use mathlib.Core.Bool.{Bool, true, false, not, _&&_, _||_}
 use mathlib.Core.List.{List, [], _∷_}
-use mathlib.Core.Logic.{_⊎_, inl, inr}
+use mathlib.Core.Logic.{_⊎_, inl, inr, ⊎-elim}
 use mathlib.Core.Path.{_≡_, refl, sym, _∙_, subst}
 use Prim.Native.Nat.{ℕ, _<_}
 use lib.Dec.{eqb, ltb}
@@ -12,8 +12,9 @@ use Rattle.graph.specs.Block.{block}
 use Rattle.graph.specs.BlockPath.{onBlock, blocksLead, fresh, blocksDiffer, BlockPath}
 use Rattle.graph.proofs.Truth.{not-both, false-of-not, false-of-not-true, or-cases, or-left, or-right, or-neither, or-neither-left, or-neither-right}
 use Rattle.graph.proofs.Truth.{and-left, and-right, eqb-eq, eq-eqb, eqb-swap, ltb-lt}
-use Rattle.graph.proofs.Joined.{joined-refl, joined-sym, joined-trans}
-use Rattle.graph.proofs.Ends.{joined-component, joined-from, joined-to}
+use Rattle.graph.proofs.Joined.{joined-refl, joined-trans}
+use Rattle.graph.proofs.Ends.{joined-from, joined-to}
+use Rattle.graph.proofs.Mates.{joined-component}
 use Rattle.graph.proofs.BlockVertices.{on-block-known, block-vertices-joined-within, block-outlives-vertex, blocks-part-at-vertex}
 
 -- some step leads to vertex c
@@ -81,6 +82,11 @@ visits-first c p ps e = go (or-cases (eqb (p .to) c) (visits c ps) e)
     go (inl h) = inl (eqb-eq (p .to) c h)
     go (inr h) = inr h
 
+-- what the first step leads to is visited
+pub visits-next : (c : ℕ) (p : Step) (ps : List Step) → p .to ≡ c → visits c (p ∷ ps) ≡ true
+unfolding anyStep
+visits-next c p ps q = or-left (eq-eqb (p .to) c q) (visits c ps)
+
 -- what a later step leads to is visited
 pub visits-later : (c : ℕ) (p : Step) (ps : List Step) → visits c ps ≡ true → visits c (p ∷ ps) ≡ true
 unfolding anyStep
@@ -117,10 +123,14 @@ unfolding anyStep
 end-visited {b = b} {p = p} {ps = []} path = or-left (eq-eqb (p .to) b (stays (onward path .rest))) false
 end-visited {b = b} {p = p} {ps = q ∷ ps} path = or-right (eqb (p .to) b) (end-visited (onward path .rest))
 
+-- the end of a block path is its start, or some step leads there
+pub end-on-path : {g : Network} {a b : ℕ} {ps : List Step} → BlockPath g a ps b → (a ≡ b) ⊎ (visits b ps ≡ true)
+end-on-path {ps = []} path = inl (stays path)
+end-on-path {ps = p ∷ ps} path = inr (end-visited path)
+
 -- a path to another vertex leads there
 pub other-end-visited : {g : Network} {a b : ℕ} {ps : List Step} → BlockPath g a ps b → eqb a b ≡ false → visits b ps ≡ true
-other-end-visited {a = a} {b = b} {ps = []} path d = absurd (not-both (eq-eqb a b (stays path)) d)
-other-end-visited {ps = p ∷ ps} path d = end-visited path
+other-end-visited {a = a} {b = b} path d = ⊎-elim (λ q. absurd (not-both (eq-eqb a b q) d)) (λ v. v) (end-on-path path)
 
 -- two vertices of a block share a component
 pub block-component : (g : Network) (s x y : ℕ) → onBlock g s x ≡ true → onBlock g s y ≡ true → component g x y ≡ true
@@ -160,47 +170,11 @@ module _ (g : Network) (r : Proper g) where
       joined-trans g _ a (p .to) b (step-outlives-vertex o c d n)
       (path-outlives-vertex (o .rest) c n (avoids-rest c p ps v))
 
-  -- and its start to every vertex on it
-  pub visit-outlives-vertex : {a b : ℕ} {ps : List Step} → BlockPath g a ps b → (c x : ℕ)
-      → eqb c a ≡ false → visits c ps ≡ false → visits x ps ≡ true → joined g (without g c) a x ≡ true
-  visit-outlives-vertex {ps = []} path c x d v w = absurd (not-both w (visits-none x))
-  visit-outlives-vertex {a} {b} {ps = p ∷ ps} path c x d v w = go (visits-first x p ps w) (visit-outlives-vertex (o .rest) c x n (avoids-rest c p ps v))
-    where
-      o : Onward g a p ps b
-      o = onward path
-
-      n : eqb c (p .to) ≡ false
-      n = avoids-first c p ps v
-
-      go : (p .to ≡ x) ⊎ (visits x ps ≡ true) → (visits x ps ≡ true → joined g (without g c) (p .to) x ≡ true)
-          → joined g (without g c) a x ≡ true
-      go (inl q) f = rw q at (step-outlives-vertex o c d n)
-      go (inr k) f = joined-trans g _ a (p .to) x (step-outlives-vertex o c d n) (f k)
-
-  -- a vertex that a later step leads to is neither the start nor the first step's
+  -- without a vertex that a later step leads to, the two vertices of the first step stay joined
   pub later-outlives : {a b : ℕ} {p : Step} {ps : List Step} → Onward g a p ps b → (c : ℕ) → visits c ps ≡ true
       → joined g (without g c) a (p .to) ≡ true
   later-outlives {a} {b} {p} {ps} o c v =
       step-outlives-vertex o c (visited-differs c a ps v (o .no-return)) (visited-differs c (p .to) ps v (start-fresh (o .rest)))
-
-  -- without its start, a block path still joins every vertex that it leads to with its end
-  pub behind-start : {a b : ℕ} {ps : List Step} → BlockPath g a ps b → (d : ℕ) → visits d ps ≡ true
-      → joined g (without g a) d b ≡ true
-  behind-start {ps = []} path d v = absurd (not-both v (visits-none d))
-  behind-start {a} {b} {ps = p ∷ ps} path d v = go (visits-first d p ps v)
-    where
-      o : Onward g a p ps b
-      o = onward path
-
-      first : joined g (without g a) (p .to) b ≡ true
-      first = path-outlives-vertex (o .rest) a (o .away) (o .no-return)
-
-      go : (p .to ≡ d) ⊎ (visits d ps ≡ true) → joined g (without g a) d b ≡ true
-      go (inl q) = rw q at first
-      go (inr w) =
-          joined-trans g _ d (p .to) b
-          (joined-sym g _ (p .to) d (visit-outlives-vertex (o .rest) a d (o .away) (o .no-return) w))
-          first
 
   parts-at-first : {a b : ℕ} {p : Step} {ps : List Step} → BlockPath g a (p ∷ ps) b
       → eqb (p .to) b ≡ false → joined g (without g (p .to)) a b ≡ false

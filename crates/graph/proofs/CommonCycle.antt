@@ -1,6 +1,6 @@
 -- Blocks as they compute are blocks as the papers word them: two edges share a block exactly if they are mates, or some simple
 -- cycle holds both.
-use mathlib.Core.Bool.{Bool, true, false, not}
+use mathlib.Core.Bool.{Bool, true, false}
 use mathlib.Core.List.{List, [], _∷_}
 use mathlib.Core.Logic.{inl, inr, ⊎-elim, _↔_}
 use mathlib.Core.Path.{_≡_, refl, sym, _∙_, subst}

@@ -14,7 +14,7 @@ use Rattle.graph.proofs.Truth.{false-of-not-true, not-of-false, eqb-eq,
 use Rattle.graph.proofs.Joined.{joined-refl, joined-sym, joined-trans}
 use Rattle.graph.proofs.Block.{block-refl, block-sym, block-trans}
 use Rattle.graph.proofs.Walks.{joins-swap, FirstStep, leads-first}
-use Rattle.graph.proofs.Joins.{touched-end, joined-ends}
+use Rattle.graph.proofs.Joins.{touches-no-third, joins-joined}
 use Rattle.graph.proofs.Links.{linked-edges-share-block}
 use Rattle.graph.proofs.Steps.{any-more, visits, visits-start, visits-end, joined-around}
 use Rattle.graph.proofs.Paths.{fresh-start, fresh-rest}
@@ -76,10 +76,10 @@ module _ (g : Network) (x c : ℕ) (p q : Step) (qs : List Step) (l : leads g x 
       let k = w v (or-right (eqb (p .to) v) e) n in
       let far : touches (edge g (p .along)) v ≡ false =
       false-of-not (touches (edge g (p .along)) v)
-      (λ i. not-both (touched-end (edge g (p .along)) v x (p .to) (closed-first .over) i) (or-neither (k .0) (closed-apart v e))) in (
+      (λ i. not-both (touches-no-third (edge g (p .along)) v x (p .to) (closed-first .over) i) (or-neither (k .0) (closed-apart v e))) in (
         closed-apart v e,
         joined-trans g (without g v) (p .to) x c
-            (joined-ends g (without g v) (p .along) (closed-first .known) far (p .to) x closed-back)
+            (joins-joined g (without g v) (p .along) (closed-first .known) far (p .to) x closed-back)
             (k .1),
       )
 

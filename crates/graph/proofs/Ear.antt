@@ -15,7 +15,8 @@ use Rattle.graph.proofs.Joined.{joined-least}
 use Rattle.graph.proofs.Walks.{joins-ends, joins-swap, leads-first, first-leads, leads-one}
 use Rattle.graph.proofs.Joins.{joins-elim, joins-back, joins-touches, joins-apart}
 use Rattle.graph.proofs.Steps.{visits, visits-start, visits-end}
-use Rattle.graph.proofs.Links.{Link, link-parts, turned-link}
+use Rattle.graph.proofs.Links.{Link, link-parts}
+use Rattle.graph.proofs.Ends.{link-sym}
 use Rattle.graph.proofs.Paths.{fresh-on, Cut, cut, cut-crosses, front-visits, back-visits, BackAndOn, back-and-on}
 use Rattle.graph.proofs.Block.{block-least}
 
@@ -216,7 +217,5 @@ around-link g ok s t u h k r =
 pub block-around : (g : Network) → Proper g → (s t : ℕ) → s < edgeCount g → block g s t ≡ true → Around g s t
 block-around g ok s t h e =
     block-least (λ t u. Around g s t ↔ Around g s u) (alike (Around g s)) g
-    (λ t u i j l.
-    let k = link-parts g t u l in
-    (around-link g ok s t u i k, around-link g ok s u t j (turned-link g t u k)))
+    (λ t u i j l. (around-link g ok s t u i (link-parts g t u l), around-link g ok s u t j (link-parts g u t (link-sym g t u l))))
     s t e .0 (one-step g ok s h (edge g s .left) (edge g s .right) (joins-ends (edge g s)))

@@ -1,21 +1,19 @@
--- One edge more: components, blocks that grow, and the edge between two components.
+-- One edge more: components, what is joined without a vertex, and the edge between two components.
 use mathlib.Core.Bool.{true, false, _&&_, _||_}
 use mathlib.Core.Logic.{_⊎_, inl, inr, Equivalence}
 use mathlib.Core.Path.{_≡_, refl, sym, _∙_, ap, fun-ext}
 use Prim.Native.Nat.{ℕ, _<_}
-use native.Mathlib.Omega.{arith}
-use lib.Dec.{eqb}
 use Rattle.graph.specs.Network.{Network, Edge, edge, edgeCount, touches, otherEnd, addEdge, nothing, without, joined}
 use Rattle.graph.specs.Groups.{component}
-use Rattle.graph.specs.Block.{block, link}
-use Rattle.graph.specs.BlockPath.{onBlock}
-use Rattle.graph.proofs.Truth.{true-or-false, not-both, bool-ext, eqb-eq, eq-eqb}
+use Rattle.graph.specs.Block.{block}
+use Rattle.graph.proofs.Truth.{true-or-false, not-both, bool-ext}
 use Rattle.graph.proofs.Labels.{merged, Merged, before, across, back, merged-ways, merged-least}
-use Rattle.graph.proofs.Joined.{joined-sym, joined-trans, joined-equivalence, joined-same-loss}
-use Rattle.graph.proofs.Joined.{edge-count-more, edge-old, edge-new, old-or-new, joined-old, joined-new-lost, joined-new-kept}
-use Rattle.graph.proofs.Block.{block-refl, block-sym, block-trans, link-block, block-least, block-below}
-use Rattle.graph.proofs.Ends.{LinkedAt, at-link, link-at, linked-swap, other-end-touches, other-end-ways, ends-component, joined-component}
-use Rattle.graph.proofs.BlockVertices.{on-block, block-on}
+use Rattle.graph.proofs.Joined.{joined-sym, joined-trans, joined-equivalence}
+use Rattle.graph.proofs.Joined.{edge-old, edge-new, old-or-new, joined-old, joined-new-lost, joined-new-kept}
+use Rattle.graph.proofs.Block.{block-equivalence, link-block, block-least}
+use Rattle.graph.proofs.Ends.{LinkedAt, at-link, link-at, linked-swap, other-end-touches, other-end-ways, ends-component}
+use Rattle.graph.proofs.Mates.{joined-component}
+use Rattle.graph.proofs.Grows.{joined-without-old, block-grows}
 
 -- the components of the new edge's ends become one, and no other changes
 pub component-edge-more : (g : Network) (e : Edge) (x y : ℕ)
@@ -37,13 +35,6 @@ component-edge-within g e h x y =
     (λ x y j. j) h x y (sym (component-edge-more g e x y) ∙ k))
     (joined-old g e nothing x y)
 
--- lost with one vertex: the old edges as before
-joined-without-old : (g : Network) (e : Edge) (c x y : ℕ)
-    → joined g (without (addEdge g e) c) x y ≡ joined g (without g c) x y
-unfolding without
-joined-without-old g e c =
-    joined-same-loss g (without (addEdge g e) c) (without g c) (λ s h. ap (λ f. touches f c) (edge-old g e s h))
-
 -- without an end of the new edge, it joins nothing
 pub joined-without-end : (g : Network) (e : Edge) (c x y : ℕ) → touches e c ≡ true
     → joined (addEdge g e) (without (addEdge g e) c) x y ≡ joined g (without g c) x y
@@ -58,61 +49,6 @@ unfolding without
 joined-without-other g e c x y t =
     joined-new-kept g e (without (addEdge g e) c) (ap (λ f. touches f c) (edge-new g e) ∙ t) x y
     ∙ ap (λ q. merged q (e .left) (e .right) x y) (fun-ext λ x. fun-ext λ y. joined-without-old g e c x y)
-
--- what was joined without a vertex stays so
-pub joined-without-grows : (g : Network) (e : Edge) (c x y : ℕ) → joined g (without g c) x y ≡ true
-    → joined (addEdge g e) (without (addEdge g e) c) x y ≡ true
-joined-without-grows g e c x y j = joined-old g e (without (addEdge g e) c) x y (joined-without-old g e c x y ∙ j)
-
--- an old edge is an edge of the network with one more
-pub old-below : (g : Network) (e : Edge) (s : ℕ) → s < edgeCount g → s < edgeCount (addEdge g e)
-old-below g e s h = omega (arith, edge-count-more g e)
-
--- and so is the new one
-pub new-below : (g : Network) (e : Edge) → edgeCount g < edgeCount (addEdge g e)
-new-below g e = omega (arith, edge-count-more g e)
-
-block-equivalence : (g : Network) → Equivalence (λ s t. block g s t ≡ true)
-block-equivalence g = record { refl = block-refl g; symm = block-sym g; trans = block-trans g }
-
-link-grows : (g : Network) (e : Edge) (s t : ℕ) → s < edgeCount g → t < edgeCount g → link g s t ≡ true
-    → link (addEdge g e) s t ≡ true
-link-grows g e s t h k l = let (c, m) = link-at g s t l in at-link (addEdge g e) c s t (go c m)
-  where
-    go : (c : ℕ) → LinkedAt g c s t → LinkedAt (addEdge g e) c s t
-    go c m =
-        record {
-          first = rw (edge-old g e s h) (m .first);
-          second = rw (edge-old g e t k) (m .second);
-          others = rw (edge-old g e s h, edge-old g e t k) (joined-without-grows g e c _ _ (m .others));
-        }
-
--- what shared a block still does
-pub block-grows : (g : Network) (e : Edge) (s t : ℕ) → block g s t ≡ true → block (addEdge g e) s t ≡ true
-block-grows g e =
-    block-least
-    (λ s t. block (addEdge g e) s t ≡ true)
-    (block-equivalence (addEdge g e))
-    g
-    (λ s t h k l. link-block (addEdge g e) s t (old-below g e s h) (old-below g e t k) (link-grows g e s t h k l))
-
--- what was on a block still is
-pub on-block-grows : (g : Network) (e : Edge) (s x : ℕ) → onBlock g s x ≡ true → onBlock (addEdge g e) s x ≡ true
-on-block-grows g e s x o =
-    let b = on-block g s x o in
-    block-on (addEdge g e) s (b .by) x (old-below g e (b .by) (b .known)) (block-grows g e s (b .by) (b .within))
-    (rw (edge-old g e (b .by) (b .known)) (b .at))
-
--- the next edge's number is a block alone
-pub block-next : (g : Network) (t : ℕ) → block g (edgeCount g) t ≡ eqb (edgeCount g) t
-block-next g t =
-    bool-ext (block g (edgeCount g) t) (eqb (edgeCount g) t)
-    (λ b. go (block-below g (edgeCount g) t b))
-    (λ q. rw (← eqb-eq (edgeCount g) t q) (block-refl g (edgeCount g)))
-  where
-    go : (edgeCount g ≡ t) ⊎ ((edgeCount g < edgeCount g) × (t < edgeCount g)) → eqb (edgeCount g) t ≡ true
-    go (inl q) = eq-eqb (edgeCount g) t q
-    go (inr k) = absurd (omega arith)
 
 -- an equivalence that holds of edges of one block, of two edges whose other ends the new edge joins without the vertex where they
 -- meet, and of the new edge and each edge that links with it, holds wherever blocks are one with one edge more

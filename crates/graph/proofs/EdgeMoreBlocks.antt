@@ -1,8 +1,8 @@
 -- One edge more within a component: the blocks of a block path between its ends and the new edge become one, and no other changes.
 use mathlib.Core.Bool.{Bool, true, false, _&&_, _||_, false≢true}
 use mathlib.Core.List.{List, [], _∷_}
-use mathlib.Core.Logic.{_⊎_, inl, inr, Equivalence}
-use mathlib.Core.Path.{_≡_, refl, sym, _∙_, subst}
+use mathlib.Core.Logic.{_⊎_, inl, inr}
+use mathlib.Core.Path.{_≡_, sym, _∙_, subst}
 use Prim.Native.Nat.{ℕ, _<_}
 use lib.Dec.{eqb}
 use Rattle.graph.specs.Network.{Network, Edge, edge, edgeCount, touches, otherEnd, addEdge, Proper, without, joined}
@@ -10,14 +10,16 @@ use Rattle.graph.specs.Cycle.{Step, anyStep}
 use Rattle.graph.specs.Block.{block}
 use Rattle.graph.specs.BlockPath.{onBlock, BlockPath}
 use Rattle.graph.proofs.Truth.{true-or-false, not-both, bool-ext, or-cases, or-left, or-right, or-neither-left, or-neither-right}
-use Rattle.graph.proofs.Truth.{and-left, and-right, and-both, eqb-eq, eqb-same, eq-eqb, eqb-swap}
+use Rattle.graph.proofs.Truth.{eqb-eq, eqb-same, eq-eqb, eqb-swap}
 use Rattle.graph.proofs.Joined.{edge-new, joined-refl, joined-sym, joined-trans}
-use Rattle.graph.proofs.Block.{block-refl, block-sym, block-trans, link-block}
+use Rattle.graph.proofs.Gathered.{gathered, gathered-ways, gathered-before, gathered-both, gathered-equivalence}
+use Rattle.graph.proofs.Block.{block-equivalence, block-refl, block-sym, block-trans, link-block}
 use Rattle.graph.proofs.Ends.{touches-left, touches-right, other-end-touches, other-end-differs, other-end-ways, at-link, ends-joined-without}
 use Rattle.graph.proofs.BlockVertices.{end-on-block, blocks-meet}
 use Rattle.graph.proofs.BlockPath.{visits, Onward, onward, stays, visits-none, visits-first, visits-later, start-fresh, visited-differs, end-visited, other-end-visited}
 use Rattle.graph.proofs.BlockPath.{path-outlives-vertex, later-outlives}
-use Rattle.graph.proofs.EdgeMore.{joined-without-grows, block-grows, on-block-grows, block-next, new-below, block-more-least}
+use Rattle.graph.proofs.Grows.{new-below, joined-without-grows, block-grows, on-block-grows, block-next}
+use Rattle.graph.proofs.EdgeMore.{block-more-least}
 
 -- edge t is in a block of the path
 abbrev pub onPath : Network → List Step → ℕ → Bool
@@ -79,7 +81,7 @@ joinsPath g ps s = eqb s (edgeCount g) || onPath g ps s
 
 -- what becomes one: the blocks of the path and the new edge
 abbrev pub condensed : Network → List Step → ℕ → ℕ → Bool
-condensed g ps s t = block g s t || (joinsPath g ps s && joinsPath g ps t)
+condensed g ps = gathered (block g) (joinsPath g ps)
 
 on-path-block : (g : Network) (ps : List Step) (s t : ℕ) → block g s t ≡ true → onPath g ps s ≡ true → onPath g ps t ≡ true
 unfolding anyStep
@@ -101,42 +103,6 @@ joins-path-block g ps s t b e = go (or-cases (eqb s (edgeCount g)) (onPath g ps 
         (eqb-swap t (edgeCount g) ∙ sym (block-next g t) ∙ (rw (eqb-eq s (edgeCount g) q) at b))
         (onPath g ps t)
     go (inr k) = or-right (eqb t (edgeCount g)) (on-path-block g ps s t b k)
-
--- two edges that become one block shared one, or both join the path
-condensed-ways : (g : Network) (ps : List Step) (s t : ℕ) → condensed g ps s t ≡ true
-    → (block g s t ≡ true) ⊎ ((joinsPath g ps s ≡ true) × (joinsPath g ps t ≡ true))
-condensed-ways g ps s t e = go (or-cases (block g s t) (joinsPath g ps s && joinsPath g ps t) e)
-  where
-    go : (block g s t ≡ true) ⊎ ((joinsPath g ps s && joinsPath g ps t) ≡ true)
-        → (block g s t ≡ true) ⊎ ((joinsPath g ps s ≡ true) × (joinsPath g ps t ≡ true))
-    go (inl b) = inl b
-    go (inr k) = inr (and-left (joinsPath g ps s) (joinsPath g ps t) k, and-right (joinsPath g ps s) (joinsPath g ps t) k)
-
-by-block : (g : Network) (ps : List Step) (s t : ℕ) → block g s t ≡ true → condensed g ps s t ≡ true
-by-block g ps s t b = or-left b (joinsPath g ps s && joinsPath g ps t)
-
-by-path : (g : Network) (ps : List Step) (s t : ℕ) → joinsPath g ps s ≡ true → joinsPath g ps t ≡ true → condensed g ps s t ≡ true
-by-path g ps s t h k = or-right (block g s t) (and-both h k)
-
-condensed-equivalence : (g : Network) (ps : List Step) → Equivalence (λ s t. condensed g ps s t ≡ true)
-condensed-equivalence g ps =
-    record {
-      refl = λ s. by-block g ps s s (block-refl g s);
-      symm = λ s t e. back s t (condensed-ways g ps s t e);
-      trans = λ s t u e f. over s t u (condensed-ways g ps s t e) (condensed-ways g ps t u f);
-    }
-  where
-    back : (s t : ℕ) → (block g s t ≡ true) ⊎ ((joinsPath g ps s ≡ true) × (joinsPath g ps t ≡ true)) → condensed g ps t s ≡ true
-    back s t (inl b) = by-block g ps t s (block-sym g s t b)
-    back s t (inr k) = by-path g ps t s (k .1) (k .0)
-
-    over : (s t u : ℕ) → (block g s t ≡ true) ⊎ ((joinsPath g ps s ≡ true) × (joinsPath g ps t ≡ true))
-        → (block g t u ≡ true) ⊎ ((joinsPath g ps t ≡ true) × (joinsPath g ps u ≡ true))
-        → condensed g ps s u ≡ true
-    over s t u (inl b) (inl c) = by-block g ps s u (block-trans g s t u b c)
-    over s t u (inl b) (inr k) = by-path g ps s u (joins-path-block g ps t s (block-sym g s t b) (k .0)) (k .1)
-    over s t u (inr k) (inl c) = by-path g ps s u (k .0) (joins-path-block g ps t u c (k .1))
-    over s t u (inr k) (inr l) = by-path g ps s u (k .0) (l .1)
 
 module _ (g : Network) (e : Edge) (r : Proper g) (r′ : Proper (addEdge g e)) where
   -- a block at the start of a path that leads to the path's end without the start, and so on at each vertex of the path, grows
@@ -212,7 +178,7 @@ module _ (g : Network) (e : Edge) (r : Proper g) (r′ : Proper (addEdge g e)) w
 
   condensed-grows : {ps : List Step} → BlockPath g (e .left) ps (e .right) → (s t : ℕ) → condensed g ps s t ≡ true
       → block (addEdge g e) s t ≡ true
-  condensed-grows {ps} path s t k = go (condensed-ways g ps s t k)
+  condensed-grows {ps} path s t k = go (gathered-ways (block g) (joinsPath g ps) s t k)
     where
       go : (block g s t ≡ true) ⊎ ((joinsPath g ps s ≡ true) × (joinsPath g ps t ≡ true)) → block (addEdge g e) s t ≡ true
       go (inl b) = block-grows g e s t b
@@ -225,11 +191,11 @@ module _ (g : Network) (e : Edge) (r : Proper g) (r′ : Proper (addEdge g e)) w
       → condensed g ps s t ≡ true
   unfolding joinsPath touches
   grows-condensed {ps} path =
-      block-more-least (λ s t. condensed g ps s t ≡ true) (condensed-equivalence g ps) g e
-      (by-block g ps)
+      block-more-least (λ s t. condensed g ps s t ≡ true) (gathered-equivalence (block g) (joinsPath g ps) (block-equivalence g) (joins-path-block g ps)) g e
+      (gathered-before (block g) (joinsPath g ps))
       (λ s t c h k f l n i j. between s t c h k f l n i j (true-or-false (visits c ps)))
       (λ t c k at-new l j.
-      by-path g ps (edgeCount g) t
+      gathered-both (block g) (joinsPath g ps) (edgeCount g) t
       (or-left (eqb-same (edgeCount g)) (onPath g ps (edgeCount g)))
       (or-right (eqb t (edgeCount g)) (at-end t c k l (other-end-ways e c at-new) j)))
     where
@@ -262,12 +228,12 @@ module _ (g : Network) (e : Edge) (r : Proper g) (r′ : Proper (addEdge g e)) w
           → (visits c ps ≡ true) ⊎ (visits c ps ≡ false)
           → condensed g ps s t ≡ true
       between s t c h k f l n i j (inl v) =
-          by-path g ps s t
+          gathered-both (block g) (joinsPath g ps) s t
           (or-right (eqb s (edgeCount g)) (to-start s c h f v i))
           (or-right (eqb t (edgeCount g))
           (to-end t c k l (eqb-swap c _ ∙ or-neither-right (eqb (e .left) c) (eqb (e .right) c) n) (inr v) (joined-sym g _ _ _ j)))
       between s t c h k f l n i j (inr v) =
-          by-block g ps s t
+          gathered-before (block g) (joinsPath g ps) s t
           (link-block g s t h k
           (at-link g c s t
           (record {

@@ -4,40 +4,19 @@ use mathlib.Core.Bool.{Bool, true, false, not, _&&_}
 use mathlib.Core.Logic.{_⊎_, inl, inr}
 use mathlib.Core.Path.{_≡_, refl, sym, _∙_, ap, ap₂, subst, fun-ext}
 use Prim.Native.Nat.{ℕ, _<_}
-use Rattle.graph.specs.Below.{allBelow}
 use Rattle.graph.specs.Network.{Network, Edge, Loss, edge, edgeCount, addEdge, MateRule, mates, nothing, lossOf, joined}
 use Rattle.graph.specs.Groups.{component, bridge, bridgeBlock}
-use Rattle.graph.proofs.Truth.{true-or-false, not-both, false-of-not, bool-ext, not-of-true, not-of-false, and-left, and-right, and-both}
-use Rattle.graph.proofs.Below.{all-below, each-below}
+use Rattle.graph.proofs.Truth.{true-or-false, not-both, false-of-not, bool-ext, not-of-true, not-of-false}
 use Rattle.graph.proofs.Labels.{merged, Merged, before, across, back, merged-ways, merged-true, merged-before, merged-least}
 use Rattle.graph.proofs.Joined.{joined-sym, joined-trans, joined-equivalence, joined-swap, joined-edge, joined-same-loss, edge-old, edge-new, old-or-new, joined-old, joined-new-lost, joined-new-kept}
-use Rattle.graph.proofs.Ends.{joined-component}
-use Rattle.graph.proofs.EdgeMore.{component-edge-within, old-below, new-below}
-use Rattle.graph.proofs.MateLoss.{mates-refl, mates-sym, mates-trans, mates-alike, mates-least, loss-merged, mates-old, joined-loss-old}
-
--- two vertices share a bridge-block exactly if they share a component and are joined whatever single edge's mates are lost
-pub record InBridgeBlock (g : Network) (x y : ℕ) : Type 0 where
-  pub share : component g x y ≡ true
-  pub outlive : (s : ℕ) → s < edgeCount g → joined g (lossOf g s) x y ≡ true
-
--- what it is to share a bridge-block
-pub bridge-block-parts : (g : Network) (x y : ℕ) → bridgeBlock g x y ≡ true → InBridgeBlock g x y
-unfolding bridgeBlock
-bridge-block-parts g x y b =
-    let A = allBelow (edgeCount g) (λ s. joined g (lossOf g s) x y) in
-    record {
-      share = and-left (component g x y) A b;
-      outlive = each-below (edgeCount g) (λ s. joined g (lossOf g s) x y) (and-right (component g x y) A b);
-    }
-
--- and that this is enough
-pub parts-bridge-block : (g : Network) (x y : ℕ) → InBridgeBlock g x y → bridgeBlock g x y ≡ true
-unfolding bridgeBlock
-parts-bridge-block g x y b =
-    and-both (b .share) (all-below (edgeCount g) (λ s. joined g (lossOf g s) x y) (b .outlive))
+use Rattle.graph.proofs.Grows.{old-below, new-below}
+use Rattle.graph.proofs.EdgeMore.{component-edge-within}
+use Rattle.graph.proofs.Mates.{mates-refl, mates-sym, mates-trans, mates-carry, loss-of-mates, joined-component}
+use Rattle.graph.proofs.BridgeBlock.{bridge-block-component, bridge-block-lasts, in-bridge-block}
+use Rattle.graph.proofs.MateLoss.{loss-merged, mates-old, joined-loss-old}
 
 -- a rule stays a rule with one edge more
-rule-more : (g : Network) (e : Edge) → MateRule (g .rule) → MateRule (addEdge g e .rule)
+pub rule-more : (g : Network) (e : Edge) → MateRule (g .rule) → MateRule (addEdge g e .rule)
 unfolding addEdge
 rule-more g e rule = rule
 
@@ -83,36 +62,28 @@ module _ (g : Network) (e : Edge) where
       → (R : ℕ → ℕ → Type 0) → ((x y : ℕ) → R x y → R y x) → R (edge g s .left) (edge g s .right) → R (e .left) (e .right)
   mate-joins rule s h m R w k =
       subst (λ f. R (f .left) (f .right)) (edge-new g e)
-      (mates-least (addEdge g e) (rule-more g e rule) R w s (edgeCount g) m
+      (mates-carry (addEdge g e) (rule-more g e rule) R w (edgeCount g) s (mates-sym (addEdge g e) (rule-more g e rule) s (edgeCount g) m)
       (subst (λ f. R (f .left) (f .right)) (sym (edge-old g e s h)) k))
 
   -- two vertices share a bridge-block as before if they share a component as before and each loss joins them as before
   bridge-block-same : (x y : ℕ)
-      → (InBridgeBlock (addEdge g e) x y → component g x y ≡ true)
+      → (bridgeBlock (addEdge g e) x y ≡ true → component g x y ≡ true)
       → (component g x y ≡ true → (s : ℕ) → s < edgeCount g
       → joined (addEdge g e) (lossOf (addEdge g e) s) x y ≡ joined g (lossOf g s) x y)
-      → (InBridgeBlock g x y → joined (addEdge g e) (lossOf (addEdge g e) (edgeCount g)) x y ≡ true)
+      → (bridgeBlock g x y ≡ true → joined (addEdge g e) (lossOf (addEdge g e) (edgeCount g)) x y ≡ true)
       → bridgeBlock (addEdge g e) x y ≡ bridgeBlock g x y
   unfolding component
-  bridge-block-same x y c f n = bool-ext (bridgeBlock (addEdge g e) x y) (bridgeBlock g x y) down up
+  bridge-block-same x y c f n =
+      bool-ext (bridgeBlock (addEdge g e) x y) (bridgeBlock g x y)
+      (λ b. in-bridge-block g x y (c b)
+      (λ s h. sym (f (c b) s h) ∙ bridge-block-lasts (addEdge g e) x y b s (old-below g e s h)))
+      (λ b. in-bridge-block (addEdge g e) x y (joined-old g e nothing x y (bridge-block-component g x y b))
+      (λ s h. each b s (old-or-new g e s h)))
     where
-      down : bridgeBlock (addEdge g e) x y ≡ true → bridgeBlock g x y ≡ true
-      down b =
-          let i = bridge-block-parts (addEdge g e) x y b in
-          parts-bridge-block g x y
-          (record { share = c i; outlive = λ s h. sym (f (c i) s h) ∙ i .outlive s (old-below g e s h) })
-
-      up : bridgeBlock g x y ≡ true → bridgeBlock (addEdge g e) x y ≡ true
-      up b =
-          parts-bridge-block (addEdge g e) x y
-          (record { share = joined-old g e nothing x y (i .share); outlive = λ s h. each s (old-or-new g e s h) })
-        where
-          i : InBridgeBlock g x y
-          i = bridge-block-parts g x y b
-
-          each : (s : ℕ) → (s < edgeCount g) ⊎ (s ≡ edgeCount g) → joined (addEdge g e) (lossOf (addEdge g e) s) x y ≡ true
-          each s (inl h) = f (i .share) s h ∙ i .outlive s h
-          each s (inr q) = rw q (n i)
+      each : bridgeBlock g x y ≡ true → (s : ℕ) → (s < edgeCount g) ⊎ (s ≡ edgeCount g)
+          → joined (addEdge g e) (lossOf (addEdge g e) s) x y ≡ true
+      each b s (inl h) = f (bridge-block-component g x y b) s h ∙ bridge-block-lasts g x y b s h
+      each b s (inr q) = rw q (n b)
 
 -- the new edge joins two components
 module _ (g : Network) (e : Edge) (rule : MateRule (g .rule)) (apart : component g (e .left) (e .right) ≡ false) where
@@ -163,9 +134,9 @@ module _ (g : Network) (e : Edge) (rule : MateRule (g .rule)) (apart : component
   pub bridge-block-between : (x y : ℕ) → bridgeBlock (addEdge g e) x y ≡ bridgeBlock g x y
   bridge-block-between x y =
       bridge-block-same g e x y
-      (λ i. sym (loss-new g e rule no-mate x y) ∙ i .outlive (edgeCount g) (new-below g e))
+      (λ b. sym (loss-new g e rule no-mate x y) ∙ bridge-block-lasts (addEdge g e) x y b (edgeCount g) (new-below g e))
       (λ c s h. loss-between s x y h c)
-      (λ i. loss-new g e rule no-mate x y ∙ i .share)
+      (λ b. loss-new g e rule no-mate x y ∙ bridge-block-component g x y b)
 
 -- the new edge has a mate
 module _ (g : Network) (e : Edge) (rule : MateRule (g .rule)) (t : ℕ) (known : t < edgeCount g)
@@ -202,7 +173,7 @@ module _ (g : Network) (e : Edge) (rule : MateRule (g .rule)) (t : ℕ) (known :
   unfolding lossOf
   loss-new-mate x y =
       joined-same-loss (addEdge g e) (lossOf (addEdge g e) (edgeCount g)) (lossOf (addEdge g e) t)
-      (λ u k. sym (mates-alike (addEdge g e) (rule-more g e rule) t (edgeCount g) u mate))
+      (λ u k. sym (loss-of-mates (addEdge g e) (rule-more g e rule) t (edgeCount g) mate u))
       x y
       ∙ loss-mate t x y known
 
@@ -228,9 +199,9 @@ module _ (g : Network) (e : Edge) (rule : MateRule (g .rule)) (t : ℕ) (known :
   unfolding component nothing
   bridge-block-mate x y =
       bridge-block-same g e x y
-      (λ i. sym (component-edge-within g e share x y) ∙ i .share)
+      (λ b. sym (component-edge-within g e share x y) ∙ bridge-block-component (addEdge g e) x y b)
       (λ c s h. loss-mate s x y h)
-      (λ i. loss-new-mate x y ∙ i .outlive t known)
+      (λ b. loss-new-mate x y ∙ bridge-block-lasts g x y b t known)
     where
       share : component g (e .left) (e .right) ≡ true
       share = mate-joins g e rule t known mate (λ x y. component g x y ≡ true) (joined-sym g nothing) (joined-edge g nothing t known refl)

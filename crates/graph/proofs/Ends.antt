@@ -8,7 +8,7 @@ use Rattle.graph.specs.Network.{Network, Edge, Loss, edge, edgeCount, to
 use Rattle.graph.specs.Groups.{component}
 use Rattle.graph.specs.Block.{linkAt, link}
 use Rattle.graph.proofs.Truth.{true-or-false, bool-ext, or-cases, or-left, or-right, or-neither, or-neither-left, or-neither-right, and-left, and-right, and-both, eqb-eq, eqb-same, eqb-swap}
-use Rattle.graph.proofs.Joined.{joined-refl, joined-sym, joined-trans, joined-swap, joined-edge, joined-least, joined-less-lost}
+use Rattle.graph.proofs.Joined.{joined-refl, joined-sym, joined-trans, joined-swap, joined-edge, joined-least}
 
 -- joined vertices are joined to the same vertices
 pub joined-from : (g : Network) (lost : Loss) (x y z : ℕ) → joined g lost x y ≡ true → joined g lost x z ≡ joined g lost y z
@@ -20,11 +20,6 @@ joined-from g lost x y z e =
 -- and to it the same vertices are joined
 pub joined-to : (g : Network) (lost : Loss) (x y z : ℕ) → joined g lost y z ≡ true → joined g lost x y ≡ joined g lost x z
 joined-to g lost x y z e = joined-swap g lost x y ∙ joined-from g lost y z x e ∙ joined-swap g lost z x
-
--- vertices that are joined in spite of a loss share a component
-pub joined-component : (g : Network) (lost : Loss) (x y : ℕ) → joined g lost x y ≡ true → component g x y ≡ true
-unfolding component nothing
-joined-component g lost = joined-less-lost g lost nothing (λ s h k. refl)
 
 -- an edge touches its left end
 pub touches-left : (e : Edge) → touches e (e .left) ≡ true
@@ -182,3 +177,7 @@ link-at g s t e = go (or-cases (linkAt g (edge g s .left) s t) (linkAt g (edge g
     go : (linkAt g (edge g s .left) s t ≡ true) ⊎ (linkAt g (edge g s .right) s t ≡ true) → (c : ℕ) × LinkedAt g c s t
     go (inl k) = (edge g s .left, linked-at g (edge g s .left) s t k)
     go (inr k) = (edge g s .right, linked-at g (edge g s .right) s t k)
+
+-- being linked is symmetric
+pub link-sym : (g : Network) (s t : ℕ) → link g s t ≡ true → link g t s ≡ true
+link-sym g s t e = let (c, l) = link-at g s t e in at-link g c t s (linked-swap g c s t l)

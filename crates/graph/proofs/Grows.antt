@@ -1,38 +1,32 @@
 -- One edge more: whatever shared a group still does, and until it is there its number is alone.
-use mathlib.Core.Bool.{true, false, _||_}
-use mathlib.Core.Logic.{_⊎_, inl, inr, Equivalence}
-use mathlib.Core.Path.{_≡_, _∙_, ap, ap₂}
+use mathlib.Core.Bool.{true, false}
+use mathlib.Core.Logic.{_⊎_, inl, inr}
+use mathlib.Core.Path.{_≡_, _∙_, ap}
 use Prim.Native.Nat.{ℕ, _<_}
 use native.Mathlib.Omega.{arith}
 use lib.Dec.{eqb}
 use Rattle.graph.specs.Below.{anyBelow}
 use Rattle.graph.specs.Network.{Network, Edge, MateRule, edgeCount, addEdge, touches, mates, nothing, lossOf, without, joined}
 use Rattle.graph.specs.Groups.{component, bridgeBlock}
-use Rattle.graph.specs.Block.{block}
+use Rattle.graph.specs.Block.{block, link}
+use Rattle.graph.specs.BlockPath.{onBlock}
 use Rattle.graph.proofs.Truth.{true-or-false, false-of-not, not-both, bool-ext, eqb-eq, eq-eqb}
 use Rattle.graph.proofs.Below.{any-below, some-below, Below}
 use Rattle.graph.proofs.Joined.{joined-less-lost, joined-same-loss, edge-count-more, edge-old, old-or-new, joined-old}
 use Rattle.graph.proofs.Mates.{loss-of-mates}
+use Rattle.graph.proofs.MateLoss.{joined-loss-old}
 use Rattle.graph.proofs.BridgeBlock.{bridge-block-component, bridge-block-lasts, in-bridge-block}
-use Rattle.graph.proofs.Block.{block-refl, block-sym, block-trans, link-block, block-least, block-below}
-use Rattle.graph.proofs.Links.{Link, link-parts, link-of-parts}
+use Rattle.graph.proofs.Ends.{LinkedAt, at-link, link-at}
+use Rattle.graph.proofs.Block.{block-equivalence, block-refl, link-block, block-least, block-below}
+use Rattle.graph.proofs.BlockVertices.{on-block, block-on}
 
--- sharing a block is an equivalence
-pub block-equivalence : (g : Network) → Equivalence (λ s t. block g s t ≡ true)
-block-equivalence g = record { refl = block-refl g; symm = block-sym g; trans = block-trans g }
+-- an old edge is an edge of the network with one more
+pub old-below : (g : Network) (e : Edge) (s : ℕ) → s < edgeCount g → s < edgeCount (addEdge g e)
+old-below g e s h = omega (arith, edge-count-more g e)
 
--- the next edge's number is a block alone
-pub block-next : (g : Network) (t : ℕ) → block g (edgeCount g) t ≡ eqb (edgeCount g) t
-block-next g t =
-    bool-ext
-    (block g (edgeCount g) t)
-    (eqb (edgeCount g) t)
-    (λ b. go (block-below g (edgeCount g) t b))
-    (λ q. rw (← eqb-eq (edgeCount g) t q) (block-refl g (edgeCount g)))
-  where
-    go : (edgeCount g ≡ t) ⊎ ((edgeCount g < edgeCount g) × (t < edgeCount g)) → eqb (edgeCount g) t ≡ true
-    go (inl q) = eq-eqb (edgeCount g) t q
-    go (inr k) = absurd (omega arith)
+-- and so is the new one
+pub new-below : (g : Network) (e : Edge) → edgeCount g < edgeCount (addEdge g e)
+new-below g e = omega (arith, edge-count-more g e)
 
 module _ (g : Network) (e : Edge) where
   -- what shared a component still does
@@ -40,18 +34,10 @@ module _ (g : Network) (e : Edge) where
   unfolding component
   component-grows = joined-old g e nothing
 
-  -- mates among the old edges stay as they were
-  pub mates-old : (s t : ℕ) → s < edgeCount g → t < edgeCount g → mates (addEdge g e) s t ≡ mates g s t
-  unfolding mates addEdge
-  mates-old s t h k = ap₂ (λ f i. eqb s t || g .rule f i) (edge-old g e s h) (edge-old g e t k)
-
   -- what outlived the loss of an old edge still does
   pub loss-grows : (s x y : ℕ) → s < edgeCount g → joined g (lossOf g s) x y ≡ true
       → joined (addEdge g e) (lossOf (addEdge g e) s) x y ≡ true
-  unfolding lossOf
-  loss-grows s x y h j =
-      joined-old g e (mates (addEdge g e) s) x y
-      (joined-same-loss g (mates (addEdge g e) s) (mates g s) (λ t k. mates-old s t h k) x y ∙ j)
+  loss-grows s x y h j = joined-old g e (lossOf (addEdge g e) s) x y (joined-loss-old g e s x y h ∙ j)
 
   -- what outlived the loss of every old edge outlives that of the new one: it is the loss of an old mate's, or of nothing old
   loss-of-new : MateRule (g .rule) → (x y : ℕ) → component g x y ≡ true
@@ -96,36 +82,53 @@ module _ (g : Network) (e : Edge) where
       each s (inl h) = loss-grows s x y h (bridge-block-lasts g x y b s h)
       each s (inr q) = rw q (loss-of-new r x y c (bridge-block-lasts g x y b))
 
-  -- what was joined without a vertex still is
-  pub without-grows : (c x y : ℕ) → joined g (without g c) x y ≡ true → joined (addEdge g e) (without (addEdge g e) c) x y ≡ true
-  unfolding without
-  without-grows c x y j =
-      joined-old g e (without (addEdge g e) c) x y
-      (joined-same-loss g (without (addEdge g e) c) (without g c) (λ s h. ap (λ f. touches f c) (edge-old g e s h)) x y ∙ j)
+-- without a vertex, the old edges join as before
+pub joined-without-old : (g : Network) (e : Edge) (c x y : ℕ)
+    → joined g (without (addEdge g e) c) x y ≡ joined g (without g c) x y
+unfolding without
+joined-without-old g e c =
+    joined-same-loss g (without (addEdge g e) c) (without g c) (λ s h. ap (λ f. touches f c) (edge-old g e s h))
 
-  link-grows : (s t : ℕ) → s < edgeCount g → t < edgeCount g → Link g s t → Link (addEdge g e) s t
-  link-grows s t h i k =
-      record {
-        meeting = k .meeting;
-        first = k .first;
-        second = k .second;
-        first-ends = rw (edge-old g e s h) (k .first-ends);
-        second-ends = rw (edge-old g e t i) (k .second-ends);
-        around = without-grows (k .meeting) (k .first) (k .second) (k .around);
-      }
+-- what was joined without a vertex stays so
+pub joined-without-grows : (g : Network) (e : Edge) (c x y : ℕ) → joined g (without g c) x y ≡ true
+    → joined (addEdge g e) (without (addEdge g e) c) x y ≡ true
+joined-without-grows g e c x y j = joined-old g e (without (addEdge g e) c) x y (joined-without-old g e c x y ∙ j)
 
-  -- what shared a block still does
-  pub block-grows : (s t : ℕ) → block g s t ≡ true → block (addEdge g e) s t ≡ true
-  block-grows =
-      block-least
-      (λ s t. block (addEdge g e) s t ≡ true)
-      (block-equivalence (addEdge g e))
-      g
-      (λ s t h i k.
-      link-block
-      (addEdge g e)
-      s
-      t
-      (omega (arith, edge-count-more g e))
-      (omega (arith, edge-count-more g e))
-      (link-of-parts (addEdge g e) s t (link-grows s t h i (link-parts g s t k))))
+link-grows : (g : Network) (e : Edge) (s t : ℕ) → s < edgeCount g → t < edgeCount g → link g s t ≡ true
+    → link (addEdge g e) s t ≡ true
+link-grows g e s t h k l = let (c, m) = link-at g s t l in at-link (addEdge g e) c s t (go c m)
+  where
+    go : (c : ℕ) → LinkedAt g c s t → LinkedAt (addEdge g e) c s t
+    go c m =
+        record {
+          first = rw (edge-old g e s h) (m .first);
+          second = rw (edge-old g e t k) (m .second);
+          others = rw (edge-old g e s h, edge-old g e t k) (joined-without-grows g e c _ _ (m .others));
+        }
+
+-- what shared a block still does
+pub block-grows : (g : Network) (e : Edge) (s t : ℕ) → block g s t ≡ true → block (addEdge g e) s t ≡ true
+block-grows g e =
+    block-least
+    (λ s t. block (addEdge g e) s t ≡ true)
+    (block-equivalence (addEdge g e))
+    g
+    (λ s t h k l. link-block (addEdge g e) s t (old-below g e s h) (old-below g e t k) (link-grows g e s t h k l))
+
+-- what was on a block still is
+pub on-block-grows : (g : Network) (e : Edge) (s x : ℕ) → onBlock g s x ≡ true → onBlock (addEdge g e) s x ≡ true
+on-block-grows g e s x o =
+    let b = on-block g s x o in
+    block-on (addEdge g e) s (b .by) x (old-below g e (b .by) (b .known)) (block-grows g e s (b .by) (b .within))
+    (rw (edge-old g e (b .by) (b .known)) (b .at))
+
+-- the next edge's number is a block alone
+pub block-next : (g : Network) (t : ℕ) → block g (edgeCount g) t ≡ eqb (edgeCount g) t
+block-next g t =
+    bool-ext (block g (edgeCount g) t) (eqb (edgeCount g) t)
+    (λ b. go (block-below g (edgeCount g) t b))
+    (λ q. rw (← eqb-eq (edgeCount g) t q) (block-refl g (edgeCount g)))
+  where
+    go : (edgeCount g ≡ t) ⊎ ((edgeCount g < edgeCount g) × (t < edgeCount g)) → eqb (edgeCount g) t ≡ true
+    go (inl q) = eq-eqb (edgeCount g) t q
+    go (inr k) = absurd (omega arith)

@@ -8,6 +8,7 @@ use Rattle.graph.specs.Network.{Network, Edge, Loss, Proper, edge, edgeC
 use Rattle.graph.specs.Cycle.{joins}
 use Rattle.graph.proofs.Truth.{or-right, and-both, eqb-eq, eqb-same, eqb-swap}
 use Rattle.graph.proofs.Joined.{joined-sym, joined-edge}
+use Rattle.graph.proofs.Mates.{parallel-carries}
 use Rattle.graph.proofs.Ends.{touches-left, touches-right}
 use Rattle.graph.proofs.Walks.{joins-ends, joins-ways, joins-swap, joins-least}
 
@@ -20,6 +21,12 @@ joins-elim P e f b x y j = go (joins-ways e x y j)
     go (inl (p, q)) = rw (← p, ← q) f
     go (inr (p, q)) = rw (← p, ← q) b
 
+-- whatever holds of two vertices, in whichever order, holds of the ends of an edge that joins them
+pub joins-carries : (P : ℕ → ℕ → Type 0) → ((x y : ℕ) → P x y → P y x) → (e : Edge) (x y : ℕ) → joins e x y ≡ true
+    → P x y → P (e .left) (e .right)
+unfolding joins parallel
+joins-carries P swap e x y h = parallel-carries P swap e (record { left = x; right = y }) h
+
 -- an edge joins its ends in both orders
 pub joins-back : (e : Edge) → joins e (e .right) (e .left) ≡ true
 joins-back e = joins-swap e (e .right) (e .left) ∙ joins-ends e
@@ -29,9 +36,9 @@ pub joins-touches : (e : Edge) (x y : ℕ) → joins e x y ≡ true → touches 
 joins-touches e = joins-elim (λ x y. touches e x ≡ true) e (touches-left e) (touches-right e)
 
 -- and no third
-pub touched-end : (e : Edge) (v x y : ℕ) → joins e x y ≡ true → touches e v ≡ true → (eqb x v || eqb y v) ≡ true
+pub touches-no-third : (e : Edge) (v x y : ℕ) → joins e x y ≡ true → touches e v ≡ true → (eqb x v || eqb y v) ≡ true
 unfolding touches
-touched-end e v x y j k =
+touches-no-third e v x y j k =
     joins-elim (λ x y. (eqb x v || eqb y v) ≡ true) e k (or-comm (eqb (e .right) v) (eqb (e .left) v) ∙ k) x y j
 
 -- an edge joins a vertex that it touches to its other end
@@ -63,9 +70,9 @@ parallel-joins e f p =
     (f .left) (f .right) p)
 
 -- an edge that is not lost joins the vertices at its ends
-pub joined-ends : (g : Network) (lost : Loss) (s : ℕ) → s < edgeCount g → lost s ≡ false
+pub joins-joined : (g : Network) (lost : Loss) (s : ℕ) → s < edgeCount g → lost s ≡ false
     → (x y : ℕ) → joins (edge g s) x y ≡ true → joined g lost x y ≡ true
-joined-ends g lost s h k = joins-least (λ x y. joined g lost x y ≡ true) (joined-sym g lost) (edge g s) (joined-edge g lost s h k)
+joins-joined g lost s h k = joins-least (λ x y. joined g lost x y ≡ true) (joined-sym g lost) (edge g s) (joined-edge g lost s h k)
 
 -- no edge of a proper network joins a vertex to itself
 pub joins-apart : (g : Network) → Proper g → (s : ℕ) → s < edgeCount g

@@ -2,6 +2,7 @@ pub mod Truth
 pub mod Below
 pub mod Labels
 pub mod LabelGroups
+pub mod Gathered
 pub mod Joined
 pub mod Walks
 pub mod VertexMore
@@ -19,6 +20,7 @@ pub mod Parting
 pub mod CutsBetween
 pub mod BridgesBetween
 pub mod Travel
+pub mod Never
 pub mod Block
 pub mod Links
 pub mod MateEdges
@@ -31,10 +33,13 @@ pub mod BlockVertices
 pub mod SharedBlock
 pub mod BlockPath
 pub mod PathCuts
+pub mod BridgeVertices
+pub mod PathBridges
+pub mod MateLoss
+pub mod Grows
 pub mod EdgeMore
 pub mod EdgeMoreBlocks
-pub mod MateLoss
 pub mod EdgeMoreBridges
-pub mod Grows
+pub mod EdgeMoreRings
+pub mod SecondRule
 pub mod Lengths
-pub mod Never

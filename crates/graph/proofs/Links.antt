@@ -5,7 +5,7 @@ use Prim.Native.Nat.{ℕ, _<_}
 use Rattle.graph.specs.Network.{Network, edge, edgeCount, otherEnd, parallel, without, joined}
 use Rattle.graph.specs.Cycle.{joins}
 use Rattle.graph.specs.Block.{link, block}
-use Rattle.graph.proofs.Joined.{joined-refl, joined-sym}
+use Rattle.graph.proofs.Joined.{joined-refl}
 use Rattle.graph.proofs.Block.{link-block}
 use Rattle.graph.proofs.Ends.{link-at, at-link}
 use Rattle.graph.proofs.Walks.{joins-ends}
@@ -43,18 +43,6 @@ link-of-parts g s t k =
       second = joins-touches (edge g t) c (k .second) (k .second-ends);
       others = rw (joins-other (edge g s) c (k .first) (k .first-ends), joins-other (edge g t) c (k .second) (k .second-ends)) (k .around);
     })
-
--- a link goes both ways
-pub turned-link : (g : Network) (s t : ℕ) → Link g s t → Link g t s
-turned-link g s t k =
-    record {
-      meeting = k .meeting;
-      first = k .second;
-      second = k .first;
-      first-ends = k .second-ends;
-      second-ends = k .first-ends;
-      around = joined-sym g (without g (k .meeting)) (k .first) (k .second) (k .around);
-    }
 
 -- linked edges share a block
 pub linked-edges-share-block : (g : Network) (s t : ℕ) → s < edgeCount g → t < edgeCount g → Link g s t → block g s t ≡ true

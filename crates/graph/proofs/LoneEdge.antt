@@ -12,7 +12,7 @@ use Rattle.graph.proofs.Truth.{true-or-false, false-of-not, not-both, b
 use Rattle.graph.proofs.Truth.{not-of-false, false-of-not-true, or-neither, eqb-eq, eqb-same, eqb-swap}
 use Rattle.graph.proofs.Joined.{joined-refl, joined-sym, joined-trans, joined-least}
 use Rattle.graph.proofs.Walks.{joins-ends, joins-swap, walk-joined}
-use Rattle.graph.proofs.Joins.{touched-end, joins-back, joined-ends}
+use Rattle.graph.proofs.Joins.{touches-no-third, joins-back, joins-joined}
 use Rattle.graph.proofs.Block.{block-sym}
 use Rattle.graph.proofs.Links.{linked-edges-share-block}
 use Rattle.graph.proofs.Steps.{any-more}
@@ -86,8 +86,8 @@ module _ (g : Network) (s : ℕ) (h : s < edgeCount g)
       on : eqb y a ≡ false → joined g (without g a) y b ≡ true
       on i =
           joined-trans g (without g a) y x b
-          (joined-ends g (without g a) e k
-          (false-of-not (touches (edge g e) a) (λ c. not-both (touched-end (edge g e) a x y j c) (or-neither not-x i)))
+          (joins-joined g (without g a) e k
+          (false-of-not (touches (edge g e) a) (λ c. not-both (touches-no-third (edge g e) a x y j c) (or-neither not-x i)))
           y x (joins-swap (edge g e) y x ∙ j))
           to-x
 

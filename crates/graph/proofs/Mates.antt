@@ -1,6 +1,6 @@
 -- Laws of mates, the edges that are lost together, and of components.
 use mathlib.Core.Bool.{true, false, _&&_}
-use mathlib.Core.Logic.{_⊎_, inl, inr, Equivalence}
+use mathlib.Core.Logic.{_⊎_, inl, inr, ⊎-elim, Equivalence}
 use mathlib.Core.Path.{_≡_, refl, sym, subst, subst₂}
 use Prim.Native.Nat.{ℕ, _<_}
 use lib.Dec.{eqb}
@@ -31,31 +31,30 @@ pub mates-refl : (g : Network) (s : ℕ) → mates g s s ≡ true
 unfolding mates
 mates-refl g s = or-left (eqb-same s) (g .rule (edge g s) (edge g s))
 
+-- mates are one edge, or the rule has them lost together
+pub mates-cases : (g : Network) (s t : ℕ) → mates g s t ≡ true → (s ≡ t) ⊎ (g .rule (edge g s) (edge g t) ≡ true)
+unfolding mates
+mates-cases g s t e = ⊎-elim (λ q. inl (eqb-eq s t q)) inr (or-cases (eqb s t) (g .rule (edge g s) (edge g t)) e)
+
+-- the rule makes mates
+pub rule-mates : (g : Network) (s t : ℕ) → g .rule (edge g s) (edge g t) ≡ true → mates g s t ≡ true
+unfolding mates
+rule-mates g s t e = or-right (eqb s t) e
+
 module _ (g : Network) (r : MateRule (g .rule)) where
-  -- a mate is the edge itself or one that the rule gives
-  mates-cases : (P : ℕ → Type 0) (s t : ℕ) → mates g s t ≡ true → P s → (g .rule (edge g s) (edge g t) ≡ true → P t) → P t
-  unfolding mates
-  mates-cases P s t h same other = go (or-cases (eqb s t) (g .rule (edge g s) (edge g t)) h)
-    where
-      go : (eqb s t ≡ true) ⊎ (g .rule (edge g s) (edge g t) ≡ true) → P t
-      go (inl e) = subst P (eqb-eq s t e) same
-      go (inr e) = other e
-
-  rule-mates : (s t : ℕ) → g .rule (edge g s) (edge g t) ≡ true → mates g s t ≡ true
-  unfolding mates
-  rule-mates s t e = or-right (eqb s t) e
-
   -- being mates is symmetric
   pub mates-sym : (s t : ℕ) → mates g s t ≡ true → mates g t s ≡ true
-  mates-sym s t h = mates-cases (λ u. mates g u s ≡ true) s t h (mates-refl g s)
-      (λ e. rule-mates t s (r .symmetric (edge g s) (edge g t) e))
+  mates-sym s t h =
+      ⊎-elim (λ q. rw q (mates-refl g t)) (λ k. rule-mates g t s (r .symmetric (edge g s) (edge g t) k)) (mates-cases g s t h)
 
   -- being mates is transitive
   pub mates-trans : (s t u : ℕ) → mates g s t ≡ true → mates g t u ≡ true → mates g s u ≡ true
-  mates-trans s t u h k = mates-cases (λ v. mates g s v ≡ true) t u k h (λ e.
-      mates-cases (λ v. g .rule (edge g v) (edge g u) ≡ true → mates g s u ≡ true) s t h
-      (λ f. rule-mates s u f)
-      (λ d f. rule-mates s u (r .transitive (edge g s) (edge g t) (edge g u) d f)) e)
+  mates-trans s t u h k = go (mates-cases g s t h) (mates-cases g t u k)
+    where
+      go : (s ≡ t) ⊎ (g .rule (edge g s) (edge g t) ≡ true) → (t ≡ u) ⊎ (g .rule (edge g t) (edge g u) ≡ true) → mates g s u ≡ true
+      go (inl q) e = rw q k
+      go (inr e) (inl q) = rw q at h
+      go (inr e) (inr f) = rule-mates g s u (r .transitive (edge g s) (edge g t) (edge g u) e f)
 
   -- being mates is an equivalence
   pub mates-equivalence : Equivalence (λ s t. mates g s t ≡ true)
@@ -74,9 +73,10 @@ module _ (g : Network) (r : MateRule (g .rule)) where
   -- whatever holds of a mate's two ends, in whichever order, holds of the edge's own
   pub mates-carry : (P : ℕ → ℕ → Type 0) → ((x y : ℕ) → P x y → P y x) → (s t : ℕ) → mates g s t ≡ true
       → P (edge g t .left) (edge g t .right) → P (edge g s .left) (edge g s .right)
-  mates-carry P swap s t h =
-      mates-cases (λ u. P (edge g u .left) (edge g u .right) → P (edge g s .left) (edge g s .right)) s t h (λ p. p)
-      (λ e. parallel-carries P swap (edge g s) (edge g t) (r .only-parallel (edge g s) (edge g t) e))
+  mates-carry P swap s t h p =
+      ⊎-elim (λ q. subst (λ u. P (edge g u .left) (edge g u .right)) (sym q) p)
+      (λ e. parallel-carries P swap (edge g s) (edge g t) (r .only-parallel (edge g s) (edge g t) e) p)
+      (mates-cases g s t h)
 
   -- a mate that is not lost joins the ends of the edge
   pub joined-by-mate : (lost : Loss) (s t : ℕ) → t < edgeCount g → lost t ≡ false → mates g s t ≡ true

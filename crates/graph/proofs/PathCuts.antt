@@ -1,29 +1,23 @@
 -- The cut vertices between the ends of a block path are the vertices between them on the path, in its order.
 use mathlib.Core.Bool.{Bool, true, false, not, _&&_, _||_, and-false}
 use mathlib.Core.List.{List, [], _∷_}
-use mathlib.Core.Logic.{_⊎_, inl, inr, ⊎-elim}
+use mathlib.Core.Logic.{_⊎_, inl, inr}
 use mathlib.Core.Path.{_≡_, refl, sym, _∙_, ap}
 use Prim.Native.Nat.{ℕ}
-use lib.Dec.{eqb, ltb}
-use Rattle.graph.specs.Lists.{allIn, isIn, distinct, ordered}
-use Rattle.graph.specs.Network.{Network, without, joined, Proper}
+use lib.Dec.{eqb}
+use Rattle.graph.specs.Lists.{isIn, distinct, ordered}
+use Rattle.graph.specs.Network.{Network, Loss, without, joined, Proper}
 use Rattle.graph.specs.Groups.{parts}
 use Rattle.graph.specs.Cycle.{Step, anyStep}
-use Rattle.graph.specs.Between.{isCutBetween, cutBefore}
+use Rattle.graph.specs.Between.{isCutBetween, cutBefore, cutsBetween}
 use Rattle.graph.specs.BlockPath.{BlockPath}
-use Rattle.graph.proofs.Truth.{true-or-false, not-both, false-of-not, bool-ext, or-left, or-right, or-neither}
-use Rattle.graph.proofs.Truth.{not-of-false, false-of-not-true, and-left, and-right, and-both, eqb-eq, eqb-same, eq-eqb, eqb-swap, lt-ltb}
-use Rattle.graph.proofs.Joined.{joined-sym, joined-trans}
-use Rattle.graph.proofs.Ends.{lost-vertex-alone}
-use Rattle.graph.proofs.BlockPath.{visits, onward, stays, visits-none, visits-first, visits-later, start-fresh, visited-differs, end-visited}
-use Rattle.graph.proofs.BlockPath.{path-component, visited-known, path-outlives-vertex, later-outlives, behind-start, path-parts-at-vertex}
-
--- every number of a list passes a test if each that stands in it does
-all-in : (f : ℕ → Bool) (xs : List ℕ) → ((x : ℕ) → isIn x xs ≡ true → f x ≡ true) → allIn f xs ≡ true
-unfolding allIn isIn
-all-in f [] h = refl
-all-in f (x ∷ xs) h =
-    and-both (h x (or-left (eqb-same x) (isIn x xs))) (all-in f xs (λ y k. h y (or-right (eqb y x) k)))
+use Rattle.graph.proofs.Truth.{true-or-false, not-both, or-neither}
+use Rattle.graph.proofs.Truth.{not-of-false, false-of-not-true, and-left, and-right, and-both, eqb-eq, eqb-swap}
+use Rattle.graph.proofs.Joined.{joined-trans}
+use Rattle.graph.proofs.Members.{all-in}
+use Rattle.graph.proofs.CutsBetween.{joined-without, cuts-between-unique}
+use Rattle.graph.proofs.BlockPath.{visits, onward, stays, visits-later, start-fresh, visited-differs, end-visited}
+use Rattle.graph.proofs.BlockPath.{path-component, path-outlives-vertex, later-outlives, path-parts-at-vertex}
 
 -- the vertices that the steps start from
 unfoldable pub starts : ℕ → List Step → List ℕ
@@ -104,14 +98,6 @@ module _ (g : Network) (r : Proper g) where
           off (inl e) = rw (e, v)
           off (inr e) = rw (e, v, d, path-component path, path-outlives-vertex g r path c e v)
 
-  -- the list of the cut vertices between the ends, as it is searched, has exactly the vertices between them for members
-  pub inner-exact : {a b : ℕ} {ps : List Step} → BlockPath g a ps b → (c : ℕ)
-      → isIn c (inner ps) ≡ (ltb c (g .vertices) && isCutBetween g a b c)
-  inner-exact {a} {b} {ps} path c =
-      bool-ext (isIn c (inner ps)) (ltb c (g .vertices) && isCutBetween g a b c)
-      (λ m. and-both (lt-ltb c (g .vertices) (visited-known g r path c (inner-visited path c m))) (cut-on-path path c ∙ m))
-      (λ k. sym (cut-on-path path c) ∙ and-right (ltb c (g .vertices)) (isCutBetween g a b c) k)
-
   starts-ordered : {x b : ℕ} {ps : List Step} → BlockPath g x ps b → (a : ℕ)
       → ((d : ℕ) → visits d ps ≡ true → joined g (without g d) a x ≡ true) → ordered (cutBefore g a) (starts x ps) ≡ true
   unfolding starts ordered cutBefore anyStep
@@ -134,34 +120,17 @@ module _ (g : Network) (r : Proper g) where
   inner-ordered {ps = []} path = refl
   inner-ordered {a} {b} {ps = p ∷ ps} path = starts-ordered (onward path .rest) a (later-outlives g r (onward path))
 
-  -- of two vertices on a block path, one is still joined to its end without the other
-  later-apart : {a b : ℕ} {ps : List Step} → BlockPath g a ps b → (c d : ℕ) → visits c ps ≡ true → visits d ps ≡ true
-      → eqb c d ≡ false → (joined g (without g c) d b ≡ true) ⊎ (joined g (without g d) c b ≡ true)
-  later-apart {ps = []} path c d v w n = absurd (not-both v (visits-none c))
-  later-apart {a} {b} {ps = p ∷ ps} path c d v w n =
-      go (visits-first c p ps v) (visits-first d p ps w) (λ v w. later-apart (onward path .rest) c d v w n)
-    where
-      go : (p .to ≡ c) ⊎ (visits c ps ≡ true) → (p .to ≡ d) ⊎ (visits d ps ≡ true)
-          → (visits c ps ≡ true → visits d ps ≡ true → (joined g (without g c) d b ≡ true) ⊎ (joined g (without g d) c b ≡ true))
-          → (joined g (without g c) d b ≡ true) ⊎ (joined g (without g d) c b ≡ true)
-      go (inl p₁) (inl q) f = absurd (not-both (eq-eqb c d (sym p₁ ∙ q)) n)
-      go (inl q) (inr k) f = inl (rw q at (behind-start g r (onward path .rest) d k))
-      go (inr k) (inl q) f = inr (rw q at (behind-start g r (onward path .rest) c k))
-      go (inr k) (inr l) f = f k l
+  -- the cut vertices between the ends of a block path are the vertices between them on it, in its order
+  pub cuts-of-block-path : {a b : ℕ} {ps : List Step} → BlockPath g a ps b → cutsBetween g a b ≡ inner ps
+  cuts-of-block-path {a} {b} {ps} path =
+      sym (cuts-between-unique g a b r (inner ps) (λ c. sym (cut-on-path path c)) (inner-distinct path) (inner-ordered path))
 
-  -- no two come before one another
-  pub inner-asymmetric : {a b : ℕ} {ps : List Step} → BlockPath g a ps b → (c d : ℕ)
-      → isIn c (inner ps) ≡ true → isIn d (inner ps) ≡ true → cutBefore g a c d ≡ true → cutBefore g a d c ≡ false
-  unfolding cutBefore
-  inner-asymmetric {a} {b} {ps} path c d h k e =
-      false-of-not (joined g (without g c) a d) (λ j. go j (true-or-false (eqb c d)))
+  -- whatever is lost, the ends of a block path are joined only where its start is joined to every vertex on it
+  pub joined-through-path : {a b : ℕ} {ps : List Step} → BlockPath g a ps b → (lost : Loss) → joined g lost a b ≡ true
+      → (c : ℕ) → visits c ps ≡ true → joined g lost a c ≡ true
+  joined-through-path {a} {b} {ps} path lost j c v = go (true-or-false (joined g lost a c)) (true-or-false (eqb c b))
     where
-      parted : (x y : ℕ) → isIn x (inner ps) ≡ true → joined g (without g x) a y ≡ true → joined g (without g x) y b ≡ true → ⊥
-      parted x y m i j = not-both (joined-trans g _ a y b i j) (path-parts-at-vertex g r path x (inner-visited path x m) (inner-not-end path x m))
-
-      go : joined g (without g c) a d ≡ true → (eqb c d ≡ true) ⊎ (eqb c d ≡ false) → ⊥
-      go j (inl q) =
-          not-both
-          (eq-eqb d a (lost-vertex-alone g d a (joined-sym g _ a d (rw (eqb-eq c d q) at j))))
-          (visited-differs d a ps (inner-visited path d k) (start-fresh path))
-      go j (inr n) = ⊎-elim (parted c d h j) (parted d c k e) (later-apart path c d (inner-visited path c h) (inner-visited path d k) n)
+      go : (joined g lost a c ≡ true) ⊎ (joined g lost a c ≡ false) → (eqb c b ≡ true) ⊎ (eqb c b ≡ false) → joined g lost a c ≡ true
+      go (inl k) d = k
+      go (inr n) (inl q) = rw (eqb-eq c b q) j
+      go (inr n) (inr d) = absurd (not-both (joined-without g c lost a n b j) (path-parts-at-vertex g r path c v d))

@@ -1,39 +1,15 @@
 -- The block that two vertices share, as it is computed: the least edge at the first vertex whose block has the second.
-use mathlib.Core.Bool.{Bool, true, false, cond, _&&_, and-comm}
-use mathlib.Core.Logic.{_⊎_, inl, inr}
+use mathlib.Core.Bool.{true, false, _&&_, and-comm}
 use mathlib.Core.Option.{Option, none, some}
 use mathlib.Core.Path.{_≡_, refl, sym, _∙_, ap, subst}
-use Prim.Native.Nat.{ℕ, zero, suc, _<_}
-use native.Mathlib.Omega.{arith}
+use Prim.Native.Nat.{ℕ, _<_}
 use lib.Dec.{eqb}
-use Rattle.graph.specs.Below.{leastBelow}
 use Rattle.graph.specs.Network.{Network, edge, edgeCount, touches, Proper}
 use Rattle.graph.specs.Block.{block, atBoth, sharedBlock}
 use Rattle.graph.specs.BlockPath.{onBlock}
 use Rattle.graph.proofs.Truth.{not-both, false-of-not, and-left, and-right, and-both}
-use Rattle.graph.proofs.Below.{any-below-same, below-or-last}
+use Rattle.graph.proofs.Below.{any-below-same, Least, found, missing, least-below}
 use Rattle.graph.proofs.BlockVertices.{OnBlock, on-block, end-on-block, on-same-block, share-at-most-one-block}
-
--- what a search for the least number below n that passes the test has found
-pub data Least (n : ℕ) (p : ℕ → Bool) : Option ℕ → Type 0 where
-  found : (k : ℕ) → k < n → p k ≡ true → ((i : ℕ) → i < k → p i ≡ false) → Least n p (some k)
-  missing : ((i : ℕ) → i < n → p i ≡ false) → Least n p none
-
--- the search finds the least number that passes, and nothing where none does
-pub least-below : (n : ℕ) (p : ℕ → Bool) → Least n p (leastBelow n p)
-unfolding leastBelow
-least-below zero p = missing (λ i h. absurd (omega arith))
-least-below (suc n) p = go (leastBelow n p) (least-below n p) (p n) refl
-  where
-    go : (o : Option ℕ) → Least n p o → (b : Bool) → p n ≡ b
-        → Least (suc n) p (elim o [ some k ↦ some k | none ↦ cond b (some n) none ])
-    go _ (found k h t l) b e = found k (omega arith) t l
-    go _ (missing f) true e = found n (omega arith) e f
-    go _ (missing f) false e = missing (λ i h. last i (below-or-last n i h))
-      where
-        last : (i : ℕ) → (i < n) ⊎ (i ≡ n) → p i ≡ false
-        last i (inl l) = f i l
-        last i (inr d) = rw d e
 
 -- an edge of the shared block: at the first vertex, and with the second on its block
 at-both : (g : Network) (a b s : ℕ) → atBoth g a b s ≡ (touches (edge g s) a && onBlock g s b)

@@ -10,7 +10,7 @@ use Rattle.graph.specs.Cycle.{Step, leads, anyStep}
 use Rattle.graph.proofs.Truth.{false-of-not, not-both, or-left, or-right, or-cases, or-neither, or-neither-left, or-neither-right}
 use Rattle.graph.proofs.Truth.{eqb-same}
 use Rattle.graph.proofs.Walks.{FirstStep, leads-first, any-step-append, walk-joined}
-use Rattle.graph.proofs.Joins.{touched-end}
+use Rattle.graph.proofs.Joins.{touches-no-third}
 
 -- some step passes a test: it passes any weaker test
 pub any-more : (f h : Step → Bool) → ((q : Step) → f q ≡ true → h q ≡ true)
@@ -69,7 +69,7 @@ visits-touched g v x (p ∷ ps) c l e =
         → visits x (p ∷ ps) v ≡ true
     go (inl k) f r =
         sym (or-assoc (eqb x v) (eqb (p .to) v) (anyStep (λ q. eqb (q .to) v) ps))
-        ∙ or-left (touched-end (edge g (p .along)) v x (p .to) (f .over) k) (anyStep (λ q. eqb (q .to) v) ps)
+        ∙ or-left (touches-no-third (edge g (p .along)) v x (p .to) (f .over) k) (anyStep (λ q. eqb (q .to) v) ps)
     go (inr k) f r = or-right (eqb x v) (r k)
 
 -- a walk that does not come by v joins its start and its end without v

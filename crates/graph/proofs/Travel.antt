@@ -1,26 +1,27 @@
 -- Travelling order: whatever walk leads from a to b, it first meets the cut vertices between them, and first crosses the bridges
 -- between them, in the order of their lists.
-use mathlib.Core.Bool.{Bool, true, false, not}
-use mathlib.Core.List.{List, [], _∷_, map}
+use mathlib.Core.Bool.{Bool, true, false, not, _||_}
+use mathlib.Core.List.{List, [], _∷_}
 use mathlib.Core.Logic.{⊎-elim, _≢_}
 use mathlib.Core.Option.{Option, none, some}
-use mathlib.Core.Path.{_≡_, refl, sym, _∙_, subst}
+use mathlib.Core.Path.{_≡_, refl, sym, _∙_, ap, ap₂, subst}
 use Prim.Native.Nat.{ℕ, _<_}
 use lib.Dec.{eqb}
 use Rattle.graph.specs.Below.{anyBelow}
 use Rattle.graph.specs.Lists.{isIn, ordered}
-use Rattle.graph.specs.Network.{Network, Edge, Loss, Proper, MateRule, edge, parallel, touches, mates, lossOf, without, joined}
-use Rattle.graph.specs.Cycle.{Step, joins, leads}
+use Rattle.graph.specs.Network.{Network, Proper, MateRule, edge, touches, mates, lossOf, without, joined}
+use Rattle.graph.specs.Cycle.{Step, leads, anyStep}
 use Rattle.graph.specs.Between.{leastMate, isCutBetween, cutBefore, cutsBetween, isBridgeBetween, bridgeBefore, bridgesBetween}
 use Rattle.graph.specs.Travel.{firsts, visited, firstMate, crossed}
 use Rattle.graph.proofs.Truth.{true-or-false, false-of-not, not-both, not-of-false, and-both, or-neither-left, or-neither-right}
-use Rattle.graph.proofs.Truth.{eqb-eq, eqb-ne}
-use Rattle.graph.proofs.Below.{some-below}
-use Rattle.graph.proofs.Joined.{joined-refl, joined-sym, joined-trans, joined-edge}
+use Rattle.graph.proofs.Truth.{eqb-eq, eqb-ne, eqb-swap}
+use Rattle.graph.proofs.Below.{some-below, Least, found, missing, least-below}
+use Rattle.graph.proofs.Joined.{joined-refl, joined-trans}
 use Rattle.graph.proofs.Ends.{touches-left, touches-right, ends-joined}
-use Rattle.graph.proofs.Walks.{FirstStep, leads-first, leads-none, joins-least}
-use Rattle.graph.proofs.SharedBlock.{Least, found, missing, least-below}
-use Rattle.graph.proofs.Mates.{parallel-carries, mates-refl, mates-sym, mates-trans, mates-carry}
+use Rattle.graph.proofs.Walks.{FirstStep, leads-first, leads-none}
+use Rattle.graph.proofs.Joins.{joins-carries, joins-joined}
+use Rattle.graph.proofs.Steps.{visits, joined-around}
+use Rattle.graph.proofs.Mates.{mates-refl, mates-sym, mates-trans, mates-carry}
 use Rattle.graph.proofs.Sort.{strict-irreflexive}
 use Rattle.graph.proofs.Firsts.{except, except-passes, except-differs, is-in-firsts-all, distinct-firsts, ordered-firsts}
 use Rattle.graph.proofs.Parting.{parts-apart}
@@ -28,42 +29,24 @@ use Rattle.graph.proofs.CutsBetween.{kept-off, cut-between-parts, cut-b
 use Rattle.graph.proofs.BridgesBetween.{least-mates-differ, bridge-between-parts, bridge-between-least, bridge-between-known}
 use Rattle.graph.proofs.BridgesBetween.{bridges-between-no-mates, bridge-before-strict, bridges-between-unique}
 
--- whatever holds of two vertices, in whichever order, holds of the ends of an edge that joins them
-joins-carries : (P : ℕ → ℕ → Type 0) → ((x y : ℕ) → P x y → P y x) → (e : Edge) (x y : ℕ) → joins e x y ≡ true
-    → P x y → P (e .left) (e .right)
-unfolding joins parallel
-joins-carries P swap e x y h = parallel-carries P swap e (record { left = x; right = y }) h
-
--- a step over an edge that is not lost joins
-joined-step : (g : Network) (lost : Loss) (v w : ℕ) (p : Step) (ps : List Step) → FirstStep g v p ps w → lost (p .along) ≡ false
-    → joined g lost v (p .to) ≡ true
-joined-step g lost v w p ps f k = joins-least (λ x y. joined g lost x y ≡ true) (joined-sym g lost) (edge g (p .along))
-    (joined-edge g lost (p .along) (f .known) k) v (p .to) (f .over)
+-- the vertices that a walk visits are those that it comes by
+is-in-visited : (c v : ℕ) (ps : List Step) → isIn c (visited v ps) ≡ visits v ps c
+unfolding visited isIn anyStep
+is-in-visited c v [] = ap (λ b. b || false) (eqb-swap c v)
+is-in-visited c v (p ∷ ps) = ap₂ _||_ (eqb-swap c v) (is-in-visited c (p .to) ps)
 
 module _ (g : Network) where
   -- a step between other vertices is not lost with vertex d
   joined-step-off : (d v w : ℕ) (p : Step) (ps : List Step) → FirstStep g v p ps w → d ≢ v → d ≢ p .to
       → joined g (without g d) v (p .to) ≡ true
-  joined-step-off d v w p ps f i j = joined-step g (without g d) v w p ps f
+  joined-step-off d v w p ps f i j = joins-joined g (without g d) (p .along) (f .known)
       (let q = joins-carries (λ x y. (d ≢ x) × (d ≢ y)) (λ x y r. (r .1, r .0)) (edge g (p .along)) v (p .to) (f .over) (i, j) in
-      kept-off g d (p .along) (λ e. q .0 (sym e)) (λ e. q .1 (sym e)))
+      kept-off g d (p .along) (λ e. q .0 (sym e)) (λ e. q .1 (sym e))) v (p .to) (f .over)
 
   -- a walk that does not visit vertex c is a walk without it
   pub joined-unvisited : (c : ℕ) (ps : List Step) (v w : ℕ) → leads g v ps w ≡ true → isIn c (visited v ps) ≡ false
       → joined g (without g c) v w ≡ true
-  unfolding visited isIn
-  joined-unvisited c [] v w l n =
-      subst (λ x. joined g (without g c) v x ≡ true) (eqb-eq v w (sym (leads-none g v w) ∙ l)) (joined-refl g (without g c) v)
-  joined-unvisited c (p ∷ ps) v w l n = joined-trans g (without g c) v (p .to) w
-      (joined-step-off c v w p ps f (eqb-ne c v (or-neither-left (eqb c v) (isIn c (visited (p .to) ps)) n))
-      (eqb-ne c (p .to) (or-neither-left (eqb c (p .to)) (isIn c (map (λ r. r .to) ps)) later)))
-      (joined-unvisited c ps (p .to) w (f .later) later)
-    where
-      f : FirstStep g v p ps w
-      f = leads-first g v p ps w l
-
-      later : isIn c (visited (p .to) ps) ≡ false
-      later = or-neither-right (eqb c v) (isIn c (visited (p .to) ps)) n
+  joined-unvisited c ps v w l n = joined-around g c v ps w l (sym (is-in-visited c v ps) ∙ n)
 
   -- from a, a walk first meets any vertices in the order in which they come before one another
   visits-in-order : (a : ℕ) (ps : List Step) (q : ℕ → Bool) (v w : ℕ) → leads g v ps w ≡ true
@@ -124,7 +107,7 @@ module _ (g : Network) (r : MateRule (g .rule)) where
       go (missing n) = none-below s (λ t i e. not-both e (n t i))
 
   -- an edge whose first mate is not t is no mate of t
-  other-first-mate : (t s : ℕ) → leastMate g t ≡ true → t ≢ firstMate g s → mates g t s ≡ false
+  pub other-first-mate : (t s : ℕ) → leastMate g t ≡ true → t ≢ firstMate g s → mates g t s ≡ false
   other-first-mate t s e d = false-of-not (mates g t s) (λ m. not-both
       (mates-trans g r t s (firstMate g s) m (mates-sym g r (firstMate g s) s (first-mate g s)))
       (least-mates-differ g r t (firstMate g s) e (first-mate-least s) d))
@@ -136,8 +119,9 @@ module _ (g : Network) (r : MateRule (g .rule)) where
   joined-uncrossed t e [] v w l n =
       subst (λ x. joined g (lossOf g t) v x ≡ true) (eqb-eq v w (sym (leads-none g v w) ∙ l)) (joined-refl g (lossOf g t) v)
   joined-uncrossed t e (p ∷ ps) v w l n = joined-trans g (lossOf g t) v (p .to) w
-      (joined-step g (lossOf g t) v w p ps f (other-first-mate t (p .along) e
-      (eqb-ne t (firstMate g (p .along)) (or-neither-left (eqb t (firstMate g (p .along))) (isIn t (crossed g ps)) n))))
+      (joins-joined g (lossOf g t) (p .along) (f .known) (other-first-mate t (p .along) e
+      (eqb-ne t (firstMate g (p .along)) (or-neither-left (eqb t (firstMate g (p .along))) (isIn t (crossed g ps)) n)))
+      v (p .to) (f .over))
       (joined-uncrossed t e ps (p .to) w (f .later) (or-neither-right (eqb t (firstMate g (p .along))) (isIn t (crossed g ps)) n))
     where
       f : FirstStep g v p ps w
@@ -162,7 +146,7 @@ module _ (g : Network) (r : MateRule (g .rule)) where
 
       next : (t : ℕ) → q t ≡ true → t ≢ s → joined g (lossOf g t) a (p .to) ≡ true
       next t k d = joined-trans g (lossOf g t) a v (p .to) (h t k)
-          (joined-step g (lossOf g t) v w p ps f (other-first-mate t (p .along) (e t k) d))
+          (joins-joined g (lossOf g t) (p .along) (f .known) (other-first-mate t (p .along) (e t k) d) v (p .to) (f .over))
 
       Both : ℕ → ℕ → ℕ → Type 0
       Both t x y = (joined g (lossOf g t) a x ≡ true) × (joined g (lossOf g t) a y ≡ true)

@@ -12,7 +12,6 @@ pub mod Report
 pub mod Bytes
 pub mod Decode
 pub mod DecodeCount
-pub mod Tabulate
 pub mod SizedBook
 pub mod Notices
 pub mod NoticeOrder

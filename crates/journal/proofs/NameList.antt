@@ -22,7 +22,8 @@ use Rattle.journal.specs.Step.{after, spanAnswer, meshAnswer, answer}
 use Rattle.journal.specs.NameList.{Named, NameList, noNames, setName, setNameOf, applyNotices, addCabinetNamed, addSpanNamed, hear, hearAll, named, namesOf}
 use Rattle.journal.proofs.SizedBook.{SizedBook, length-snoc, sized-after}
 use Rattle.journal.proofs.Notices.{changed}
-use Rattle.journal.proofs.Tabulate.{tabulate-same, map-tabulate, is-in-listed}
+use Rattle.graph.proofs.Members.{is-in-listed}
+use Rattle.naming.proofs.Listed.{tabulate-same, map-tabulate}
 
 -- the numbers below n, each with the name that a function gives it
 abbrev entries : ℕ → (ℕ → ℕ) → List Named

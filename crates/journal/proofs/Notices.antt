@@ -15,7 +15,7 @@ use Rattle.naming.specs.Book.{Book}
 use Rattle.journal.specs.Answer.{Kind, district, ring, mesh, Notice, changes, notices}
 use Rattle.journal.specs.WholeRun.{EachNotice, sameKind, itemsOf}
 use Rattle.journal.proofs.SizedBook.{SizedBook, namesIn, sized-names}
-use Rattle.journal.proofs.Tabulate.{is-in-listed}
+use Rattle.graph.proofs.Members.{is-in-listed}
 
 -- the item's name is another now
 abbrev pub differs : List ℕ → List ℕ → ℕ → Bool

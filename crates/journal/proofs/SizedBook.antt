@@ -11,7 +11,7 @@ use Rattle.journal.specs.Command.{Command, addition}
 use Rattle.journal.specs.Answer.{Kind, district, ring, mesh}
 use Rattle.journal.specs.Step.{after}
 use Rattle.journal.specs.WholeRun.{itemsOf}
-use Rattle.journal.proofs.Tabulate.{length-tabulate}
+use Rattle.naming.proofs.Listed.{length-tabulate}
 
 -- the book has a name of each kind for each item
 pub record SizedBook (b : Book) : Type 0 where

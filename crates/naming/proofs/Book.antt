@@ -13,7 +13,8 @@ use Rattle.graph.proofs.Joined.{edge-count-more}
 use Rattle.graph.proofs.Mates.{component-refl, component-sym, component-trans}
 use Rattle.graph.proofs.BridgeBlock.{bridge-block-equivalence}
 use Rattle.graph.proofs.VertexMore.{component-vertex-more, bridge-block-vertex-more, block-vertex-more, component-alone, bridge-block-alone, proper-vertex-more}
-use Rattle.graph.proofs.Grows.{block-equivalence, block-next, component-grows, bridge-block-grows, block-grows}
+use Rattle.graph.proofs.Block.{block-equivalence}
+use Rattle.graph.proofs.Grows.{block-next, component-grows, bridge-block-grows, block-grows}
 use Rattle.naming.specs.Rename.{Grouping, rename}
 use Rattle.naming.specs.Book.{Book, emptyBook, enterVertex, enterEdge}
 use Rattle.naming.proofs.Equivalent.{Equivalent, Finer, equivalent-of}
