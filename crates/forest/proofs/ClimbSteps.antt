@@ -1,0 +1,117 @@
+-- The models of climbing and joining, taken one step at a time: where a climb stays, where it goes on, how many of the left side's steps
+-- are kept, and how the right side's steps are put behind them.
+use mathlib.Core.Bool.{Bool, true, false, cond, _&&_, not}
+use mathlib.Core.List.{List}
+use mathlib.Core.Logic.{_≢_}
+use mathlib.Core.Path.{_≡_, refl}
+use Prim.Native.Nat.{ℕ, zero, suc, _+_, _-_, _≤_}
+use native.Mathlib.Omega.{arith}
+use native.Mathlib.Numerals.{sub-one}
+use lib.Dec.{eqb}
+use Rattle.graph.proofs.Truth.{eq-eqb, ne-eqb}
+use Rattle.forest.specs.declared.table.Capacities.{Capacities}
+use Rattle.forest.specs.declared.table.Vertex.{Vertex}
+use Rattle.forest.specs.declared.climb.Trail.{Trail}
+use Rattle.forest.specs.Climb.{upOf, blockOf, pathEdge, rightEdge, aboveEdge, rightDeeper, climbing, recordTable, recordTrail}
+use Rattle.forest.specs.Climb.{Climbed, climbFrom, blockTable, blockTrail, sameLast, keptLeft, joinOne, joinFrom, reach}
+
+cond-same : (b : Bool) (x : Climbed) → cond b x x ≡ x
+cond-same true x = refl
+cond-same false x = refl
+
+cond-number : (b : Bool) (x y : Vertex) → cond b x y .0 ≡ cond b (x .0) (y .0)
+cond-number true x y = refl
+cond-number false x y = refl
+
+-- writing down a step makes the two sides one step longer
+pub recorded-steps : (r next : Trail) (v : ℕ) (right : Bool) → next ≡ recordTrail r v right → next .left + next .right ≡ r .left + r .right + 1
+unfolding recordTrail
+recorded-steps r next v true e = rw e (omega arith)
+recorded-steps r next v false e = rw e (omega arith)
+
+module _ (t : List ℕ) (caps : Capacities) (r : Trail) where
+  -- a climb with no steps left stays
+  pub climb-none : (k : ℕ) → k ≡ 0 → climbFrom k t caps r ≡ record { table = t; trail = r }
+  unfolding climbFrom
+  climb-none k e = rw e
+
+  -- a climb whose sides have met stays
+  pub climb-met : (k : ℕ) → r .a .0 ≡ r .b .0 → climbFrom k t caps r ≡ record { table = t; trail = r }
+  unfolding climbFrom
+  climb-met zero e = refl
+  climb-met (suc k) e = rw (eq-eqb (r .a .0) (r .b .0) e)
+
+  -- a climb stays where the vertex to climb from is a root
+  pub climb-root : (k : ℕ) → upOf t caps (climbing t caps r) ≡ 0 → climbFrom k t caps r ≡ record { table = t; trail = r }
+  unfolding climbFrom
+  climb-root zero e = refl
+  climb-root (suc k) e = rw (eq-eqb (upOf t caps (climbing t caps r)) 0 e) (cond-same (eqb (r .a .0) (r .b .0)) _)
+
+  -- what stands above the vertex on the deeper side
+  pub climber-up : (right : Bool) (v : Vertex) (up : ℕ) → right ≡ rightDeeper t caps r → v ≡ cond right (r .b) (r .a) → up ≡ upOf t caps (v .0) →
+      up ≡ upOf t caps (climbing t caps r)
+  unfolding climbing
+  climber-up right v up d e h = rw (← d, ← cond-number right (r .b) (r .a), ← e) h
+
+  -- any other climb goes on with one step written down, along the edge above the vertex to climb from
+  climb-suc : (k : ℕ) → r .a .0 ≢ r .b .0 → upOf t caps (climbing t caps r) ≢ 0 →
+      climbFrom (suc k) t caps r ≡
+      climbFrom k
+      (recordTable t caps r (upOf t caps (climbing t caps r) - 1) (aboveEdge t caps (upOf t caps (climbing t caps r) - 1)) (rightDeeper t caps r))
+      caps
+      (recordTrail r (aboveEdge t caps (upOf t caps (climbing t caps r) - 1)) (rightDeeper t caps r))
+  unfolding climbFrom
+  climb-suc k d n = rw (ne-eqb (r .a .0) (r .b .0) d, ne-eqb (upOf t caps (climbing t caps r)) 0 n)
+
+  -- so it does what the climb from the block of that edge does
+  pub climb-table : (k : ℕ) → k ≢ 0 → r .a .0 ≢ r .b .0 → upOf t caps (climbing t caps r) ≢ 0 →
+      climbFrom k t caps r .table ≡ blockTable (k - 1) t caps r (upOf t caps (climbing t caps r) - 1) (rightDeeper t caps r)
+  unfolding blockTable
+  climb-table zero z d n = absurd (z refl)
+  climb-table (suc k) z d n = rw (climb-suc k d n, sub-one (suc k))
+
+  pub climb-trail : (k : ℕ) → k ≢ 0 → r .a .0 ≢ r .b .0 → upOf t caps (climbing t caps r) ≢ 0 →
+      climbFrom k t caps r .trail ≡ blockTrail (k - 1) t caps r (upOf t caps (climbing t caps r) - 1) (rightDeeper t caps r)
+  unfolding blockTrail
+  climb-trail zero z d n = absurd (z refl)
+  climb-trail (suc k) z d n = rw (climb-suc k d n, sub-one (suc k))
+
+  -- the left side keeps all its steps where a side has none
+  pub kept-no-left : r .left ≡ 0 → r .left ≡ keptLeft t caps r
+  unfolding keptLeft sameLast
+  kept-no-left e = rw (eq-eqb (r .left) 0 e)
+
+  pub kept-no-right : r .right ≡ 0 → r .left ≡ keptLeft t caps r
+  unfolding keptLeft sameLast
+  kept-no-right e = rw (eq-eqb (r .right) 0 e) (go (not (eqb (r .left) 0)))
+    where
+      go : (b : Bool) → r .left ≡ cond (b && false && eqb (blockOf t caps (pathEdge t caps (r .left - 1))) (blockOf t caps (rightEdge t caps (r .right - 1)))) (r .left - 1) (r .left)
+      go true = refl
+      go false = refl
+
+  -- where both sides have steps, the left side's last step goes if the last steps of both are in one block
+  pub kept-both : r .left ≢ 0 → r .right ≢ 0 →
+      cond (eqb (blockOf t caps (pathEdge t caps (r .left - 1))) (blockOf t caps (rightEdge t caps (r .right - 1)))) (r .left - 1) (r .left) ≡ keptLeft t caps r
+  unfolding keptLeft sameLast
+  kept-both l m = rw (ne-eqb (r .left) 0 l, ne-eqb (r .right) 0 m)
+
+  -- it keeps no more steps than it has
+  pub kept-most : (kept : ℕ) → kept ≡ keptLeft t caps r → kept ≤ r .left
+  unfolding keptLeft
+  kept-most kept e = rw e (go (sameLast t caps r))
+    where
+      go : (b : Bool) → cond b (r .left - 1) (r .left) ≤ r .left
+      go true = omega arith
+      go false = omega arith
+
+-- joining the right side's steps begins with the last of them
+pub join-step : (k : ℕ) (t : List ℕ) (caps : Capacities) (at : ℕ) → k ≢ 0 →
+    joinFrom k t caps at ≡ joinFrom (k - 1) (joinOne t caps (k - 1) at) caps (at + 1)
+unfolding joinFrom
+join-step zero t caps at z = absurd (z refl)
+join-step (suc k) t caps at z = rw (sub-one (suc k))
+
+-- a climb has room for so many steps at most
+pub reach-most : (t : List ℕ) (caps : Capacities) (a b n : ℕ) → n ≡ reach t caps a b → n ≤ 2147483648
+unfolding reach
+reach-most t caps a b n e = rw e (omega arith)

@@ -1,0 +1,77 @@
+-- Lists of a function's values: their first entry, their members, and the groups of their entries.
+use mathlib.Core.Bool.{Bool, _||_}
+use mathlib.Core.List.{List, [], _∷_, _++_, map, List·Memᴰ, List·Memᴰ·head, Memᴰ·append-left, Memᴰ·append-right, List·Memᴰ·append-cases, List·Memᴰ·eq-of-singleton, List·Memᴰ·not-nil}
+use mathlib.Core.Logic.{_⊎_, inl, inr}
+use mathlib.Core.Path.{_≡_, refl, sym, _∙_, ap, ap₂}
+use Prim.Native.Nat.{ℕ, zero, suc, _+_, _<_}
+use native.Mathlib.Nat.{not-suc-le-zero}
+use native.Mathlib.Omega.{arith}
+use Rattle.graph.specs.Below.{tabulate}
+use Rattle.graph.specs.Cycle.{Step, anyStep}
+use Rattle.graph.proofs.Below.{below-or-last}
+use Rattle.naming.specs.Rename.{Grouping}
+use Rattle.naming.proofs.Listed.{tabulate-same}
+use Rattle.naming.proofs.Merge.{inMerged}
+use Rattle.forest.specs.declared.merge.Listing.{Listing}
+use Rattle.forest.specs.Merge.{itemOf, itemsFrom}
+
+-- the first entry of a list of values, and the others
+pub tabulate-first {ℓ} : {A : Type ℓ} (k : ℕ) (f : ℕ → A) → tabulate (suc k) f ≡ f 0 ∷ tabulate k (λ i. f (suc i))
+unfolding tabulate
+tabulate-first zero f = refl
+tabulate-first (suc k) f = ap (λ l. l ++ f (suc k) ∷ []) (tabulate-first k f)
+
+-- a function of the values
+pub map-tabulate : {A B : Type 0} (h : A → B) (k : ℕ) (f : ℕ → A) → map h (tabulate k f) ≡ tabulate k (λ i. h (f i))
+unfolding tabulate
+map-tabulate h zero f = refl
+map-tabulate h (suc k) f = map-append (tabulate k f) ∙ ap (λ l. l ++ h (f k) ∷ []) (map-tabulate h k f)
+  where
+    map-append : (l : List _) → map h (l ++ f k ∷ []) ≡ map h l ++ h (f k) ∷ []
+    map-append [] = refl
+    map-append (x ∷ l) = ap (λ l. h x ∷ l) (map-append l)
+
+-- Where an entry of the list of values stands.
+pub record Entry (k : ℕ) (f : ℕ → ℕ) (z : ℕ) : Type 0 where
+  pub at : ℕ
+  pub below : at < k
+  pub is : z ≡ f at
+
+-- a member is a value
+pub entry : (k : ℕ) (f : ℕ → ℕ) (z : ℕ) → List·Memᴰ z (tabulate k f) → Entry k f z
+unfolding tabulate
+entry zero f z m = absurd (List·Memᴰ·not-nil m)
+entry (suc k) f z m = go (entry k f z) (List·Memᴰ·append-cases (tabulate k f) m)
+  where
+    more : Entry k f z → Entry (suc k) f z
+    more e = record { at = e .at; below = omega (arith, e .below); is = e .is }
+
+    go : (List·Memᴰ z (tabulate k f) → Entry k f z) → List·Memᴰ z (tabulate k f) ⊎ List·Memᴰ z (f k ∷ []) → Entry (suc k) f z
+    go r (inl l) = more (r l)
+    go r (inr l) = record { at = k; below = omega arith; is = List·Memᴰ·eq-of-singleton l }
+
+-- a value is a member
+pub value-member : (k : ℕ) (f : ℕ → ℕ) (i : ℕ) → i < k → List·Memᴰ (f i) (tabulate k f)
+unfolding tabulate
+value-member zero f i h = absurd (not-suc-le-zero h)
+value-member (suc k) f i h = go (value-member k f i) (below-or-last k i h)
+  where
+    go : (i < k → List·Memᴰ (f i) (tabulate k f)) → (i < k) ⊎ (i ≡ k) → List·Memᴰ (f i) (tabulate k f ++ f k ∷ [])
+    go r (inl l) = Memᴰ·append-left (f k ∷ []) (r l)
+    go r (inr e) = Memᴰ·append-right (tabulate k f) (List·Memᴰ·head (ap f e))
+
+-- the items of a listing
+pub items-tabulate : (t : List ℕ) (l : Listing) (i k : ℕ) → itemsFrom t l i k ≡ tabulate k (λ j. itemOf t l (i + j))
+unfolding itemsFrom tabulate
+items-tabulate t l i zero = refl
+items-tabulate t l i (suc k) =
+    ap₂ _∷_ (ap (itemOf t l) (omega arith))
+    (items-tabulate t l (suc i) k ∙ tabulate-same k _ _ (λ j h. ap (itemOf t l) (omega arith)))
+    ∙ sym (tabulate-first k (λ j. itemOf t l (i + j)))
+
+-- the groups of what the steps of a path give
+pub in-merged-steps : (groups : Grouping) (h : Step → ℕ) (ps : List Step) (x : ℕ)
+    → inMerged groups (map h ps) x ≡ anyStep (λ p. groups (h p) x) ps
+unfolding inMerged anyStep
+in-merged-steps groups h [] x = refl
+in-merged-steps groups h (p ∷ ps) x = ap (λ (b : Bool). groups (h p) x || b) (in-merged-steps groups h ps x)

@@ -1,0 +1,163 @@
+-- Tables that differ in some columns only.
+use mathlib.Core.Bool.{Bool, true, false, _||_}
+use mathlib.Core.List.{List, [], _∷_}
+use mathlib.Core.Path.{_≡_, refl, sym, _∙_, ap, subst}
+use Prim.Native.Nat.{ℕ, zero, suc, _+_, _*_, _≤_, _<_}
+use native.Mathlib.Nat.{mul-le-mul-right}
+use native.Mathlib.Omega.{arith}
+use lib.Dec.{eqb}
+use lib.ListN.{length, getD}
+use Rattle.graph.proofs.Truth.{not-both}
+use Rattle.forest.specs.declared.table.Capacities.{Capacities}
+use Rattle.forest.specs.Layout.{place, cell, put, vertexArea, bridgeBlockArea, edgeArea}
+use Rattle.forest.specs.Climb.{blockOf, aboveEdge}
+use Rattle.forest.specs.Tree.{newGroup}
+use Rattle.forest.proofs.Cells.{length-put, cell-put-other-column, getD-put-outside, cell-edge-after-vertex, cell-vertex-after-edge, cell-bridge-block, put-bridge-block}
+use Rattle.forest.proofs.MergeKept.{Kept}
+use Rattle.forest.proofs.KindWords.{SameWords}
+
+-- Column c is among those listed.
+abbrev pub among : List ℕ → ℕ → Bool
+among [] c = false
+among (d ∷ ds) c = eqb c d || among ds c
+
+-- The second table has the words of the first, but for the listed columns of vertices and of edges.
+pub record Frame (caps : Capacities) (vs es : List ℕ) (t t′ : List ℕ) : Type 0 where
+  pub same-length : length t′ ≡ length t
+  pub vertex-word : (c x : ℕ) → c < 24 → x < caps .vertices → among vs c ≡ false
+      → cell t′ (vertexArea caps) c x ≡ cell t (vertexArea caps) c x
+  pub edge-word : (d s : ℕ) → d < 8 → s < caps .edges → among es d ≡ false
+      → cell t′ (edgeArea caps) d s ≡ cell t (edgeArea caps) d s
+  pub beyond : (p : ℕ) → caps .vertices * 24 + caps .edges * 8 ≤ p → getD t′ p 0 ≡ getD t p 0
+
+module _ {caps : Capacities} {vs es : List ℕ} where
+  -- nothing stored
+  pub frame-none : {t : List ℕ} → Frame caps vs es t t
+  frame-none =
+      record {
+        same-length = refl;
+        vertex-word = λ c x h l o. refl;
+        edge-word = λ d s h l o. refl;
+        beyond = λ p h. refl;
+      }
+
+  infixl 60 _then_
+  -- one after another
+  pub _then_ : {t t′ t″ : List ℕ} → Frame caps vs es t t′ → Frame caps vs es t′ t″ → Frame caps vs es t t″
+  _then_ f g =
+      record {
+        same-length = g .same-length ∙ f .same-length;
+        vertex-word = λ c x h l o. g .vertex-word c x h l o ∙ f .vertex-word c x h l o;
+        edge-word = λ d s h l o. g .edge-word d s h l o ∙ f .edge-word d s h l o;
+        beyond = λ p h. g .beyond p h ∙ f .beyond p h;
+      }
+
+-- a column that is listed is none that is not
+pub other-column : (cs : List ℕ) (c d : ℕ) → among cs c ≡ true → among cs d ≡ false → c ≡ d → ⊥
+other-column cs c d h o e = not-both (subst (λ (k : ℕ). among cs k ≡ true) e h) o
+
+-- a word stored for a vertex
+pub frame-vertex : (caps : Capacities) (vs es : List ℕ) (t : List ℕ) (c x v : ℕ) → c < 24 → x < caps .vertices → among vs c ≡ true
+    → Frame caps vs es t (put t (vertexArea caps) c x v)
+frame-vertex caps vs es t c x v h l m =
+    record {
+      same-length = length-put t (vertexArea caps) c x v;
+      vertex-word = λ d y k i o. cell-put-other-column t (vertexArea caps) c x v d y l i (other-column vs c d m o);
+      edge-word = λ d s k i o. cell-edge-after-vertex caps t c x v d s h l;
+      beyond = λ p k.
+          getD-put-outside t (vertexArea caps) 24 c x v p h l (λ i j. omega arith);
+    }
+
+-- a word stored for an edge
+pub frame-edge : (caps : Capacities) (vs es : List ℕ) (t : List ℕ) (d s v : ℕ) → d < 8 → s < caps .edges → among es d ≡ true
+    → Frame caps vs es t (put t (edgeArea caps) d s v)
+frame-edge caps vs es t d s v h l m =
+    record {
+      same-length = length-put t (edgeArea caps) d s v;
+      vertex-word = λ c x k i o. cell-vertex-after-edge caps t d s v c x k i;
+      edge-word = λ c y k i o. cell-put-other-column t (edgeArea caps) d s v c y l i (other-column es d c m o);
+      beyond = λ p k.
+          getD-put-outside t (edgeArea caps) 8 d s v p h l (λ i j. omega arith);
+    }
+
+-- a new component of one vertex
+pub frame-component : (caps : Capacities) (vs es : List ℕ) (t : List ℕ) (x : ℕ) → x < caps .vertices
+    → among vs 0 ≡ true → among vs 1 ≡ true → among vs 2 ≡ true
+    → Frame caps vs es t (newGroup t (vertexArea caps) x)
+unfolding newGroup
+frame-component caps vs es t x l p q r =
+    frame-vertex caps vs es t 0 x x (omega arith) l p
+    then frame-vertex caps vs es _ 1 x 1 (omega arith) l q
+    then frame-vertex caps vs es _ 2 x _ (omega arith) l r
+
+-- a new bridge-block of one vertex
+pub frame-bridge-block : (caps : Capacities) (vs es : List ℕ) (t : List ℕ) (x : ℕ) → x < caps .vertices
+    → among vs 4 ≡ true → among vs 5 ≡ true → among vs 6 ≡ true
+    → Frame caps vs es t (newGroup t (bridgeBlockArea caps) x)
+unfolding newGroup
+frame-bridge-block caps vs es t x l p q r =
+    word t 0 x (omega arith) p then word _ 1 1 (omega arith) q then word _ 2 _ (omega arith) r
+  where
+    word : (t : List ℕ) (c v : ℕ) → 4 + c < 24 → among vs (4 + c) ≡ true → Frame caps vs es t (put t (bridgeBlockArea caps) c x v)
+    word t c v h m = rw (put-bridge-block caps t c x v) (frame-vertex caps vs es t (4 + c) x v h l m)
+
+-- a new block of one edge
+pub frame-block : (caps : Capacities) (vs es : List ℕ) (t : List ℕ) (s : ℕ) → s < caps .edges
+    → among es 0 ≡ true → among es 1 ≡ true → among es 2 ≡ true
+    → Frame caps vs es t (newGroup t (edgeArea caps) s)
+unfolding newGroup
+frame-block caps vs es t s l p q r =
+    frame-edge caps vs es t 0 s s (omega arith) l p
+    then frame-edge caps vs es _ 1 s 1 (omega arith) l q
+    then frame-edge caps vs es _ 2 s _ (omega arith) l r
+
+-- a merge of components stores in their four columns alone
+pub frame-merge : (caps : Capacities) (vs es : List ℕ) (t t′ : List ℕ) → Kept (vertexArea caps) t t′
+    → among vs 0 ≡ true → among vs 1 ≡ true → among vs 2 ≡ true → among vs 3 ≡ true
+    → Frame caps vs es t t′
+unfolding cell place
+frame-merge caps vs es t t′ k p q r s =
+    record {
+      same-length = k .same-length;
+      vertex-word = λ c x h l o. k .outside _ (λ i j. omega (arith, mul-le-mul-right (caps .vertices) (fourth c o)));
+      edge-word = λ d y h l o. k .outside _ (λ i j. omega arith);
+      beyond = λ z h. k .outside z (λ i j. omega arith);
+    }
+  where
+    fourth : (c : ℕ) → among vs c ≡ false → 4 ≤ c
+    fourth c o = omega (arith, other-column vs 0 c p o, other-column vs 1 c q o, other-column vs 2 c r o, other-column vs 3 c s o)
+
+by-three : (P : ℕ → Type 0) → P 0 → P 1 → P 2 → (c : ℕ) → c < 3 → P c
+by-three P p q r zero h = p
+by-three P p q r (suc zero) h = q
+by-three P p q r (suc (suc zero)) h = r
+by-three P p q r (suc (suc (suc c))) h = absurd (omega arith)
+
+module _ {caps : Capacities} {vs es : List ℕ} {t t′ : List ℕ} (f : Frame caps vs es t t′) where
+  -- components keep their words where their columns are not listed
+  pub same-components : (n : ℕ) → n ≤ caps .vertices → among vs 0 ≡ false → among vs 1 ≡ false → among vs 2 ≡ false
+      → SameWords t t′ (vertexArea caps) n
+  same-components n h p q r c x l k =
+      f .vertex-word c x (omega arith) (omega arith) (by-three (λ c. among vs c ≡ false) p q r c l)
+
+  -- so do bridge-blocks
+  pub same-bridge-blocks : (n : ℕ) → n ≤ caps .vertices → among vs 4 ≡ false → among vs 5 ≡ false → among vs 6 ≡ false
+      → SameWords t t′ (bridgeBlockArea caps) n
+  same-bridge-blocks n h p q r c x l k =
+      cell-bridge-block caps t′ c x
+      ∙ f .vertex-word (4 + c) x (omega arith) (omega arith) (by-three (λ c. among vs (4 + c) ≡ false) p q r c l)
+      ∙ sym (cell-bridge-block caps t c x)
+
+  -- and blocks
+  pub same-blocks : (m : ℕ) → m ≤ caps .edges → among es 0 ≡ false → among es 1 ≡ false → among es 2 ≡ false
+      → SameWords t t′ (edgeArea caps) m
+  same-blocks m h p q r c x l k =
+      f .edge-word c x (omega arith) (omega arith) (by-three (λ c. among es c ≡ false) p q r c l)
+
+  -- the vertex above an edge's block stays
+  pub same-above : (e : ℕ) → e < caps .edges → blockOf t caps e < caps .edges → among es 0 ≡ false → among es 5 ≡ false
+      → aboveEdge t′ caps e ≡ aboveEdge t caps e
+  unfolding aboveEdge
+  same-above e h l p q =
+      ap (cell t′ (edgeArea caps) 5) (f .edge-word 0 e (omega arith) h p)
+      ∙ f .edge-word 5 (blockOf t caps e) (omega arith) l q

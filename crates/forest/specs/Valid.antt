@@ -1,0 +1,84 @@
+-- When the words of a table are those of a network with its names, and which naming book they hold.
+use mathlib.Core.Bool.{true}
+use mathlib.Core.List.{List}
+use mathlib.Core.Logic.{_⊎_}
+use mathlib.Core.Path.{_≡_}
+use Prim.Native.Nat.{ℕ, suc, _+_, _*_, _/_, _%_, _≤_, _<_}
+use lib.ListN.{length}
+use Rattle.graph.specs.Below.{tabulate}
+use Rattle.graph.specs.Network.{Network, Edge, Proper, never, edge, touches}
+use Rattle.graph.specs.Groups.{component, bridgeBlock}
+use Rattle.graph.specs.Block.{block}
+use Rattle.graph.specs.BlockPath.{onBlock}
+use Rattle.naming.specs.Rename.{Grouping, size}
+use Rattle.naming.specs.Naming.{Naming}
+use Rattle.naming.specs.Book.{Book}
+use Rattle.forest.specs.declared.table.Capacities.{Capacities}
+use Rattle.forest.specs.declared.table.Area.{Area}
+use Rattle.forest.specs.Layout.{cell, vertexArea, bridgeBlockArea, edgeArea}
+use Rattle.forest.specs.Merge.{nameIn, sizeIn, rangeIn, leastOf, greatestOf}
+use Rattle.forest.specs.Climb.{upOf, depthOf, aboveEdge}
+
+-- The two ends of edge s, kept in one word.
+unfoldable pub endsOf : List ℕ → Capacities → ℕ → Edge
+endsOf t caps s =
+    record { left = cell t (edgeArea caps) 4 s / 65536; right = cell t (edgeArea caps) 4 s % 65536 }
+
+-- The network of n vertices and m edges that the table holds.
+unfoldable pub networkOf : Capacities → ℕ → ℕ → List ℕ → Network
+networkOf caps n m t = record { rule = never; vertices = n; edges = tabulate m (endsOf t caps) }
+
+-- The names of the first n items of a kind.
+unfoldable pub namesIn : List ℕ → Area → ℕ → List ℕ
+namesIn t area n = tabulate n (nameIn t area)
+
+-- The naming book that the table holds.
+unfoldable pub bookOf : Capacities → ℕ → ℕ → List ℕ → Book
+bookOf caps n m t =
+    record {
+      network = networkOf caps n m t;
+      components = namesIn t (vertexArea caps) n;
+      bridgeBlocks = namesIn t (bridgeBlockArea caps) n;
+      blocks = namesIn t (edgeArea caps) m;
+    }
+
+-- The words of one kind of group, over items below n: names, the size of each named group, and a range that holds its items.
+pub record KindValid (t : List ℕ) (area : Area) (n : ℕ) (groups : Grouping) : Type 0 where
+  pub named : Naming n groups (namesIn t area n)
+  pub sized : (x : ℕ) → x < n → sizeIn t area (nameIn t area x) ≡ size n groups x
+  pub from-least : (x : ℕ) → x < n → leastOf (rangeIn t area (nameIn t area x)) ≤ x
+  pub to-greatest : (x : ℕ) → x < n → x ≤ greatestOf (rangeIn t area (nameIn t area x))
+  pub range-known : (x : ℕ) → x < n → greatestOf (rangeIn t area (nameIn t area x)) < n
+
+-- Some edge of the block of edge e is the one above vertex x.
+pub record HangsBelow (t : List ℕ) (caps : Capacities) (g : Network) (e x : ℕ) : Type 0 where
+  pub by : ℕ
+  pub is-up : upOf t caps x ≡ suc by
+  pub in-block : block g e by ≡ true
+
+-- The block forest over a network of n vertices and m edges: each vertex hangs below at most one block, each block below one vertex.
+pub record ForestValid (t : List ℕ) (caps : Capacities) (n m : ℕ) (g : Network) : Type 0 where
+  -- the edge above a vertex is an edge of a block that the vertex is on
+  pub up-known : (x e : ℕ) → x < n → upOf t caps x ≡ suc e → e < m
+  pub up-on : (x e : ℕ) → x < n → upOf t caps x ≡ suc e → onBlock g e x ≡ true
+  -- the vertex above a block is on it
+  pub top-known : (e : ℕ) → e < m → aboveEdge t caps e < n
+  pub top-on : (e : ℕ) → e < m → onBlock g e (aboveEdge t caps e) ≡ true
+  -- every vertex with an edge in a block is above the block or hangs below it
+  pub covers : (e x : ℕ) → e < m → touches (edge g e) x ≡ true → (x ≡ aboveEdge t caps e) ⊎ HangsBelow t caps g e x
+  -- depth falls on the way up, and is below the square of the component's size
+  pub depth-falls : (x e : ℕ) → x < n → upOf t caps x ≡ suc e → depthOf t caps (aboveEdge t caps e) < depthOf t caps x
+  pub depth-bound : (x : ℕ) → x < n → depthOf t caps x < size n (component g) x * size n (component g) x
+
+-- The table is long enough, and holds the names, sizes and forest of its network.
+pub record Valid (caps : Capacities) (n m : ℕ) (t : List ℕ) : Type 0 where
+  pub long : caps .vertices * 24 + caps .edges * 8 ≤ length t
+  pub small-vertices : caps .vertices ≤ 4096
+  pub small-edges : caps .edges ≤ 8192
+  pub vertices-fit : n ≤ caps .vertices
+  pub edges-fit : m ≤ caps .edges
+  pub proper : Proper (networkOf caps n m t)
+  pub components : KindValid t (vertexArea caps) n (component (networkOf caps n m t))
+  pub bridge-blocks : KindValid t (bridgeBlockArea caps) n (bridgeBlock (networkOf caps n m t))
+  pub blocks : KindValid t (edgeArea caps) m (block (networkOf caps n m t))
+  pub forest : ForestValid t caps n m (networkOf caps n m t)

@@ -1,0 +1,148 @@
+// The questions: what the table says of its groups, and of the path between two vertices.
+ghost use mathlib.Core.Path.{_≡_};
+ghost use mathlib.Core.Bool.{Bool};
+ghost use Prim.Native.Nat.{_+_, _≤_, _<_};
+ghost use Rattle.forest.specs.Climb.{climbTable, climbRoute};
+ghost use Rattle.forest.specs.Queries.{ringsDiffer, bridgeIn, hangsFrom, hangTogether, blockAbove, sharedIn};
+ghost use Rattle.forest.specs.Queries.{findTable, findCount, bridgesFound, cutsCount};
+use crate::climb::block_of;
+use crate::climb::climb;
+use crate::climb::top;
+use crate::climb::up;
+use crate::table::Capacities;
+use crate::table::Edge;
+use crate::table::Vertex;
+use crate::table::bridge_block_area;
+use crate::table::edge_area;
+use crate::table::set_word;
+use crate::table::vertex_area;
+use crate::table::word;
+
+const NAME: u8 = 0;
+
+const ENDS: u8 = 4;
+
+const PATH_VERTEX: u8 = 10;
+
+const PATH_EDGE: u8 = 11;
+
+const RIGHT_EDGE: u8 = 13;
+
+// The block that two vertices share, by its name, or that there is none.
+pub enum Shared {
+    Block(Edge),
+    Nothing,
+}
+
+// The bridge-block names of two vertices differ.
+fn rings_differ(t: &[u32], caps: Capacities, x: u32, y: u32) -> bool
+    ensures { λ r. ⌜ r ≡ ringsDiffer (now (t .entry)) caps x y ⌝ }
+{
+    let left = word(t, bridge_block_area(caps), NAME, x);
+    let right = word(t, bridge_block_area(caps), NAME, y);
+    left != right
+}
+
+// The bridge-block names of an edge's two ends differ.
+pub fn ends_differ(t: &[u32], caps: Capacities, s: Edge) -> bool
+    ensures { λ r. ⌜ r ≡ bridgeIn (now (t .entry)) caps (s .0) ⌝ }
+{
+    let ends = word(t, edge_area(caps), ENDS, s.0);
+    rings_differ(t, caps, ends / 65536, ends % 65536)
+}
+
+// Vertex x hangs below a block, and y is the vertex above that block.
+fn hangs_from(t: &[u32], caps: Capacities, x: Vertex, y: Vertex) -> bool
+    ensures { λ r. ⌜ r ≡ hangsFrom (now (t .entry)) caps (x .0) (y .0) ⌝ }
+{
+    let edge = up(t, caps, x);
+    if edge == 0 {
+        return false;
+    }
+    let above = top(t, caps, block_of(t, caps, Edge(edge - 1)));
+    above.0 == y.0
+}
+
+// Vertices x and y hang below one block.
+fn hang_together(t: &[u32], caps: Capacities, x: Vertex, y: Vertex) -> bool
+    ensures { λ r. ⌜ r ≡ hangTogether (now (t .entry)) caps (x .0) (y .0) ⌝ }
+{
+    let left = up(t, caps, x);
+    let right = up(t, caps, y);
+    if left == 0 {
+        return false;
+    }
+    if right == 0 {
+        return false;
+    }
+    let a = block_of(t, caps, Edge(left - 1));
+    let b = block_of(t, caps, Edge(right - 1));
+    a.0 == b.0
+}
+
+// The name of the block above a vertex that hangs below one.
+fn block_above(t: &[u32], caps: Capacities, x: Vertex) -> Edge
+    ensures { λ r. ⌜ r .0 ≡ blockAbove (now (t .entry)) caps (x .0) ⌝ }
+{
+    let edge = up(t, caps, x);
+    if edge == 0 {
+        return block_of(t, caps, Edge(0));
+    }
+    block_of(t, caps, Edge(edge - 1))
+}
+
+// The block that two different vertices share.
+pub fn find_shared(t: &[u32], caps: Capacities, a: Vertex, b: Vertex) -> Shared
+    ensures { λ r. ⌜ r ≡ sharedIn (now (t .entry)) caps (a .0) (b .0) ⌝ }
+{
+    if hang_together(t, caps, a, b) {
+        return Shared::Block(block_above(t, caps, a));
+    }
+    if hangs_from(t, caps, a, b) {
+        return Shared::Block(block_above(t, caps, a));
+    }
+    if hangs_from(t, caps, b, a) {
+        return Shared::Block(block_above(t, caps, b));
+    }
+    Shared::Nothing
+}
+
+// Writes down the edge of step i of the path, where it is a bridge.
+fn find_one(t: &mut [u32], caps: Capacities, i: u32, count: u32) -> u32
+    requires { ⌜ (count ≤ i) × (i < 4294967295) ⌝ }
+    ensures { λ r. ⌜ (now (t .exit) ≡ findTable (now (t .entry)) caps i count) × (r ≡ findCount (now (t .entry)) caps i count) ⌝ }
+{
+    let x = word(t, vertex_area(caps), PATH_VERTEX, i);
+    let y = word(t, vertex_area(caps), PATH_VERTEX, i + 1);
+    if rings_differ(t, caps, x, y) {
+        let e = word(t, vertex_area(caps), PATH_EDGE, i);
+        set_word(t, vertex_area(caps), RIGHT_EDGE, count, e);
+        return count + 1;
+    }
+    count
+}
+
+// Writes down the bridges on the path from a to b, in order; gives their number.
+pub fn find_bridges(t: &mut [u32], caps: Capacities, a: Vertex, b: Vertex) -> u32
+    ensures { λ r. ⌜ (now (t .exit) ≡ bridgesFound (now (t .entry)) caps (a .0) (b .0) .table) × (r ≡ bridgesFound (now (t .entry)) caps (a .0) (b .0) .count) ⌝ }
+{
+    let route = climb(t, caps, a, b);
+    let mut count: u32 = 0;
+    let mut i: u32 = 0;
+    while i < route.steps {
+        count = find_one(t, caps, i, count);
+        i += 1;
+    }
+    count
+}
+
+// Leaves the path from a to b in the table; gives the number of its vertices between its ends.
+pub fn find_cuts(t: &mut [u32], caps: Capacities, a: Vertex, b: Vertex) -> u32
+    ensures { λ r. ⌜ (now (t .exit) ≡ climbTable (now (t .entry)) caps (a .0) (b .0)) × (r ≡ cutsCount (now (t .entry)) caps (a .0) (b .0)) ⌝ }
+{
+    let route = climb(t, caps, a, b);
+    if route.steps == 0 {
+        return 0;
+    }
+    route.steps - 1
+}
