@@ -43,7 +43,7 @@ each-small [] f = tt
 each-small (x ∷ l) f = (f x (is-in-head x l), each-small l (λ y e. f y (is-in-tail y x l e)))
 
 -- all notices are those of the three kinds
-length-by-kind : (ts : List Notice) → length ts ≡ countNotices district ts + countNotices ring ts + countNotices mesh ts
+pub length-by-kind : (ts : List Notice) → length ts ≡ countNotices district ts + countNotices ring ts + countNotices mesh ts
 unfolding countNotices sameKind
 length-by-kind [] = refl
 length-by-kind (t ∷ ts) = go (t .kind) (length-by-kind ts)

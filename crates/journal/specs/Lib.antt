@@ -9,5 +9,11 @@ pub mod Register
 pub mod Decode
 pub mod NameList
 pub mod WholeRun
+pub mod Reads
+pub mod Writes
+pub mod Told
+pub mod Steps
+pub mod Runs
+pub mod Promise
 pub mod Histories
 pub mod HistoriesShown

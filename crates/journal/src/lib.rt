@@ -1,1 +1,100 @@
-// The journal of commands: its bytes, answers, refusals and the run. Definitions in specs/, laws in proofs/.
+// The journal of commands: its bytes, answers, refusals and the run; and the entry that a planner calls.
+ghost use mathlib.Core.Bool.{not, _&&_};
+ghost use mathlib.Core.Path.{_≡_};
+ghost use lib.Dec.{leb};
+ghost use Rattle.journal.specs.Refusal.{firstThatApplies};
+ghost use Rattle.journal.specs.Entry.{workNeeded, startLines, numberOf, over};
+ghost use Rattle.journal.specs.Promise.{sixNumbers, Reportable, RegisterPromise};
+
+pub mod notice;
+pub mod read;
+pub mod run;
+pub mod step;
+pub mod write;
+
+use crate::run::Progress;
+use crate::run::run;
+use forest::clear;
+use forest::table::Capacities;
+
+// The words of the working table that a run uses: W.
+fn work_needed(c: u32, s: u32) -> usize
+    ensures { λ r. ⌜ r ≡ workNeeded (record { cabinets = c; spans = s }) ⌝ }
+{
+    24 * (c as usize) + 8 * (s as usize) + 64
+}
+
+// A capacity is out of its range.
+fn bad_capacity(c: u32, s: u32) -> bool
+    ensures { λ r. ⌜ r ≡ not (leb 1 c && leb c 4096 && leb 1 s && leb s 8192) ⌝ }
+{
+    if c < 1 {
+        return true;
+    }
+    if 4096 < c {
+        return true;
+    }
+    if s < 1 {
+        return true;
+    }
+    8192 < s
+}
+
+// The refusal before the journal is read, 0 if there is none.
+fn start_refusal(c: u32, s: u32, journal: usize, work: usize, report: usize) -> u32
+    ensures { λ r. ⌜ r ≡ numberOf (firstThatApplies (startLines (record { cabinets = c; spans = s }) journal work report)) ⌝ }
+{
+    if bad_capacity(c, s) {
+        return 1;
+    }
+    if work < work_needed(c, s) {
+        return 2;
+    }
+    if report < 6 {
+        return 2;
+    }
+    if 65536 < journal {
+        return 3;
+    }
+    0
+}
+
+// The report's six numbers.
+fn fill_report(report: &mut [u32], p: Progress)
+    requires { ⌜ Reportable p (now report) ⌝ }
+    ensures { λ r. ⌜ now (report .exit) ≡ over (sixNumbers p) (now (report .entry)) ⌝ }
+{
+    let shape = p.shape;
+    report[0] = p.refusal;
+    report[1] = p.place as u32;
+    report[2] = p.commands;
+    report[3] = p.written as u32;
+    report[4] = shape.vertices;
+    report[5] = shape.edges;
+}
+
+// Runs a journal with capacities c and s, with the caller's own working table, answer buffer and report.
+#[no_mangle]
+pub extern "C" fn register_run(
+    c: u32,
+    s: u32,
+    journal: &[u8],
+    work: &mut [u32],
+    answers: &mut [u8],
+    report: &mut [u32],
+) -> u32
+    ensures { λ r. ⌜ RegisterPromise (record { cabinets = c; spans = s }) (now (journal .entry)) (record { work = now (work .entry); answers = now (answers .entry); report = now (report .entry) }) r (record { work = now (work .exit); answers = now (answers .exit); report = now (report .exit) }) ⌝ }
+{
+    let refusal = start_refusal(c, s, journal.len(), work.len(), report.len());
+    if refusal != 0 {
+        return refusal;
+    }
+    let caps = Capacities {
+        vertices: c as u16,
+        edges: s as u16,
+    };
+    let p = run(journal, work, answers, caps);
+    clear(work, work_needed(c, s));
+    fill_report(report, p);
+    p.refusal
+}

@@ -1,0 +1,139 @@
+-- The start and the end of the run in code: from an empty network, to what the whole run promises.
+use mathlib.Core.Bool.{true, false, cond, _&&_}
+use mathlib.Core.List.{List, [], append-nil}
+use mathlib.Core.Logic.{_⊎_, inl, inr}
+use mathlib.Core.Option.{Option, none, some}
+use mathlib.Core.Path.{_≡_, refl, sym, _∙_, ap}
+use Prim.Native.Nat.{ℕ, suc, _-_, _≤_, _<_}
+use native.Mathlib.Nat.{sub-zero}
+use native.Mathlib.Omega.{arith}
+use lib.Dec.{eqb, ltb}
+use lib.ListN.{length, drop, drop-of-length-le}
+use Rattle.graph.specs.Network.{never, edgeCount}
+use Rattle.graph.proofs.Never.{never-mates}
+use Rattle.graph.proofs.Truth.{and-left, and-right, eqb-eq, eq-eqb, ne-eqb, ltb-lt, ltb-ge}
+use Rattle.naming.specs.Book.{emptyBook, feedAll}
+use Rattle.forest.specs.declared.table.Capacities as Forest
+use Rattle.forest.specs.Valid.{Valid, bookOf}
+use Rattle.journal.specs.declared.run.Progress.{Progress}
+use Rattle.journal.specs.Refusal.{Refusal, refusalNumber, Capacities}
+use Rattle.journal.specs.Run.{Run, stop, atEnd, runWithin, fitting, commandsOf, bytesOfAnswers, placeAfter}
+use Rattle.journal.specs.Entry.{over, numberOf, bookAfter}
+use Rattle.journal.specs.Steps.{capacitiesOf, bookIn}
+use Rattle.journal.specs.Runs.{leftOf, refusedProgress, RunOn, RunPromise}
+use Rattle.journal.proofs.Table.{number-above-zero}
+use Rattle.journal.proofs.Room.{answers-fit}
+use Rattle.journal.proofs.Steps.{run-ends}
+use Rattle.journal.proofs.Place.{bookFed, place-within-journal}
+use Rattle.journal.proofs.RunBooks.{empty-sound}
+use Rattle.journal.proofs.RunBound.{run-short}
+use Rattle.journal.proofs.RunStep.{same-beyond-self}
+use Rattle.journal.proofs.RunWhole.{behind, StillOn, Ended, SoFar}
+
+-- The progress of a run that has not begun.
+unfoldable pub atStart : Forest.Capacities → Progress
+atStart caps = record { shape = record { caps = caps; vertices = 0; edges = 0 }; place = 0; commands = 0; written = 0; refusal = 0 }
+
+-- a run that goes on is not refused, and has more of the journal before it
+pub goes-on-tells : (p : Progress) (end : ℕ) → (eqb (p .refusal) 0 && ltb (p .place) end) ≡ true → (p .refusal ≡ 0) × (p .place < end)
+goes-on-tells p end e =
+    let on = eqb (p .refusal) 0 in
+    let more = ltb (p .place) end in
+    (eqb-eq (p .refusal) 0 (and-left on more e), ltb-lt (p .place) end (and-right on more e))
+
+-- How many steps are left, at the most: none once the run is refused.
+unfoldable pub stepsLeft : ℕ → Progress → ℕ
+stepsLeft end p = cond (eqb (p .refusal) 0) (suc (end - p .place)) 0
+
+-- every step leaves fewer
+pub fewer-steps : (p p′ : Progress) (journal old new oldAnswers newAnswers : List ℕ) → p .refusal ≡ 0 → p .place < length journal
+    → RunOn p p′ journal old new oldAnswers newAnswers → stepsLeft (length journal) p′ < stepsLeft (length journal) p
+unfolding stepsLeft refusedProgress
+fewer-steps p p′ journal old new oldAnswers newAnswers e h (inl w) =
+    let number : p′ .refusal ≡ refusalNumber (w .by) = ap (λ (q : Progress). q .refusal) (w .refused .progress-is) in
+    rw (
+      ne-eqb (p′ .refusal) 0 (λ z. omega (arith, number-above-zero (w .by))),
+      eq-eqb (p .refusal) 0 e,
+    )
+    (omega arith)
+fewer-steps p p′ journal old new oldAnswers newAnswers e h (inr w) =
+    rw (eq-eqb (p′ .refusal) 0 (w .accepted .not-refused), eq-eqb (p .refusal) 0 e) (omega (arith, w .accepted .place-is))
+
+-- The definition's run, within the room of an answer buffer.
+abbrev pub wholeOf : Forest.Capacities → List ℕ → List ℕ → Run
+wholeOf caps journal answers = runWithin (length answers) (capacitiesOf caps) (emptyBook never) journal
+
+-- its answers fit
+pub whole-fits : (caps : Forest.Capacities) (journal answers : List ℕ)
+    → length (bytesOfAnswers (wholeOf caps journal answers .accepted)) ≤ length answers
+unfolding runWithin
+whole-fits caps journal answers = answers-fit (length answers) _ _
+
+module _ (caps : Forest.Capacities) (journal old oldAnswers : List ℕ) where
+  -- the run within the answer buffer
+  abbrev whole : Run
+  whole = wholeOf caps journal oldAnswers
+
+  -- at the start all of the run is left
+  pub starts : Valid caps 0 0 old → bookOf caps 0 0 old ≡ emptyBook never → SoFar caps whole journal (atStart caps) old old oldAnswers oldAnswers
+  unfolding atStart behind leftOf bookIn over bytesOfAnswers placeAfter bookFed feedAll
+  starts v e =
+      record {
+        done = [];
+        same-capacities = refl;
+        place-is = refl;
+        commands-are = refl;
+        written-is = refl;
+        cabinets-are = unfold emptyBook in refl;
+        spans-are = unfold emptyBook edgeCount in refl;
+        answers-are = refl;
+        as-long = refl;
+        same-beyond = same-beyond-self (atStart caps) old;
+        state = inl (record { left-is = rw (e, sub-zero); not-refused = refl; holds = v; book-is = e });
+      }
+
+  -- the run is what is done
+  ends : (p : Progress) (new newAnswers : List ℕ) (far : SoFar caps whole journal p old new oldAnswers newAnswers)
+      → caps .vertices ≤ 4096 → caps .edges ≤ 8192 → length journal ≤ 65536
+      → (end : Option Refusal) → whole ≡ record { accepted = far .done; refusal = end } → p .refusal ≡ numberOf end
+      → RunPromise caps whole p old new oldAnswers newAnswers
+  unfolding bookFed bookAfter commandsOf capacitiesOf
+  ends p new newAnswers far few-vertices few-edges short end e number =
+      let same : far .done ≡ whole .accepted = sym (ap (λ (r : Run). r .accepted) e) in
+      let place-is : p .place ≡ placeAfter (whole .accepted) = rw same at (far .place-is) in
+      let written-is : p .written ≡ length (bytesOfAnswers (whole .accepted)) = rw same at (far .written-is) in
+      let place-fits = place-within-journal (length oldAnswers) (capacitiesOf caps) (emptyBook never) journal in
+      let written-fits = run-short (capacitiesOf caps) few-vertices few-edges (length oldAnswers) (emptyBook never) journal (empty-sound (capacitiesOf caps) never never-mates) in
+      record {
+        refusal-is = number ∙ ap numberOf (sym (ap (λ (r : Run). r .refusal) e));
+        place-is = place-is;
+        commands-are = rw same at (far .commands-are);
+        written-is = written-is;
+        cabinets-are = rw same at (far .cabinets-are);
+        spans-are = rw same at (far .spans-are);
+        answers-are = rw same at (far .answers-are);
+        same-beyond = far .same-beyond;
+        place-fits = omega arith;
+        written-fits = omega arith;
+      }
+
+  -- a run that goes on no further is the whole run
+  pub run-promised : (p : Progress) (new newAnswers : List ℕ) → SoFar caps whole journal p old new oldAnswers newAnswers
+      → caps .vertices ≤ 4096 → caps .edges ≤ 8192 → length journal ≤ 65536
+      → (eqb (p .refusal) 0 && ltb (p .place) (length journal)) ≡ false
+      → RunPromise caps whole p old new oldAnswers newAnswers
+  unfolding behind stop atEnd leftOf runWithin fitting numberOf
+  run-promised p new newAnswers far few-vertices few-edges short stopped = go (far .state)
+    where
+      go : StillOn whole (far .done) p journal (length oldAnswers) new ⊎ Ended whole (far .done) p
+          → RunPromise caps whole p old new oldAnswers newAnswers
+      go (inl on) =
+          let past : length journal ≤ p .place = ltb-ge (p .place) (length journal) (rw (eq-eqb (p .refusal) 0 (on .not-refused)) at stopped) in
+          let nothing : drop (p .place) journal ≡ [] = drop-of-length-le journal past in
+          ends p new newAnswers far few-vertices few-edges short none
+          (on .left-is ∙ rw (nothing, run-ends (capacitiesOf (p .shape .caps)) (bookIn (p .shape) new), append-nil (far .done)))
+          (on .not-refused)
+      go (inr end) =
+          ends p new newAnswers far few-vertices few-edges short (some (end .by))
+          (end .whole-is ∙ rw (append-nil (far .done)))
+          (end .number-is)

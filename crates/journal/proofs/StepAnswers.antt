@@ -1,0 +1,109 @@
+-- The steps of 01, 03, 04, 05 and 08: what is written is the answer of the book.
+use mathlib.Core.Bool.{Bool, true, false}
+use mathlib.Core.List.{List, [], _∷_}
+use mathlib.Core.Option.{Option, none, some}
+use mathlib.Core.Path.{_≡_, refl}
+use Prim.Native.Nat.{ℕ, _+_, _<_}
+use mir.Val as Machine
+use Rattle.graph.specs.Groups.{bridge}
+use Rattle.graph.specs.Block.{sharedBlock}
+use Rattle.naming.specs.Rename.{nameOf}
+use Rattle.forest.specs.declared.Shape.{Shape}
+use Rattle.forest.specs.declared.query.Shared.{Shared}
+use Rattle.forest.specs.Valid.{bookOf, networkOf}
+use Rattle.forest.specs.Promise.{VertexAdded, sharedName}
+use Rattle.journal.specs.declared.step.Stepped.the-variants as S
+use Rattle.journal.specs.declared.write.Written.{Written}
+use Rattle.journal.specs.declared.write.Written.the-variants as W
+use Rattle.journal.specs.Bytes.{twoBytes}
+use Rattle.journal.specs.Command.{addCabinet, districtName, ringName, sharedMesh, isSole, addition}
+use Rattle.journal.specs.Answer.{boolByte, answerBytes}
+use Rattle.journal.specs.Step.{meshAnswer, answer}
+use Rattle.journal.specs.Writes.{Wrote}
+use Rattle.journal.specs.Steps.{oneUnknown, sharedBytes, bookIn, Holds, StepPromise, answeredOf}
+use Rattle.journal.proofs.StepLaws.{cabinets-held, same-beyond-itself, written-step, no-room-step, answered-step, holds-untouched, holds-one-cabinet-more}
+use Rattle.journal.proofs.StepTests.{cabinet-accepted, district-accepted, ring-accepted, shared-accepted, sole-accepted}
+
+-- a test as a byte
+pub flag-byte : (b : Bool) → Machine.boolByte b ≡ boolByte b
+unfolding boolByte
+flag-byte true = refl
+flag-byte false = refl
+
+-- 01: the cabinet's number
+cabinet-bytes : (shape : Shape) (t : List ℕ) → 0x81 ∷ twoBytes (shape .vertices) ≡ answerBytes (answer (bookIn shape t) addCabinet)
+unfolding answer answerBytes
+cabinet-bytes shape t = rw (cabinets-held shape t)
+
+module _ (shape : Shape) (oldOut newOut : List ℕ) (h : shape .vertices < shape .caps .vertices) where
+  -- it was written, and the cabinet entered
+  pub cabinet-step : (old new : List ℕ) (size : ℕ) → Wrote oldOut newOut (W.Bytes size) (0x81 ∷ twoBytes (shape .vertices))
+      → VertexAdded (shape .caps) (shape .vertices) (shape .edges) old new
+      → StepPromise shape addCabinet old new oldOut newOut
+      (S.Done (record { caps = shape .caps; vertices = shape .vertices + 1; edges = shape .edges }) size)
+  cabinet-step old new size w a =
+      written-step shape addCabinet old new oldOut newOut (cabinet-accepted shape old h) _ size
+      (rw (cabinet-bytes shape old) at w)
+      (holds-one-cabinet-more shape old new a)
+
+  -- there was no room for it
+  pub cabinet-no-room : (t : List ℕ) → Wrote oldOut newOut W.NoRoom (0x81 ∷ twoBytes (shape .vertices))
+      → StepPromise shape addCabinet t t oldOut newOut (S.Refused 11)
+  cabinet-no-room t w =
+      no-room-step shape addCabinet t t oldOut newOut (cabinet-accepted shape t h)
+      (rw (cabinet-bytes shape t) at w)
+      (same-beyond-itself (shape .caps) t)
+
+-- A question whose answer was written, or found no room.
+module _ (shape : Shape) (t oldOut newOut : List ℕ) (w : Written) (valid : Holds shape t) where
+  -- 03: the name of the cabinet's district
+  pub district-step : (x name : ℕ) → x < shape .vertices
+      → name ≡ nameOf (bookOf (shape .caps) (shape .vertices) (shape .edges) t .components) x
+      → Wrote oldOut newOut w (0x83 ∷ twoBytes name)
+      → StepPromise shape (districtName x) t t oldOut newOut (answeredOf shape w)
+  unfolding addition answer answerBytes bookIn
+  district-step x name h e wrote =
+      answered-step shape (districtName x) t t oldOut newOut (district-accepted shape t x h) shape w
+      (rw e at wrote)
+      (holds-untouched shape (districtName x) refl t valid)
+
+  -- 04: the name of its ring
+  pub ring-step : (x name : ℕ) → x < shape .vertices
+      → name ≡ nameOf (bookOf (shape .caps) (shape .vertices) (shape .edges) t .bridgeBlocks) x
+      → Wrote oldOut newOut w (0x84 ∷ twoBytes name)
+      → StepPromise shape (ringName x) t t oldOut newOut (answeredOf shape w)
+  unfolding addition answer answerBytes bookIn
+  ring-step x name h e wrote =
+      answered-step shape (ringName x) t t oldOut newOut (ring-accepted shape t x h) shape w
+      (rw e at wrote)
+      (holds-untouched shape (ringName x) refl t valid)
+
+  shared-bytes : (o : Option ℕ)
+      → sharedBytes (sharedName (bookOf (shape .caps) (shape .vertices) (shape .edges) t .blocks) o)
+      ≡ answerBytes (meshAnswer (bookIn shape t) o)
+  unfolding sharedBytes sharedName answerBytes meshAnswer bookIn
+  shared-bytes none = refl
+  shared-bytes (some s) = refl
+
+  -- 05: the name of the mesh that two cabinets share
+  pub shared-step : (x y : ℕ) (shared : Shared) → oneUnknown shape x y ≡ false → (x ≡ y → ⊥)
+      → shared ≡ sharedName (bookOf (shape .caps) (shape .vertices) (shape .edges) t .blocks)
+      (sharedBlock (networkOf (shape .caps) (shape .vertices) (shape .edges) t) x y)
+      → Wrote oldOut newOut w (sharedBytes shared)
+      → StepPromise shape (sharedMesh x y) t t oldOut newOut (answeredOf shape w)
+  unfolding addition answer bookIn bookOf
+  shared-step x y shared e d is wrote =
+      answered-step shape (sharedMesh x y) t t oldOut newOut (shared-accepted shape t x y e d) shape w
+      (rw (is, shared-bytes) at wrote)
+      (holds-untouched shape (sharedMesh x y) refl t valid)
+
+  -- 08: whether the span is sole
+  pub sole-step : (s : ℕ) (sole : Bool) → s < shape .edges
+      → sole ≡ bridge (networkOf (shape .caps) (shape .vertices) (shape .edges) t) s
+      → Wrote oldOut newOut w (0x88 ∷ boolByte sole ∷ [])
+      → StepPromise shape (isSole s) t t oldOut newOut (answeredOf shape w)
+  unfolding addition answer answerBytes bookIn bookOf
+  sole-step s sole h e wrote =
+      answered-step shape (isSole s) t t oldOut newOut (sole-accepted shape t s h) shape w
+      (rw e at wrote)
+      (holds-untouched shape (isSole s) refl t valid)

@@ -1,0 +1,205 @@
+-- The steps of 06 and 07: the refusal of two cabinets, and the answer as a list that is written down in the table.
+use mathlib.Core.Bool.{Bool, true, false, not}
+use mathlib.Core.List.{List, [], _∷_, _++_}
+use mathlib.Core.Logic.{_⊎_, inl, inr}
+use mathlib.Core.Path.{_≡_, refl, sym, _∙_, ap}
+use Prim.Native.Nat.{ℕ, _<_}
+use native.Mathlib.Omega.{arith}
+use lib.Dec.{eqb}
+use lib.ListN.{length}
+use Rattle.graph.specs.Below.{tabulate}
+use Rattle.graph.specs.Lists.{allIn}
+use Rattle.graph.specs.Network.{Network}
+use Rattle.graph.specs.Groups.{component}
+use Rattle.graph.specs.Between.{bridgesBetween, cutsBetween}
+use Rattle.graph.proofs.Truth.{true-or-false, false-of-not, eqb-eq, eqb-ne, not-of-true, not-of-false}
+use Rattle.naming.specs.Book.{neither}
+use Rattle.forest.specs.declared.table.Capacities.{Capacities}
+use Rattle.forest.specs.declared.Shape.{Shape}
+use Rattle.forest.specs.Words.{componentName}
+use Rattle.forest.specs.Valid.{bookOf, networkOf}
+use Rattle.forest.specs.Promise.{WrittenDown, bridgesWritten, cutsWritten}
+use Rattle.forest.proofs.KindWords.{one-name, one-group}
+use Rattle.journal.specs.declared.step.Stepped.the-variants as S
+use Rattle.journal.specs.declared.write.Answered.{Answered}
+use Rattle.journal.specs.declared.write.Answered.the-variants as L
+use Rattle.journal.specs.declared.write.Written.{Written}
+use Rattle.journal.specs.Bytes.{twoBytes, twoBytesEach}
+use Rattle.journal.specs.Command.{Command, soleSpans, cutCabinets, addition}
+use Rattle.journal.specs.Refusal.{cabinetsOf, spansOf, hasEqualCabinets, isFull, isAcross}
+use Rattle.journal.specs.Answer.{answerBytes}
+use Rattle.journal.specs.Step.{answer}
+use Rattle.journal.specs.Writes.{Wrote, itemAt}
+use Rattle.journal.specs.Steps.{capacitiesOf, oneUnknown, pairRefusal, bookIn, Holds, StepPromise, answeredOf}
+use Rattle.journal.proofs.Causes.{cabinetsKnown, spansKnown}
+use Rattle.naming.proofs.Listed.{length-tabulate}
+use Rattle.journal.proofs.StepLaws.{answered-step, holds-written-down}
+use Rattle.journal.proofs.StepCauses.{both-known, cabinets-known, cabinets-unknown, unknown-cabinet-step, two-districts-step}
+use Rattle.journal.proofs.StepTests.{Accepted, accepted}
+
+-- The question that this list answers.
+unfoldable pub asks : Answered → ℕ → ℕ → Command
+asks L.Spans x y = soleSpans x y
+asks L.Cabinets x y = cutCabinets x y
+
+-- It is about two cabinets, may have equal ones, adds nothing, and is refused across districts.
+pub record PairQuestion (c : Command) (x y : ℕ) : Type 0 where
+  pub of-cabinets : cabinetsOf c ≡ x ∷ y ∷ []
+  pub of-spans : spansOf c ≡ []
+  pub may-be-equal : hasEqualCabinets c ≡ false
+  pub adds-nothing : addition c ≡ neither
+  pub never-full : (shape : Shape) (t : List ℕ) → isFull (capacitiesOf (shape .caps)) (bookIn shape t) c ≡ false
+  pub across : (shape : Shape) (t : List ℕ) → isAcross (bookIn shape t) c ≡ not (component (bookIn shape t .network) x y)
+
+-- both questions are of this kind
+pub asks-pair : (list : Answered) (x y : ℕ) → PairQuestion (asks list x y) x y
+unfolding asks cabinetsOf spansOf hasEqualCabinets addition isFull isAcross
+asks-pair L.Spans x y =
+    record {
+      of-cabinets = refl;
+      of-spans = refl;
+      may-be-equal = refl;
+      adds-nothing = refl;
+      never-full = λ shape t. refl;
+      across = λ shape t. refl;
+    }
+asks-pair L.Cabinets x y =
+    record {
+      of-cabinets = refl;
+      of-spans = refl;
+      may-be-equal = refl;
+      adds-nothing = refl;
+      never-full = λ shape t. refl;
+      across = λ shape t. refl;
+    }
+
+-- Two cabinets have one district's name exactly if they are in one district.
+module _ (shape : Shape) (t : List ℕ) (valid : Holds shape t) (x y : ℕ) (known : oneUnknown shape x y ≡ false) where
+  -- one name, one district
+  pub one-district : componentName (shape .caps) t x ≡ componentName (shape .caps) t y → component (bookIn shape t .network) x y ≡ true
+  unfolding bookIn bookOf
+  one-district e =
+      let k = both-known shape t x y known in
+      one-group (valid .components) x y (k .0) (k .1) e
+
+  -- two names, two districts
+  pub two-districts : (componentName (shape .caps) t x ≡ componentName (shape .caps) t y → ⊥)
+      → component (bookIn shape t .network) x y ≡ false
+  unfolding bookIn bookOf
+  two-districts d =
+      let k = both-known shape t x y known in
+      false-of-not _ (λ e. d (one-name (valid .components) x y (k .0) (k .1) e))
+
+module _ (shape : Shape) (t : List ℕ) (valid : Holds shape t) (list : Answered) (x y : ℕ) where
+  -- the two cabinets have one district's name
+  names-agree : Bool
+  names-agree = eqb (componentName (shape .caps) t x) (componentName (shape .caps) t y)
+
+  -- the cabinets of the question are known, and it names no span
+  question-known : oneUnknown shape x y ≡ false → cabinetsKnown (bookIn shape t) (asks list x y) ≡ true
+  unfolding cabinetsKnown
+  question-known e = rw (asks-pair list x y .of-cabinets) (cabinets-known shape t x y e)
+
+  question-of-no-span : spansKnown (bookIn shape t) (asks list x y) ≡ true
+  unfolding spansKnown allIn
+  question-of-no-span = rw (asks-pair list x y .of-spans)
+
+  -- a refusal other than 0 is the one that the table of causes gives
+  pub pair-refused : (out : List ℕ) (number : ℕ) → number ≡ pairRefusal shape t x y → (number ≡ 0 → ⊥)
+      → StepPromise shape (asks list x y) t t out out (S.Refused number)
+  unfolding pairRefusal cabinetsKnown names-agree
+  pair-refused out number q d = go (true-or-false (oneUnknown shape x y)) (true-or-false names-agree)
+    where
+      p : PairQuestion (asks list x y) x y
+      p = asks-pair list x y
+
+      go : (oneUnknown shape x y ≡ true) ⊎ (oneUnknown shape x y ≡ false) → (names-agree ≡ true) ⊎ (names-agree ≡ false)
+          → StepPromise shape (asks list x y) t t out out (S.Refused number)
+      go (inl u) s =
+          let six : number ≡ 6 = rw u at q in
+          rw six
+          (unknown-cabinet-step shape (asks list x y) t out (rw (p .of-cabinets) (cabinets-unknown shape t x y u)))
+      go (inr u) (inl s) =
+          let nought : number ≡ 0 = rw (u, s) at q in
+          absurd (d nought)
+      go (inr u) (inr s) =
+          let ten : number ≡ 10 = rw (u, s) at q in
+          rw ten
+          (two-districts-step shape (asks list x y) t out (question-known u) question-of-no-span (p .may-be-equal) (p .never-full shape t)
+          (p .across shape t ∙ not-of-false (two-districts shape t valid x y u (eqb-ne _ _ s))))
+
+  -- What no refusal says of the two cabinets.
+  pub record PairAccepted : Type 0 where
+    pub first-known : x < shape .vertices
+    pub second-known : y < shape .vertices
+    pub together : component (networkOf (shape .caps) (shape .vertices) (shape .edges) t) x y ≡ true
+    pub not-refused : Accepted shape t (asks list x y)
+
+  -- refusal 0 is none
+  pub pair-accepted : pairRefusal shape t x y ≡ 0 → PairAccepted
+  unfolding pairRefusal names-agree bookIn bookOf
+  pair-accepted q = go (true-or-false (oneUnknown shape x y)) (true-or-false names-agree)
+    where
+      p : PairQuestion (asks list x y) x y
+      p = asks-pair list x y
+
+      go : (oneUnknown shape x y ≡ true) ⊎ (oneUnknown shape x y ≡ false) → (names-agree ≡ true) ⊎ (names-agree ≡ false) → PairAccepted
+      go (inl u) s =
+          let six : _≡_ {A = ℕ} 6 0 = rw u at q in
+          absurd (omega arith)
+      go (inr u) (inr s) =
+          let ten : _≡_ {A = ℕ} 10 0 = rw (u, s) at q in
+          absurd (omega arith)
+      go (inr u) (inl s) =
+          let one = one-district shape t valid x y u (eqb-eq _ _ s) in
+          record {
+            first-known = both-known shape t x y u .0;
+            second-known = both-known shape t x y u .1;
+            together = one;
+            not-refused = accepted shape t (asks list x y) (question-known u) question-of-no-span (p .may-be-equal) (p .never-full shape t)
+                (p .across shape t ∙ not-of-true one);
+          }
+
+-- The list that a question asks for, as it is written down, and the code of its answer.
+unfoldable pub listBetween : Answered → Network → ℕ → ℕ → List ℕ
+listBetween L.Spans g x y = bridgesBetween g x y
+listBetween L.Cabinets g x y = cutsBetween g x y
+
+unfoldable pub listWritten : Answered → Capacities → ℕ → List ℕ → List ℕ
+listWritten L.Spans caps k t = bridgesWritten caps k t
+listWritten L.Cabinets caps k t = cutsWritten caps k t
+
+unfoldable pub listCode : Answered → ℕ
+listCode L.Spans = 0x86
+listCode L.Cabinets = 0x87
+
+-- what is written down is what the items are read from
+list-items : (list : Answered) (caps : Capacities) (k : ℕ) (t : List ℕ) → listWritten list caps k t ≡ tabulate k (itemAt list caps t)
+unfolding listWritten bridgesWritten cutsWritten itemAt
+list-items L.Spans caps k t = refl
+list-items L.Cabinets caps k t = refl
+
+-- the answer's bytes are the code, the list's length and the list
+list-answer : (list : Answered) (shape : Shape) (t : List ℕ) (x y : ℕ)
+    → answerBytes (answer (bookIn shape t) (asks list x y))
+    ≡ (let l = listBetween list (networkOf (shape .caps) (shape .vertices) (shape .edges) t) x y in
+    listCode list ∷ twoBytes (length l) ++ twoBytesEach l)
+unfolding listBetween listCode asks answer answerBytes bookIn bookOf
+list-answer L.Spans shape t x y = refl
+list-answer L.Cabinets shape t x y = refl
+
+-- an accepted question, with its list written down and then written into the answer
+pub list-step : (list : Answered) (shape : Shape) (old new oldOut newOut : List ℕ) (x y count : ℕ) (w : Written)
+    → Accepted shape old (asks list x y)
+    → WrittenDown (shape .caps) (shape .vertices) (shape .edges) old new (listWritten list (shape .caps) count new)
+    (listBetween list (networkOf (shape .caps) (shape .vertices) (shape .edges) old) x y)
+    → Wrote oldOut newOut w
+    (listCode list ∷ twoBytes count ++ twoBytesEach (tabulate count (itemAt list (shape .caps) new)))
+    → StepPromise shape (asks list x y) old new oldOut newOut (answeredOf shape w)
+list-step list shape old new oldOut newOut x y count w a d wrote =
+    let l = listBetween list (networkOf (shape .caps) (shape .vertices) (shape .edges) old) x y in
+    let items : tabulate count (itemAt list (shape .caps) new) ≡ l = sym (list-items list (shape .caps) count new) ∙ d .is-list in
+    let counted : count ≡ length l = sym (length-tabulate count (itemAt list (shape .caps) new)) ∙ ap length items in
+    answered-step shape (asks list x y) old new oldOut newOut a shape w
+    (rw (list-answer list shape old x y) (rw (items, counted) at wrote))
+    (holds-written-down shape (asks list x y) (asks-pair list x y .adds-nothing) old new _ l d)

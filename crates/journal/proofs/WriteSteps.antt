@@ -1,0 +1,137 @@
+-- Laws of the loops that write lists: the bytes of one item more, and how many bytes there are.
+use mathlib.Core.List.{List, [], _∷_, _++_, append-assoc, append-nil}
+use mathlib.Core.Path.{_≡_, refl, sym, _∙_, ap}
+use Prim.Native.Nat.{ℕ, suc, _+_, _*_}
+use native.Mathlib.Omega.{arith}
+use lib.ListN.{length, length-append}
+use lib.Seq.{sets}
+use Rattle.graph.specs.Below.{tabulate}
+use Rattle.forest.specs.declared.table.Capacities.{Capacities}
+use Rattle.forest.specs.declared.tree.Growth.{Growth}
+use Rattle.journal.specs.declared.notice.Change.{Change}
+use Rattle.journal.specs.declared.write.Told.{Told}
+use Rattle.journal.specs.declared.write.Told.the-variants as K
+use Rattle.journal.specs.Bytes.{twoBytes, twoBytesEach}
+use Rattle.journal.specs.Told.{noticeAt, changeBytes, changesBytes, noticesAt, spanBytes}
+use Rattle.journal.proofs.Bytes.{length-two-bytes-each}
+use Rattle.journal.proofs.Sets.{sets-behind, sets-four}
+use Rattle.naming.proofs.Listed.{length-tabulate}
+
+-- items of a kind: `each` gives the bytes of a list of them, `one` those of one, which are `width` many
+module _
+    {A : Type 0}
+    (each : List A → List ℕ)
+    (one : A → List ℕ)
+    (width : ℕ)
+    (more : (xs : List A) (x : A) → each (xs ++ x ∷ []) ≡ each xs ++ one x)
+    (counted : (xs : List A) → length (each xs) ≡ width * length xs)
+  where
+    length-written : (n : ℕ) (f : ℕ → A) → length (each (tabulate n f)) ≡ width * n
+    length-written n f = counted (tabulate n f) ∙ ap (λ (k : ℕ). width * k) (length-tabulate n f)
+
+    written-more : (l : List ℕ) (start at i : ℕ) (f : ℕ → A) → at ≡ start + width * i
+        → sets (sets l start (each (tabulate i f))) at (one (f i)) ≡ sets l start (each (tabulate (suc i) f))
+    unfolding tabulate
+    written-more l start at i f e =
+        sets-behind l start at (each (tabulate i f)) (one (f i)) (omega (arith, length-written i f))
+        ∙ ap (λ (b : List ℕ). sets l start b) (sym (more (tabulate i f) (f i)))
+
+two-bytes-more : (ns : List ℕ) (n : ℕ) → twoBytesEach (ns ++ n ∷ []) ≡ twoBytesEach ns ++ twoBytes n
+unfolding twoBytesEach
+two-bytes-more [] n = append-nil (twoBytes n)
+two-bytes-more (m ∷ ns) n = rw (two-bytes-more ns n) (sym (append-assoc (twoBytes m) (twoBytesEach ns) (twoBytes n)))
+
+-- how many bytes the first n numbers of a list have
+pub length-items : (n : ℕ) (f : ℕ → ℕ) → length (twoBytesEach (tabulate n f)) ≡ 2 * n
+length-items n f = length-written twoBytesEach twoBytes 2 two-bytes-more length-two-bytes-each n f
+
+-- one number more
+pub items-more : (l : List ℕ) (start at i : ℕ) (f : ℕ → ℕ) → at ≡ start + 2 * i
+    → sets (sets l start (twoBytesEach (tabulate i f))) at (twoBytes (f i)) ≡ sets l start (twoBytesEach (tabulate (suc i) f))
+items-more l start at i f e = written-more twoBytesEach twoBytes 2 two-bytes-more length-two-bytes-each l start at i f e
+
+changes-more : (cs : List Change) (c : Change) → changesBytes (cs ++ c ∷ []) ≡ changesBytes cs ++ changeBytes c
+unfolding changesBytes
+changes-more [] c = append-nil (changeBytes c)
+changes-more (d ∷ cs) c = rw (changes-more cs c) (sym (append-assoc (changeBytes d) (changesBytes cs) (changeBytes c)))
+
+length-changes : (cs : List Change) → length (changesBytes cs) ≡ 5 * length cs
+unfolding changesBytes changeBytes twoBytes
+length-changes [] = refl
+length-changes (c ∷ cs) = omega (arith, length-changes cs)
+
+module _ (told : Told) (caps : Capacities) (t : List ℕ) where
+  -- how many bytes the first n notices of a kind have
+  pub length-notices : (n : ℕ) → length (noticesAt told caps t n) ≡ 5 * n
+  unfolding noticesAt
+  length-notices n = length-written changesBytes changeBytes 5 changes-more length-changes n (noticeAt told caps t)
+
+  -- one notice more
+  pub notices-more : (l : List ℕ) (start at i : ℕ) → at ≡ start + 5 * i
+      → sets (sets l start (noticesAt told caps t i)) at (changeBytes (noticeAt told caps t i))
+      ≡ sets l start (noticesAt told caps t (suc i))
+  unfolding noticesAt
+  notices-more l start at i e =
+      written-more changesBytes changeBytes 5 changes-more length-changes l start at i (noticeAt told caps t) e
+
+-- the first seven bytes of the answer to an added span
+unfoldable pub headBytes : ℕ → ℕ → ℕ → List ℕ
+headBytes span name total = 0x82 ∷ twoBytes span ++ twoBytes name ++ twoBytes total
+
+-- the notices of an added span, counted
+abbrev pub noticeCount : Growth → ℕ
+noticeCount growth = growth .components + growth .«bridge_blocks» + growth .blocks
+
+module _ (caps : Capacities) (t : List ℕ) (growth : Growth) where
+  abbrev districts : List ℕ
+  districts = noticesAt K.District caps t (growth .components)
+
+  abbrev rings : List ℕ
+  rings = noticesAt K.Ring caps t (growth .«bridge_blocks»)
+
+  abbrev meshes : List ℕ
+  meshes = noticesAt K.Mesh caps t (growth .blocks)
+
+  length-districts : length districts ≡ 5 * growth .components
+  length-districts = length-notices K.District caps t (growth .components)
+
+  length-rings : length rings ≡ 5 * growth .«bridge_blocks»
+  length-rings = length-notices K.Ring caps t (growth .«bridge_blocks»)
+
+  -- how many bytes the answer to an added span has
+  pub length-span : (span : ℕ) → length (spanBytes caps t span growth) ≡ 7 + 5 * noticeCount growth
+  unfolding spanBytes twoBytes
+  length-span span =
+      omega (
+        arith,
+        length-append (districts ++ rings) meshes,
+        length-append districts rings,
+        length-districts,
+        length-rings,
+        length-notices K.Mesh caps t (growth .blocks),
+      )
+
+  -- the head and the notices of each kind, written one behind another, are the answer
+  pub span-written : (l : List ℕ) (span : ℕ)
+      → sets
+      (sets
+      (sets (sets l 0 (headBytes span (growth .block .0) (noticeCount growth))) 7 districts)
+      (7 + 5 * growth .components)
+      rings)
+      (7 + 5 * (growth .components + growth .«bridge_blocks»))
+      meshes
+      ≡ sets l 0 (spanBytes caps t span growth)
+  unfolding spanBytes headBytes twoBytes
+  span-written l span =
+      sets-four
+      l
+      (headBytes span (growth .block .0) (noticeCount growth))
+      districts
+      rings
+      meshes
+      7
+      (7 + 5 * growth .components)
+      (7 + 5 * (growth .components + growth .«bridge_blocks»))
+      refl
+      (omega (arith, length-districts))
+      (omega (arith, length-rings))

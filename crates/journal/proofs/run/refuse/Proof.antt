@@ -1,0 +1,12 @@
+-- `run::refuse` keeps all but the refusal's number.
+use mathlib.Core.Path.{refl}
+use Rattle.journal.specs.Runs.{refusedProgress}
+use Rattle.journal.proofs.run.refuse.Statement.{statement}
+use Rattle.journal.proofs.run.refuse.Tie as tie
+
+returns : tie.Need-returns
+unfolding refusedProgress
+returns c = refl
+
+pub refuse-spec : {M : Type 1} → statement M
+refuse-spec = tie.close (tie.spec returns)

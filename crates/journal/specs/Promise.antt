@@ -1,0 +1,32 @@
+-- What the entry promises, in every case and with nothing required of its caller.
+use mathlib.Core.List.{List, [], _∷_}
+use mathlib.Core.Path.{_≡_}
+use Prim.Native.Nat.{ℕ, _≤_, _<_}
+use lib.ListN.{length}
+use Rattle.journal.specs.declared.run.Progress.{Progress}
+use Rattle.journal.specs.Refusal.{Capacities}
+use Rattle.journal.specs.Entry.{Buffers, wholeRun, acceptedCommands}
+use Rattle.journal.specs.Register.{registerRule, register}
+use Rattle.journal.specs.WholeRun.{WholeRunClaim}
+
+-- The six numbers of the report, of a run that has come so far.
+unfoldable pub sixNumbers : Progress → List ℕ
+sixNumbers p = p .refusal ∷ p .place ∷ p .commands ∷ p .written ∷ p .shape .vertices ∷ p .shape .edges ∷ []
+
+-- The report has room for them, and each fits a number of 32 bits.
+pub record Reportable (p : Progress) (report : List ℕ) : Type 0 where
+  pub long : 6 ≤ length report
+  pub place-fits : p .place < 4294967296
+  pub written-fits : p .written < 4294967296
+
+-- For these capacities, this journal and these buffers: the returned number and every buffer are those of the register, and the
+-- whole-run claim holds of the accepted commands and of the answer buffer as it stands on return.
+pub record RegisterPromise (caps : Capacities) (journal : List ℕ) (lent : Buffers) (returned : ℕ) (left : Buffers) : Type 0 where
+  pub returned-is : returned ≡ register caps journal lent .returned
+  pub work-is : left .work ≡ register caps journal lent .buffers .work
+  pub answers-are : left .answers ≡ register caps journal lent .buffers .answers
+  pub report-is : left .report ≡ register caps journal lent .buffers .report
+  pub whole-run : WholeRunClaim
+      registerRule
+      (acceptedCommands (wholeRun registerRule caps journal (length (lent .work)) (length (lent .answers)) (length (lent .report))))
+      (left .answers)

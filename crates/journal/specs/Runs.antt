@@ -1,0 +1,112 @@
+-- The run in code: how far it has come, and what it promises.
+use mathlib.Core.List.{List, _++_}
+use mathlib.Core.Logic.{_⊎_}
+use mathlib.Core.Path.{_≡_}
+use Prim.Native.Nat.{ℕ, _+_, _-_, _≤_, _<_}
+use lib.ListN.{length, take, drop}
+use Rattle.graph.specs.Network.{never, edgeCount}
+use Rattle.forest.specs.declared.table.Capacities as Forest
+use Rattle.forest.specs.Promise.{SameBeyond}
+use Rattle.journal.specs.declared.run.Progress.{Progress}
+use Rattle.journal.specs.Command.{Command}
+use Rattle.journal.specs.Refusal.{Refusal, refusalNumber}
+use Rattle.journal.specs.Answer.{answerBytes}
+use Rattle.journal.specs.Step.{after}
+use Rattle.journal.specs.Run.{Accepted, Run, stop, andThen, runWithin, commandsOf, bytesOfAnswers, placeAfter}
+use Rattle.journal.specs.Entry.{over, numberOf, bookAfter}
+use Rattle.journal.specs.Steps.{capacitiesOf, Expected, refuse, accept, expected, bookIn, Holds}
+
+-- What is left of a run: the run of the rest of the journal, from the book that the table holds, with the room that is left.
+unfoldable pub leftOf : Progress → List ℕ → ℕ → List ℕ → Run
+leftOf p journal room t =
+    runWithin (room - p .written) (capacitiesOf (p .shape .caps)) (bookIn (p .shape) t) (drop (p .place) journal)
+
+-- A run that is under way: at a command, with a table that holds its network and an answer buffer as long as what is written.
+pub record Underway (p : Progress) (journal work answers : List ℕ) : Type 0 where
+  pub at-command : p .place < length journal
+  pub short : length journal ≤ 65536
+  pub counted : p .commands ≤ p .place
+  pub written-fits : p .written ≤ length answers
+  pub holds : Holds (p .shape) work
+
+-- A run that has read a command whole, with so many bytes of operands.
+pub record Ready (p : Progress) (width : ℕ) (work answers : List ℕ) : Type 0 where
+  pub short : p .place + 1 + width ≤ 65536
+  pub counted : p .commands ≤ p .place
+  pub written-fits : p .written ≤ length answers
+  pub holds : Holds (p .shape) work
+
+-- The run ended by a refusal of this number.
+unfoldable pub refusedProgress : Progress → ℕ → Progress
+refusedProgress p number =
+    record { shape = p .shape; place = p .place; commands = p .commands; written = p .written; refusal = number }
+
+-- The answers behind what is written, with the next answer at their front.
+unfoldable pub writtenBehind : ℕ → List ℕ → List ℕ → List ℕ
+writtenBehind written bytes answers = take written answers ++ over bytes (drop written answers)
+
+-- The run is ended by this refusal.
+pub record RunRefused (p p′ : Progress) (old new oldAnswers newAnswers : List ℕ) (r : Refusal) : Type 0 where
+  pub progress-is : p′ ≡ refusedProgress p (refusalNumber r)
+  pub answers-are : newAnswers ≡ oldAnswers
+  pub same-beyond : SameBeyond (p .shape .caps) old new
+
+-- The run is one accepted command further.
+pub record RunAccepted (p p′ : Progress) (old new oldAnswers newAnswers : List ℕ) (a : Accepted) : Type 0 where
+  pub same-capacities : p′ .shape .caps ≡ p .shape .caps
+  pub place-is : p′ .place ≡ p .place + 1 + a .width
+  pub commands-are : p′ .commands ≡ p .commands + 1
+  pub written-is : p′ .written ≡ p .written + length (answerBytes (a .answer))
+  pub not-refused : p′ .refusal ≡ 0
+  pub answers-are : newAnswers ≡ writtenBehind (p .written) (answerBytes (a .answer)) oldAnswers
+  pub holds : Holds (p′ .shape) new
+  pub book-is : bookIn (p′ .shape) new ≡ after (bookIn (p .shape) old) (a .command)
+  pub same-beyond : SameBeyond (p .shape .caps) old new
+
+abbrev pub Ordering : Progress → Progress → List ℕ → List ℕ → List ℕ → List ℕ → Command → ℕ → Expected → Type 0
+Ordering p p′ old new oldAnswers newAnswers c width (refuse r) = RunRefused p p′ old new oldAnswers newAnswers r
+Ordering p p′ old new oldAnswers newAnswers c width (accept a) =
+    RunAccepted p p′ old new oldAnswers newAnswers (record { command = c; answer = a; width = width })
+
+-- What a command read whole makes of the run: just what is expected of it, with the room that is left.
+abbrev pub OrderPromise : Progress → Progress → List ℕ → List ℕ → List ℕ → List ℕ → Command → ℕ → Type 0
+OrderPromise p p′ old new oldAnswers newAnswers c width =
+    Ordering
+    p
+    p′
+    old
+    new
+    oldAnswers
+    newAnswers
+    c
+    width
+    (expected (capacitiesOf (p .shape .caps)) (bookIn (p .shape) old) (length oldAnswers - p .written) c)
+
+-- What is left of the run is a refusal: the run ends here.
+pub record RunStops (p p′ : Progress) (journal old new oldAnswers newAnswers : List ℕ) : Type 0 where
+  pub by : Refusal
+  pub left-is : leftOf p journal (length oldAnswers) old ≡ stop by
+  pub refused : RunRefused p p′ old new oldAnswers newAnswers by
+
+-- What is left of the run is an accepted command, and what is left behind it: the run goes on there.
+pub record RunContinues (p p′ : Progress) (journal old new oldAnswers newAnswers : List ℕ) : Type 0 where
+  pub next : Accepted
+  pub left-is : leftOf p journal (length oldAnswers) old ≡ andThen next (leftOf p′ journal (length oldAnswers) new)
+  pub accepted : RunAccepted p p′ old new oldAnswers newAnswers next
+
+abbrev pub RunOn : Progress → Progress → List ℕ → List ℕ → List ℕ → List ℕ → List ℕ → Type 0
+RunOn p p′ journal old new oldAnswers newAnswers =
+    RunStops p p′ journal old new oldAnswers newAnswers ⊎ RunContinues p p′ journal old new oldAnswers newAnswers
+
+-- What the whole run promises, of the definition's run of the journal from an empty network.
+pub record RunPromise (caps : Forest.Capacities) (run : Run) (p : Progress) (old new oldAnswers newAnswers : List ℕ) : Type 0 where
+  pub refusal-is : p .refusal ≡ numberOf (run .refusal)
+  pub place-is : p .place ≡ placeAfter (run .accepted)
+  pub commands-are : p .commands ≡ length (run .accepted)
+  pub written-is : p .written ≡ length (bytesOfAnswers (run .accepted))
+  pub cabinets-are : p .shape .vertices ≡ bookAfter never (commandsOf run) .network .vertices
+  pub spans-are : p .shape .edges ≡ edgeCount (bookAfter never (commandsOf run) .network)
+  pub answers-are : newAnswers ≡ over (bytesOfAnswers (run .accepted)) oldAnswers
+  pub same-beyond : SameBeyond caps old new
+  pub place-fits : p .place < 4294967296
+  pub written-fits : p .written < 4294967296

@@ -1,0 +1,41 @@
+-- Writing an answer into what is left of the answer buffer.
+use mathlib.Core.Bool.{cond}
+use mathlib.Core.List.{List}
+use mathlib.Core.Path.{_≡_}
+use Prim.Native.Nat.{ℕ}
+use lib.Dec.{leb}
+use lib.ListN.{length}
+use Rattle.forest.specs.declared.table.Capacities.{Capacities}
+use Rattle.forest.specs.Words.{bridgeWritten, cutWritten}
+use Rattle.journal.specs.declared.write.Written.{Written}
+use Rattle.journal.specs.declared.write.Written.the-variants as W
+use Rattle.journal.specs.declared.write.Answered.{Answered}
+use Rattle.journal.specs.declared.write.Answered.the-variants as L
+use Rattle.journal.specs.declared.write.Told.{Told}
+use Rattle.journal.specs.declared.write.Told.the-variants as K
+use Rattle.journal.specs.Answer.{Kind, district, ring, mesh}
+use Rattle.journal.specs.Entry.{over}
+
+-- The buffer with the bytes at its front, where they fit; else as before.
+unfoldable pub writeOr : List ℕ → List ℕ → List ℕ
+writeOr buffer bytes = cond (leb (length bytes) (length buffer)) (over bytes buffer) buffer
+
+-- How many bytes were written, or that there was no room.
+unfoldable pub writtenOf : List ℕ → List ℕ → Written
+writtenOf buffer bytes = cond (leb (length bytes) (length buffer)) (W.Bytes (length bytes)) W.NoRoom
+
+-- The bytes were written if there was room for them.
+pub record Wrote (old new : List ℕ) (result : Written) (bytes : List ℕ) : Type 0 where
+  pub buffer-is : new ≡ writeOr old bytes
+  pub result-is : result ≡ writtenOf old bytes
+
+-- Item i of a list that is written down in the table.
+unfoldable pub itemAt : Answered → Capacities → List ℕ → ℕ → ℕ
+itemAt L.Spans caps t i = bridgeWritten caps t i
+itemAt L.Cabinets caps t i = cutWritten caps t i
+
+-- The notices' kind in the paper.
+unfoldable pub kindOfTold : Told → Kind
+kindOfTold K.District = district
+kindOfTold K.Ring = ring
+kindOfTold K.Mesh = mesh

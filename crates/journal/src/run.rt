@@ -1,0 +1,115 @@
+// The run of a journal, from an empty network to its end or to the command that is refused.
+ghost use mathlib.Core.Bool.{_&&_};
+ghost use mathlib.Core.Path.{_≡_};
+ghost use Prim.Native.Nat.{_+_, _*_, _≤_};
+ghost use lib.Dec.{eqb, ltb};
+ghost use lib.ListN.{length};
+ghost use Rattle.graph.specs.Network.{never};
+ghost use Rattle.naming.specs.Book.{emptyBook};
+ghost use Rattle.journal.specs.Reads.{meaning};
+ghost use Rattle.journal.specs.Run.{runWithin};
+ghost use Rattle.journal.specs.Steps.{capacitiesOf};
+ghost use Rattle.journal.specs.Runs.{refusedProgress, Underway, Ready, OrderPromise, RunOn, RunPromise};
+use crate::read::Order;
+use crate::read::Taken;
+use crate::read::take_at;
+use crate::step::Stepped;
+use crate::step::step;
+use forest::Shape;
+use forest::table::Capacities;
+
+// How far a run has come: the network's size, the place of the next command, the commands accepted, the bytes of their answers, and the
+// number of the refusal that ended the run, 0 if none did.
+pub struct Progress {
+    pub shape: Shape,
+    pub place: usize,
+    pub commands: u32,
+    pub written: usize,
+    pub refusal: u32,
+}
+
+// The run ended by a refusal.
+fn refuse(p: Progress, number: u32) -> Progress
+    ensures { λ r. ⌜ r ≡ refusedProgress p number ⌝ }
+{
+    let shape = p.shape;
+    Progress {
+        shape: shape,
+        place: p.place,
+        commands: p.commands,
+        written: p.written,
+        refusal: number,
+    }
+}
+
+// One command read whole, with so many bytes of operands.
+fn run_order(
+    work: &mut [u32],
+    answers: &mut [u8],
+    p: Progress,
+    order: Order,
+    width: usize,
+) -> Progress
+    requires { ⌜ Ready p width (now work) (now answers) ⌝ }
+    ensures { λ r. ⌜ OrderPromise p r (now (work .entry)) (now (work .exit)) (now (answers .entry)) (now (answers .exit)) (meaning order) width ⌝ }
+{
+    let shape = p.shape;
+    let written = p.written;
+    let stepped = step(work, &mut answers[written..], shape, order);
+    match stepped {
+        Stepped::Done(next, size) => Progress {
+            shape: next,
+            place: p.place + 1 + width,
+            commands: p.commands + 1,
+            written: written + size,
+            refusal: 0,
+        },
+        Stepped::Refused(number) => refuse(p, number),
+    }
+}
+
+// What stands at the run's place.
+fn run_one(journal: &[u8], work: &mut [u32], answers: &mut [u8], p: Progress) -> Progress
+    requires { ⌜ Underway p (now journal) (now work) (now answers) ⌝ }
+    ensures { λ r. ⌜ RunOn p r (now (journal .entry)) (now (work .entry)) (now (work .exit)) (now (answers .entry)) (now (answers .exit)) ⌝ }
+{
+    let place = p.place;
+    let taken = take_at(journal, place);
+    match taken {
+        Taken::Unknown => refuse(p, 4),
+        Taken::CutOff => refuse(p, 5),
+        Taken::Command(order, width) => run_order(work, answers, p, order, width),
+    }
+}
+
+// The run is not refused, and there is more of the journal.
+fn goes_on(p: Progress, end: usize) -> bool
+    ensures { λ r. ⌜ r ≡ (eqb (p .refusal) 0 && ltb (p .place) end) ⌝ }
+{
+    if p.refusal != 0 {
+        return false;
+    }
+    p.place < end
+}
+
+// The whole run.
+pub fn run(journal: &[u8], work: &mut [u32], answers: &mut [u8], caps: Capacities) -> Progress
+    requires { ⌜ (caps .vertices ≤ 4096) × (caps .edges ≤ 8192) × (caps .vertices * 24 + caps .edges * 8 ≤ length (now work)) × (length (now journal) ≤ 65536) ⌝ }
+    ensures { λ r. ⌜ RunPromise caps (runWithin (length (now (answers .entry))) (capacitiesOf caps) (emptyBook never) (now (journal .entry))) r (now (work .entry)) (now (work .exit)) (now (answers .entry)) (now (answers .exit)) ⌝ }
+{
+    let mut p = Progress {
+        shape: Shape {
+            caps: caps,
+            vertices: 0,
+            edges: 0,
+        },
+        place: 0,
+        commands: 0,
+        written: 0,
+        refusal: 0,
+    };
+    while goes_on(p, journal.len()) {
+        p = run_one(journal, work, answers, p);
+    }
+    p
+}

@@ -1,0 +1,248 @@
+//! Measures the engines against each other: journals of several shapes at three sizes.
+//!
+//!     bench [--quick]     with --quick one run of each, for a look
+//!
+//! All figures come from one process. Times are for looking; the ratios are what is compared.
+
+use differential::engine::{work_needed, Engine, REPORT_NUMBERS};
+use differential::incremental::Incremental;
+use differential::journals::Writer;
+use differential::layouts::{self, Layout};
+use differential::random::Random;
+use differential::second::Second;
+use std::time::{Duration, Instant};
+
+const SIZES: [usize; 3] = [256, 1024, 4096];
+const ANSWER_ROOM: usize = 24 << 20;
+
+type Shape = (&'static str, fn(usize) -> Writer);
+
+const SHAPES: [Shape; 8] = [
+    ("random", random),
+    ("chain then loops", chain_then_loops),
+    ("one long loop", long_loop),
+    ("pairwise doubling", pairwise),
+    ("deep queries", deep_queries),
+    ("star", star),
+    ("name look-ups", look_ups),
+    ("wide ranges", wide_ranges),
+];
+
+fn written(layout: &Layout) -> Writer {
+    let mut writer = Writer::new();
+    writer.enter(layout);
+    writer
+}
+
+fn random(cabinets: usize) -> Writer {
+    written(&layouts::random_spans(&mut Random::new(1), cabinets, 2 * cabinets))
+}
+
+fn chain_then_loops(cabinets: usize) -> Writer {
+    written(&layouts::chain_then_loops(&mut Random::new(2), cabinets, cabinets))
+}
+
+fn long_loop(cabinets: usize) -> Writer {
+    let mut writer = written(&layouts::chain(cabinets));
+    writer.span(cabinets - 1, 0);
+    writer
+}
+
+fn pairwise(cabinets: usize) -> Writer {
+    written(&layouts::doubling(&mut Random::new(3), cabinets, 2))
+}
+
+/// A chain, then sole spans and cut cabinets from end to end.
+fn deep_queries(cabinets: usize) -> Writer {
+    let mut writer = written(&layouts::chain(cabinets));
+    for _ in 0..cabinets / 8 {
+        writer.command(0x06, &[0, cabinets - 1]);
+        writer.command(0x07, &[cabinets - 1, 0]);
+    }
+    writer
+}
+
+fn star(cabinets: usize) -> Writer {
+    written(&layouts::star(cabinets, 2))
+}
+
+fn look_ups(cabinets: usize) -> Writer {
+    let mut random = Random::new(4);
+    let mut writer = written(&layouts::random_spans(&mut random, cabinets, cabinets));
+    for i in 0..3 * cabinets {
+        writer.command(3 + (i % 2) as u8, &[random.below(cabinets)]);
+    }
+    writer
+}
+
+/// Pairs of far cabinets, each joined to the first: few items change, over a wide range.
+fn wide_ranges(cabinets: usize) -> Writer {
+    let mut layout = Layout::of(cabinets);
+    let half = cabinets / 2;
+    layout.spans.extend((0..half).map(|i| (i, cabinets - 1 - i)));
+    layout.spans.extend((1..half).map(|i| (0, i)));
+    written(&layout)
+}
+
+/// A journal with the capacities that it is run with.
+struct Load {
+    journal: Vec<u8>,
+    c: u32,
+    s: u32,
+}
+
+/// The buffers of all runs.
+struct Buffers {
+    work: Vec<u32>,
+    answers: Vec<u8>,
+    report: [u32; REPORT_NUMBERS],
+}
+
+/// The best time of a run among several; the buffers are filled before each, outside the time.
+fn best_time(engine: &dyn Engine, load: &Load, buffers: &mut Buffers, budget: Duration) -> f64 {
+    let mut best = f64::INFINITY;
+    let start = Instant::now();
+    loop {
+        let work = &mut buffers.work[..work_needed(load.c, load.s)];
+        work.fill(u32::MAX);
+        let answers = &mut buffers.answers;
+        let clock = Instant::now();
+        let number = engine.run(load.c, load.s, &load.journal, work, answers, &mut buffers.report);
+        best = best.min(clock.elapsed().as_secs_f64());
+        assert_eq!(number, 0, "{} refuses a journal of the benchmark", engine.name());
+        if start.elapsed() >= budget {
+            return best;
+        }
+    }
+}
+
+/// What one engine took for one journal.
+struct Figure {
+    micros_per_command: f64,
+    answer_bytes: u32,
+    commands: u32,
+}
+
+fn measure(engine: &dyn Engine, load: &Load, buffers: &mut Buffers, budget: Duration) -> Figure {
+    let seconds = best_time(engine, load, buffers, budget);
+    let commands = buffers.report[2];
+    Figure {
+        micros_per_command: 1e6 * seconds / f64::from(commands.max(1)),
+        answer_bytes: buffers.report[3],
+        commands,
+    }
+}
+
+fn engines() -> Vec<Box<dyn Engine>> {
+    vec![
+        Box::new(Second::new()),
+        Box::new(Incremental),
+        #[cfg(feature = "register")]
+        Box::new(differential::register::Register),
+    ]
+}
+
+/// The figures of one shape: for each size those of each engine.
+fn shape_figures(
+    shape: fn(usize) -> Writer,
+    buffers: &mut Buffers,
+    budget: Duration,
+) -> Vec<Vec<Figure>> {
+    let mut figures = Vec::new();
+    for size in SIZES {
+        let journal = shape(size).bytes;
+        let load = Load { journal, c: size as u32, s: 2 * size as u32 };
+        let engines = engines();
+        figures.push(engines.iter().map(|e| measure(e.as_ref(), &load, buffers, budget)).collect());
+    }
+    figures
+}
+
+fn print_shape(name: &str, figures: &[Vec<Figure>]) {
+    for (size, row) in SIZES.iter().zip(figures) {
+        print!("{name:<18} {size:>5} {:>6}", row[0].commands);
+        print!(" {:>8.1}", f64::from(row[0].answer_bytes) / f64::from(row[0].commands));
+        for figure in row {
+            print!(" {:>11.3}", figure.micros_per_command);
+        }
+        print!(" {:>9.1}", row[0].micros_per_command / row[1].micros_per_command);
+        if let Some(register) = row.get(2) {
+            print!(" {:>9.1}", row[0].micros_per_command / register.micros_per_command);
+            print!(" {:>9.2}", register.micros_per_command / row[1].micros_per_command);
+        }
+        println!();
+    }
+}
+
+/// How much longer a command takes at four times the size.
+fn print_growth(name: &str, figures: &[Vec<Figure>]) {
+    print!("{name:<18}");
+    for engine in 0..figures[0].len() {
+        for sizes in figures.windows(2) {
+            let growth = sizes[1][engine].micros_per_command / sizes[0][engine].micros_per_command;
+            print!(" {growth:>9.2}");
+        }
+    }
+    println!();
+}
+
+fn print_heads() {
+    println!("Time per command in microseconds, the least of several runs in one process.");
+    println!("The working table is not cleared first: it is filled with ones before each run,");
+    println!("outside the time. Clearing it at the end is part of the run and of the time.");
+    println!();
+    print!("{:<18} {:>5} {:>6} {:>8}", "shape", "size", "cmds", "bytes/c");
+    for engine in engines() {
+        print!(" {:>11}", engine.name());
+    }
+    print!(" {:>9}", "sec/incr");
+    if engines().len() > 2 {
+        print!(" {:>9} {:>9}", "sec/reg", "reg/incr");
+    }
+    println!();
+}
+
+fn print_growth_heads() {
+    println!();
+    println!("Growth of the time per command from size to size (256 to 1,024; 1,024 to 4,096):");
+    print!("{:<18}", "shape");
+    for engine in engines() {
+        print!(" {:>19}", engine.name());
+    }
+    println!();
+}
+
+/// What a run costs before its first command.
+fn print_empty_runs(buffers: &mut Buffers, budget: Duration) {
+    println!();
+    println!("A run of the empty journal, in microseconds (the table's clearing):");
+    for size in SIZES {
+        let load = Load { journal: Vec::new(), c: size as u32, s: 2 * size as u32 };
+        print!("{:<18} {size:>5}", "empty journal");
+        for engine in engines() {
+            let seconds = best_time(engine.as_ref(), &load, buffers, budget);
+            print!(" {:>11.1}", 1e6 * seconds);
+        }
+        println!();
+    }
+}
+
+fn main() {
+    let quick = std::env::args().any(|word| word == "--quick");
+    let budget = Duration::from_millis(if quick { 0 } else { 300 });
+    let mut buffers = Buffers {
+        work: vec![1; work_needed(4096, 8192)],
+        answers: vec![1; ANSWER_ROOM],
+        report: [0; REPORT_NUMBERS],
+    };
+    print_heads();
+    let mut all = Vec::new();
+    for (name, shape) in SHAPES {
+        let figures = shape_figures(shape, &mut buffers, budget);
+        print_shape(name, &figures);
+        all.push((name, figures));
+    }
+    print_growth_heads();
+    all.iter().for_each(|(name, figures)| print_growth(name, figures));
+    print_empty_runs(&mut buffers, budget);
+}

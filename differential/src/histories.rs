@@ -1,0 +1,196 @@
+//! The histories of document 01: the marked ones with the answers that it gives for them, and the
+//! unmarked ones.
+
+use crate::cases::{unhex, Case};
+use crate::engine::{LONGEST_JOURNAL, MOST_CABINETS, MOST_SPANS};
+use crate::journals::{large, Writer};
+use crate::layouts;
+use crate::random::Random;
+
+/// A history: what it is, its journal, all its answers, and the report, whose first number is the
+/// one returned.
+type History = (&'static str, &'static str, &'static str, [u32; 6]);
+
+pub const TRIANGLE: &str = "01 01 01 02 0000 0001 02 0001 0002 02 0002 0000";
+
+pub const TRIANGLE_ANSWERS: &str = "81 0000 81 0001 81 0002 \
+    82 0000 0000 0001 01 0001 0000 \
+    82 0001 0001 0001 01 0002 0000 \
+    82 0002 0000 0003 02 0001 0000 02 0002 0000 03 0001 0000";
+
+const MARKED: [History; 14] = [
+    ("empty journal", "", "", [0, 0, 0, 0, 0, 0]),
+    ("triangle", TRIANGLE, TRIANGLE_ANSWERS, [0, 18, 6, 55, 3, 3]),
+    (
+        "two cabinets, one span: one district, two rings, mesh 0, span sole",
+        "01 01 02 0000 0001 03 0000 03 0001 04 0000 04 0001 05 0000 0001 08 0000",
+        "81 0000 81 0001 82 0000 0000 0001 01 0001 0000 \
+         83 0000 83 0000 84 0000 84 0001 85 01 0000 88 01",
+        [0, 27, 9, 36, 2, 1],
+    ),
+    (
+        "two cabinets, two spans: ring 0, mesh 0, neither span sole",
+        "01 01 02 0000 0001 02 0000 0001 04 0000 04 0001 05 0000 0001 08 0000 08 0001",
+        "81 0000 81 0001 82 0000 0000 0001 01 0001 0000 \
+         82 0001 0000 0001 02 0001 0000 84 0000 84 0000 85 01 0000 88 00 88 00",
+        [0, 29, 9, 44, 2, 2],
+    ),
+    (
+        "chain: sole spans both ways, cut cabinet 1",
+        "01 01 01 02 0000 0001 02 0001 0002 06 0000 0002 06 0002 0000 07 0000 0002 07 0002 0000",
+        "81 0000 81 0001 81 0002 \
+         82 0000 0000 0001 01 0001 0000 82 0001 0001 0001 01 0002 0000 \
+         86 0002 0000 0001 86 0002 0001 0000 87 0001 0001 87 0001 0001",
+        [0, 33, 9, 57, 3, 2],
+    ),
+    (
+        "spans 1-2, 1-2, 0-1, 0-1: one ring, two meshes",
+        "01 01 01 02 0001 0002 02 0001 0002 02 0000 0001 02 0000 0001 \
+         04 0000 04 0001 04 0002 05 0001 0002 05 0000 0001 05 0000 0002 06 0000 0002 07 0000 0002",
+        "81 0000 81 0001 81 0002 \
+         82 0000 0000 0001 01 0002 0001 82 0001 0000 0001 02 0002 0001 \
+         82 0002 0002 0001 01 0000 0001 82 0003 0002 0001 02 0000 0001 \
+         84 0001 84 0001 84 0001 85 01 0000 85 01 0002 85 00 0000 86 0000 87 0001 0001",
+        [0, 57, 15, 86, 3, 4],
+    ),
+    (
+        "spans 0-1, 0-1, 2-3, 2-3, 1-2, 0-3: all to name 0",
+        "01 01 01 01 02 0000 0001 02 0000 0001 02 0002 0003 02 0002 0003 02 0001 0002 \
+         02 0000 0003",
+        "81 0000 81 0001 81 0002 81 0003 \
+         82 0000 0000 0001 01 0001 0000 82 0001 0000 0001 02 0001 0000 \
+         82 0002 0002 0001 01 0003 0002 82 0003 0002 0001 02 0003 0002 \
+         82 0004 0004 0002 01 0002 0000 01 0003 0000 \
+         82 0005 0000 0005 02 0002 0000 02 0003 0000 03 0002 0000 03 0003 0000 03 0004 0000",
+        [0, 34, 10, 109, 4, 6],
+    ),
+    ("one cabinet, 06 0 0", "01 06 0000 0000", "81 0000 86 0000", [0, 6, 2, 6, 1, 0]),
+    ("one cabinet, 07 0 0", "01 07 0000 0000", "81 0000 87 0000", [0, 6, 2, 6, 1, 0]),
+    ("one cabinet, 02 0 0", "01 02 0000 0000", "81 0000", [8, 1, 1, 3, 1, 0]),
+    ("one cabinet, 02 0 5", "01 02 0000 0005", "81 0000", [6, 1, 1, 3, 1, 0]),
+    ("two cabinets, 06 0 1", "01 01 06 0000 0001", "81 0000 81 0001", [10, 2, 2, 6, 2, 0]),
+    ("two cabinets, 07 0 1", "01 01 07 0000 0001", "81 0000 81 0001", [10, 2, 2, 6, 2, 0]),
+    ("02 00 00 alone", "02 00 00", "", [5, 0, 0, 0, 0, 0]),
+];
+
+/// The marked histories, with their answers and reports known.
+pub fn marked() -> Vec<Case> {
+    let case = |(label, journal, answers, report): History| {
+        Case::with_room(label, 256, 512, unhex(journal), 0).leaves(unhex(answers), report)
+    };
+    MARKED.into_iter().map(case).collect()
+}
+
+/// Every unmarked history: the longest journal, full capacities, room to the byte.
+pub fn unmarked() -> Vec<Case> {
+    let parts = [longest_journals(), full_cabinets(), full_spans(), to_the_byte()];
+    parts.into_iter().flatten().collect()
+}
+
+/// 65,536 bytes are read, 65,537 are refused.
+fn longest_journals() -> Vec<Case> {
+    let mut writer = Writer::new();
+    writer.cabinet();
+    while writer.bytes.len() + 3 <= LONGEST_JOURNAL {
+        writer.command(0x03, &[0]);
+    }
+    let longest = writer.bytes;
+    let mut longer = longest.clone();
+    longer.push(0x01);
+    let mut wrong = longer[1..].to_vec();
+    wrong[0] = 0x01;
+    vec![
+        Case::new("65,536 bytes", 1, 1, longest).returns(0),
+        Case::with_room("65,537 bytes", 1, 1, longer, 100_000).returns(3),
+        Case::new("65,536 bytes, one of them wrong", 1, 1, wrong).returns(4),
+    ]
+}
+
+/// C cabinets are taken and the next is refused.
+fn full_cabinets() -> Vec<Case> {
+    let mut cases = Vec::new();
+    for c in [1, 2, 3, 255, 256, 257, MOST_CABINETS] {
+        let full = vec![0x01; c as usize];
+        let over = vec![0x01; c as usize + 1];
+        cases.push(Case::new("C cabinets", c, 1, full).returns(0));
+        cases.push(Case::new("one cabinet more than C", c, 1, over).returns(9));
+    }
+    cases
+}
+
+/// S spans are taken and the next is refused.
+fn full_spans() -> Vec<Case> {
+    let mut cases = Vec::new();
+    for s in [1, 2, 3, 255, 256, 257, MOST_SPANS] {
+        let mut writer = Writer::new();
+        writer.enter(&layouts::Layout { cabinets: 2, spans: vec![(0, 1); s as usize] });
+        let room = 40 + 7 * s as usize;
+        cases.push(Case::with_room("S spans", 2, s, writer.bytes.clone(), room).returns(0));
+        writer.span(1, 0);
+        cases.push(Case::with_room("one span more than S", 2, s, writer.bytes, room).returns(9));
+    }
+    cases
+}
+
+/// An answer that fits to the byte, and one byte less.
+fn to_the_byte() -> Vec<Case> {
+    let mut cases = Vec::new();
+    for (label, journal, answers, report) in MARKED {
+        let needed = unhex(answers).len();
+        if report[0] == 0 && needed > 0 {
+            let case = |room| Case::with_room(label, 256, 512, unhex(journal), room);
+            cases.push(case(needed).returns(0));
+            cases.push(case(needed - 1).returns(11));
+        }
+    }
+    cases
+}
+
+/// The greatest networks: 4,096 cabinets and up to 8,192 spans; with all of them one more is refused.
+pub fn largest() -> Vec<Case> {
+    let mut random = Random::new(2);
+    let (cabinets, spans) = (MOST_CABINETS as usize, MOST_SPANS as usize);
+    let shapes = [
+        ("random", layouts::random_spans(&mut random, cabinets, spans)),
+        ("sparse", layouts::random_spans(&mut random, cabinets, cabinets)),
+        ("chain then loops", layouts::chain_then_loops(&mut random, cabinets, cabinets)),
+        ("pairwise doubling", layouts::doubling(&mut random, cabinets, 2)),
+        ("star", layouts::star(cabinets, 2)),
+    ];
+    let mut cases = Vec::new();
+    for (seed, (label, layout)) in shapes.iter().enumerate() {
+        let mut journal = large(seed as u64, layout);
+        let label = format!("greatest size, {label}");
+        let full = layout.spans.len() == spans;
+        if full {
+            journal.extend([0x02, 0, 0, 0, 1]);
+        }
+        let case = Case::with_room(&label, MOST_CABINETS, MOST_SPANS, journal, 8 << 20);
+        cases.push(case.returns(if full { 9 } else { 0 }));
+    }
+    cases.extend(long_lists());
+    cases
+}
+
+/// The longest lists that a chain of all cabinets can have, then the span that closes it: with
+/// room for all to the byte, and one byte less.
+fn long_lists() -> [Case; 2] {
+    let cabinets = MOST_CABINETS as usize;
+    let links = cabinets - 1;
+    let mut writer = Writer::new();
+    writer.enter(&layouts::chain(cabinets));
+    for pair in [[0, links], [links, 0]] {
+        writer.command(0x06, &pair);
+        writer.command(0x07, &pair);
+    }
+    writer.span(links, 0);
+    // Each link sends one district notice. The last span sends a notice for every ring but the
+    // first and for every mesh but the first.
+    let lists = 2 * (3 + 2 * links) + 2 * (3 + 2 * (links - 1));
+    let needed = 3 * cabinets + 12 * links + lists + 7 + 5 * (links + links - 1);
+    let case = |room| {
+        let journal = writer.bytes.clone();
+        Case::with_room("the longest lists", MOST_CABINETS, MOST_SPANS, journal, room)
+    };
+    [case(needed).returns(0), case(needed - 1).returns(11)]
+}

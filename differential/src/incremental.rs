@@ -1,0 +1,254 @@
+//! The register by the method of the proved one, written by hand over ordinary arrays: names with
+//! sizes and ranges, and one block forest. Not proved.
+
+mod forest;
+mod naming;
+
+use crate::engine::{start_refusal, work_needed, Engine, REPORT_NUMBERS};
+use forest::Forest;
+
+pub struct Incremental;
+
+/// The answer buffer, and how much of it is written.
+struct Out<'a> {
+    bytes: &'a mut [u8],
+    written: usize,
+}
+
+impl Out<'_> {
+    /// Refusal 11 if fewer bytes than `length` are left.
+    fn need(&self, length: usize) -> Result<(), u32> {
+        if length > self.bytes.len() - self.written {
+            return Err(11);
+        }
+        Ok(())
+    }
+
+    fn byte(&mut self, byte: u8) {
+        self.bytes[self.written] = byte;
+        self.written += 1;
+    }
+
+    fn field(&mut self, value: u32) {
+        self.byte((value >> 8) as u8);
+        self.byte(value as u8);
+    }
+}
+
+/// A run under way.
+struct Run<'a> {
+    capacities: (u32, u32),
+    journal: &'a [u8],
+    place: usize,
+    out: Out<'a>,
+    forest: Forest,
+}
+
+impl Run<'_> {
+    fn operand(&self, i: usize) -> u32 {
+        let at = self.place + 1 + 2 * i;
+        u32::from(self.journal[at]) << 8 | u32::from(self.journal[at + 1])
+    }
+
+    fn known(&self, cabinet: u32) -> Result<u32, u32> {
+        if cabinet < self.forest.cabinets() {
+            Ok(cabinet)
+        } else {
+            Err(6)
+        }
+    }
+
+    fn one_cabinet(&self) -> Result<u32, u32> {
+        self.known(self.operand(0))
+    }
+
+    fn two_cabinets(&self) -> Result<(u32, u32), u32> {
+        Ok((self.known(self.operand(0))?, self.known(self.operand(1))?))
+    }
+
+    fn two_different(&self) -> Result<(u32, u32), u32> {
+        let (a, b) = self.two_cabinets()?;
+        if a == b {
+            return Err(8);
+        }
+        Ok((a, b))
+    }
+
+    fn two_of_one_district(&self) -> Result<(u32, u32), u32> {
+        let (a, b) = self.two_cabinets()?;
+        if self.forest.district(a) != self.forest.district(b) {
+            return Err(10);
+        }
+        Ok((a, b))
+    }
+
+    /// Takes the command at the place reached and gives its length, or refuses it.
+    fn step(&mut self) -> Result<usize, u32> {
+        let byte = self.journal[self.place];
+        let length = match byte {
+            0x01 => 1,
+            0x03 | 0x04 | 0x08 => 3,
+            0x02 | 0x05..=0x07 => 5,
+            _ => return Err(4),
+        };
+        if self.journal.len() - self.place < length {
+            return Err(5);
+        }
+        match byte {
+            0x01 => self.add_cabinet()?,
+            0x02 => self.add_span()?,
+            0x03 => {
+                let name = self.forest.district(self.one_cabinet()?);
+                self.name_answer(0x83, name)?;
+            }
+            0x04 => {
+                let name = self.forest.ring(self.one_cabinet()?);
+                self.name_answer(0x84, name)?;
+            }
+            0x05 => self.shared_mesh()?,
+            0x06 => self.sole_spans()?,
+            0x07 => self.cut_cabinets()?,
+            _ => self.is_sole()?,
+        }
+        Ok(length)
+    }
+
+    fn add_cabinet(&mut self) -> Result<(), u32> {
+        let number = self.forest.cabinets();
+        if number >= self.capacities.0 {
+            return Err(9);
+        }
+        self.name_answer(0x81, number)?;
+        self.forest.add_cabinet();
+        Ok(())
+    }
+
+    fn name_answer(&mut self, first: u8, name: u32) -> Result<(), u32> {
+        self.out.need(3)?;
+        self.out.byte(first);
+        self.out.field(name);
+        Ok(())
+    }
+
+    fn add_span(&mut self) -> Result<(), u32> {
+        let (a, b) = self.two_different()?;
+        let number = self.forest.spans();
+        if number >= self.capacities.1 {
+            return Err(9);
+        }
+        let mesh = self.forest.add_span(a, b);
+        let count = self.forest.changed().map(|(_, changed)| changed.len()).sum::<usize>();
+        self.out.need(7 + 5 * count)?;
+        self.out.byte(0x82);
+        self.out.field(number);
+        self.out.field(mesh);
+        self.out.field(count as u32);
+        for (kind, changed) in self.forest.changed() {
+            for &(item, name) in changed {
+                self.out.byte(kind);
+                self.out.field(item);
+                self.out.field(name);
+            }
+        }
+        Ok(())
+    }
+
+    fn shared_mesh(&mut self) -> Result<(), u32> {
+        let (a, b) = self.two_different()?;
+        let name = self.forest.shared_mesh(a, b);
+        self.out.need(4)?;
+        self.out.byte(0x85);
+        self.out.byte(name.is_some() as u8);
+        self.out.field(name.unwrap_or(0));
+        Ok(())
+    }
+
+    fn sole_spans(&mut self) -> Result<(), u32> {
+        let (a, b) = self.two_of_one_district()?;
+        self.forest.climb(a, b);
+        let count = self.forest.sole_spans().count();
+        self.out.need(3 + 2 * count)?;
+        self.out.byte(0x86);
+        self.out.field(count as u32);
+        for span in self.forest.sole_spans() {
+            self.out.field(span);
+        }
+        Ok(())
+    }
+
+    fn cut_cabinets(&mut self) -> Result<(), u32> {
+        let (a, b) = self.two_of_one_district()?;
+        self.forest.climb(a, b);
+        let cut = self.forest.cut_cabinets();
+        self.out.need(3 + 2 * cut.len())?;
+        self.out.byte(0x87);
+        self.out.field(cut.len() as u32);
+        for &cabinet in cut {
+            self.out.field(cabinet);
+        }
+        Ok(())
+    }
+
+    fn is_sole(&mut self) -> Result<(), u32> {
+        let span = self.operand(0);
+        if span >= self.forest.spans() {
+            return Err(7);
+        }
+        self.out.need(2)?;
+        self.out.byte(0x88);
+        self.out.byte(self.forest.is_sole(span) as u8);
+        Ok(())
+    }
+
+    /// Takes commands up to the end or to the one refused; gives the report.
+    fn all(&mut self) -> [u32; REPORT_NUMBERS] {
+        let mut number = 0;
+        let mut commands = 0;
+        let mut counts = (0, 0);
+        while self.place < self.journal.len() {
+            match self.step() {
+                Ok(length) => self.place += length,
+                Err(refusal) => {
+                    number = refusal;
+                    break;
+                }
+            }
+            commands += 1;
+            counts = (self.forest.cabinets(), self.forest.spans());
+        }
+        let bytes = self.out.written as u32;
+        [number, self.place as u32, commands, bytes, counts.0, counts.1]
+    }
+}
+
+impl Engine for Incremental {
+    fn name(&self) -> &'static str {
+        "incremental"
+    }
+
+    fn run(
+        &self,
+        c: u32,
+        s: u32,
+        journal: &[u8],
+        work: &mut [u32],
+        answers: &mut [u8],
+        report: &mut [u32],
+    ) -> u32 {
+        let number = start_refusal(c, s, journal.len(), work.len(), report.len());
+        if number != 0 {
+            return number;
+        }
+        let mut run = Run {
+            capacities: (c, s),
+            journal,
+            place: 0,
+            out: Out { bytes: answers, written: 0 },
+            forest: Forest::with_room(c as usize, s as usize),
+        };
+        let numbers = run.all();
+        work[..work_needed(c, s)].fill(0);
+        report[..REPORT_NUMBERS].copy_from_slice(&numbers);
+        numbers[0]
+    }
+}

@@ -1,0 +1,276 @@
+//! Networks to write journals from: a number of cabinets and the spans in their order of entry.
+
+use crate::random::Random;
+
+#[derive(Clone, Debug, Default)]
+pub struct Layout {
+    pub cabinets: usize,
+    pub spans: Vec<(usize, usize)>,
+}
+
+impl Layout {
+    pub fn of(cabinets: usize) -> Layout {
+        Layout { cabinets, spans: Vec::new() }
+    }
+
+    fn add(&mut self, a: usize, b: usize) {
+        if a != b {
+            self.spans.push((a, b));
+        }
+    }
+
+    /// Gives the cabinets other numbers, and turns some spans round.
+    fn renumber(&mut self, random: &mut Random) {
+        let mut numbers: Vec<usize> = (0..self.cabinets).collect();
+        random.shuffle(&mut numbers);
+        for (a, b) in &mut self.spans {
+            (*a, *b) = (numbers[*a], numbers[*b]);
+            if random.chance(50) {
+                (*a, *b) = (*b, *a);
+            }
+        }
+    }
+}
+
+/// A style's name, and how a layout of it is made.
+pub type Style = (&'static str, fn(&mut Random) -> Layout);
+
+pub const STYLES: [Style; 10] = [
+    ("dense", dense),
+    ("sparse", sparse),
+    ("tree-like", tree_like),
+    ("doubled spans", doubled),
+    ("equal sizes", equal_sizes),
+    ("pairwise doubling", pairwise),
+    ("loops at cut cabinets", cactus),
+    ("chain then loops", chain_and_loops),
+    ("loop of loops", loop_of_loops),
+    ("ladder of equal loops", equal_loops),
+];
+
+/// Some hundred cabinets: a chain then loops, random spans, or pairwise doubling.
+pub const MEDIUM: Style = ("medium size", medium);
+
+fn medium(random: &mut Random) -> Layout {
+    let cabinets = random.between(100, 400);
+    let mut layout = match random.below(3) {
+        0 => chain_then_loops(random, cabinets, cabinets / 2),
+        1 => random_spans(random, cabinets, cabinets + cabinets / 2),
+        _ => doubling(random, 256, 2),
+    };
+    layout.renumber(random);
+    layout
+}
+
+fn dense(random: &mut Random) -> Layout {
+    let cabinets = random.between(2, 9);
+    let spans = random.between(cabinets, 4 * cabinets);
+    random_spans(random, cabinets, spans)
+}
+
+fn sparse(random: &mut Random) -> Layout {
+    let cabinets = random.between(2, 40);
+    let spans = random.between(cabinets / 2, cabinets + 4);
+    random_spans(random, cabinets, spans)
+}
+
+/// So many spans, each between two cabinets taken at random.
+pub fn random_spans(random: &mut Random, cabinets: usize, spans: usize) -> Layout {
+    let mut layout = Layout::of(cabinets);
+    while layout.spans.len() < spans {
+        layout.add(random.below(cabinets), random.below(cabinets));
+    }
+    layout
+}
+
+fn tree_like(random: &mut Random) -> Layout {
+    let cabinets = random.between(2, 30);
+    let mut layout = Layout::of(cabinets);
+    let reach = random.between(1, cabinets);
+    for cabinet in 1..cabinets {
+        layout.add(cabinet, cabinet - 1 - random.below(reach.min(cabinet)));
+    }
+    if random.chance(60) {
+        random.shuffle(&mut layout.spans);
+    }
+    for _ in 0..random.below(6) {
+        layout.add(random.below(cabinets), random.below(cabinets));
+    }
+    layout.renumber(random);
+    layout
+}
+
+fn doubled(random: &mut Random) -> Layout {
+    let cabinets = random.between(2, 12);
+    let mut layout = Layout::of(cabinets);
+    for _ in 0..random.between(1, 2 * cabinets) {
+        let old = layout.spans.len();
+        if old > 0 && random.chance(50) {
+            let (a, b) = layout.spans[random.below(old)];
+            layout.add(b, a);
+        } else {
+            layout.add(random.below(cabinets), random.below(cabinets));
+        }
+    }
+    layout
+}
+
+/// Several groups of one size, chains or loops, joined at random.
+fn equal_sizes(random: &mut Random) -> Layout {
+    let (groups, size) = (random.between(2, 7), random.between(1, 4));
+    let cabinets = groups * size;
+    let mut layout = Layout::of(cabinets);
+    let closed = random.chance(60);
+    for group in 0..groups {
+        for i in 1..size {
+            layout.add(group * size + i - 1, group * size + i);
+        }
+        if closed && size > 1 {
+            layout.add(group * size + size - 1, group * size);
+        }
+    }
+    if random.chance(50) {
+        random.shuffle(&mut layout.spans);
+    }
+    for _ in 0..random.between(1, 2 * groups) {
+        layout.add(random.below(cabinets), random.below(cabinets));
+    }
+    layout.renumber(random);
+    layout
+}
+
+fn pairwise(random: &mut Random) -> Layout {
+    let (levels, ways) = (random.between(1, 5), random.between(1, 2));
+    let mut layout = doubling(random, 1 << levels, ways);
+    layout.renumber(random);
+    layout
+}
+
+/// Groups of one size are joined in pairs, by one or two spans, until one is left. The number of
+/// cabinets is a power of 2.
+pub fn doubling(random: &mut Random, cabinets: usize, ways: usize) -> Layout {
+    let mut layout = Layout::of(cabinets);
+    let mut size = 1;
+    while size < cabinets {
+        let mut level = Vec::new();
+        for start in (0..cabinets).step_by(2 * size) {
+            for _ in 0..ways {
+                level.push((start + random.below(size), start + size + random.below(size)));
+            }
+        }
+        random.shuffle(&mut level);
+        layout.spans.extend(level);
+        size *= 2;
+    }
+    layout
+}
+
+/// Loops that hang at each other by single cabinets.
+fn cactus(random: &mut Random) -> Layout {
+    let mut layout = Layout::of(1);
+    for _ in 0..random.between(1, 7) {
+        let start = random.below(layout.cabinets);
+        let mut last = start;
+        for _ in 0..random.between(1, 4) {
+            layout.cabinets += 1;
+            layout.add(last, layout.cabinets - 1);
+            last = layout.cabinets - 1;
+        }
+        if random.chance(75) {
+            layout.add(last, start);
+        }
+    }
+    if random.chance(50) {
+        random.shuffle(&mut layout.spans);
+    }
+    for _ in 0..random.below(4) {
+        layout.add(random.below(layout.cabinets), random.below(layout.cabinets));
+    }
+    layout.renumber(random);
+    layout
+}
+
+fn chain_and_loops(random: &mut Random) -> Layout {
+    let cabinets = random.between(2, 40);
+    let loops = random.below(cabinets);
+    let mut layout = chain_then_loops(random, cabinets, loops);
+    if random.chance(70) {
+        layout.renumber(random);
+    }
+    layout
+}
+
+/// A chain from end to end, then spans between cabinets of it.
+pub fn chain_then_loops(random: &mut Random, cabinets: usize, loops: usize) -> Layout {
+    let mut layout = chain(cabinets);
+    while layout.spans.len() < cabinets - 1 + loops {
+        let start = random.below(cabinets);
+        let reach = random.between(1, 16.min(cabinets));
+        layout.add(start, (start + reach).min(cabinets - 1));
+    }
+    layout
+}
+
+pub fn chain(cabinets: usize) -> Layout {
+    let mut layout = Layout::of(cabinets);
+    for cabinet in 1..cabinets {
+        layout.add(cabinet - 1, cabinet);
+    }
+    layout
+}
+
+/// Every other cabinet is joined to the first, `ways` times.
+pub fn star(cabinets: usize, ways: usize) -> Layout {
+    let mut layout = Layout::of(cabinets);
+    for _ in 0..ways {
+        for cabinet in 1..cabinets {
+            layout.add(0, cabinet);
+        }
+    }
+    layout
+}
+
+/// Loops of one or of several sizes, joined to one great loop: its last span makes all of them one.
+fn loop_of_loops(random: &mut Random) -> Layout {
+    let loops = random.between(2, 6);
+    let same = random.between(1, 4);
+    let equal = random.chance(60);
+    let mut layout = Layout::of(0);
+    let mut doors = Vec::new();
+    for _ in 0..loops {
+        let size = if equal { same } else { random.between(1, 5) };
+        let first = layout.cabinets;
+        layout.cabinets += size;
+        for i in 1..size {
+            layout.add(first + i - 1, first + i);
+        }
+        layout.add(first + size - 1, first);
+        doors.push((first + random.below(size), first + random.below(size)));
+    }
+    random.shuffle(&mut layout.spans);
+    for i in 0..loops {
+        layout.add(doors[i].1, doors[(i + 1) % loops].0);
+    }
+    layout.renumber(random);
+    layout
+}
+
+/// Loops of one size that share a cabinet with the next; spans between far ones then join several.
+fn equal_loops(random: &mut Random) -> Layout {
+    let (loops, size) = (random.between(2, 6), random.between(2, 4));
+    let mut layout = Layout::of(loops * (size - 1) + 1);
+    for i in 0..loops {
+        let first = i * (size - 1);
+        for j in 0..size {
+            layout.add(first + j, first + (j + 1) % size);
+        }
+    }
+    if random.chance(50) {
+        random.shuffle(&mut layout.spans);
+    }
+    for _ in 0..random.between(1, 4) {
+        layout.add(random.below(layout.cabinets), random.below(layout.cabinets));
+    }
+    layout.renumber(random);
+    layout
+}

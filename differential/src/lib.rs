@@ -1,0 +1,25 @@
+//! Second implementations of document 01, and what is needed to compare an engine with them.
+//!
+//! - `second`: document 01 restated; everything is computed anew after each command.
+//! - `literal`: the definitions word for word, for small networks; `second` is tested against it.
+//! - `incremental`: the method of the proved register, written by hand over ordinary arrays.
+//! - `register`: the proved register itself, behind the feature of that name.
+
+#![deny(unsafe_code)]
+
+pub mod cases;
+pub mod compare;
+pub mod engine;
+pub mod histories;
+pub mod incremental;
+pub mod journals;
+pub mod kinds;
+pub mod layouts;
+pub mod literal;
+pub mod names;
+pub mod program;
+pub mod random;
+pub mod refusals;
+#[cfg(feature = "register")]
+pub mod register;
+pub mod second;

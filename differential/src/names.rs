@@ -1,0 +1,174 @@
+//! The planner's name list, fed the answers as bytes, and the whole of demand 3 checked beside a
+//! run of the second implementation.
+
+use crate::kinds::{ByKind, Kind, KINDS};
+use crate::second::book::{sizes, Book};
+use crate::second::Accepted;
+
+/// A name for each cabinet (districts, rings) and for each span (meshes).
+#[derive(Default, PartialEq, Eq, Debug)]
+pub struct NameList {
+    pub names: ByKind<Vec<usize>>,
+}
+
+#[derive(Clone, Copy, PartialEq, Eq, Debug)]
+pub struct Notice {
+    pub kind: Kind,
+    pub item: usize,
+    pub name: usize,
+}
+
+/// An answer, as far as the name list reads it.
+#[derive(PartialEq, Eq, Debug)]
+pub enum Answer {
+    Cabinet(usize),
+    Span { number: usize, mesh: usize, notices: Vec<Notice> },
+    Other,
+}
+
+/// Decodes the answer at the front of `bytes`: the answer and its length, or none for bytes that
+/// are no answer.
+pub fn decode(bytes: &[u8]) -> Option<(Answer, usize)> {
+    let field = |at: usize| {
+        let two = bytes.get(at..at + 2)?;
+        Some(256 * two[0] as usize + two[1] as usize)
+    };
+    let other = |length: usize| bytes.get(..length).map(|_| (Answer::Other, length));
+    match *bytes.first()? {
+        0x81 => Some((Answer::Cabinet(field(1)?), 3)),
+        0x82 => {
+            let count = field(5)?;
+            let notices = notices(bytes.get(7..7 + 5 * count)?)?;
+            Some((Answer::Span { number: field(1)?, mesh: field(3)?, notices }, 7 + 5 * count))
+        }
+        0x83 | 0x84 => other(3),
+        0x85 => other(4),
+        0x86 | 0x87 => other(3 + 2 * field(1)?),
+        0x88 => other(2),
+        _ => None,
+    }
+}
+
+fn notices(bytes: &[u8]) -> Option<Vec<Notice>> {
+    let one = |five: &[u8]| {
+        let field = |at: usize| 256 * five[at] as usize + five[at + 1] as usize;
+        Some(Notice { kind: Kind::from_byte(five[0])?, item: field(1), name: field(3) })
+    };
+    bytes.chunks(5).map(one).collect()
+}
+
+impl NameList {
+    /// Takes one answer. An error if its item is not the next one, or not there.
+    pub fn feed(&mut self, answer: &Answer) -> Result<(), String> {
+        match answer {
+            Answer::Cabinet(number) => {
+                append(&mut self.names.district, *number, *number)?;
+                append(&mut self.names.ring, *number, *number)
+            }
+            Answer::Span { number, mesh, notices } => {
+                append(&mut self.names.mesh, *number, *mesh)?;
+                notices.iter().try_for_each(|notice| self.set(*notice))
+            }
+            Answer::Other => Ok(()),
+        }
+    }
+
+    fn set(&mut self, notice: Notice) -> Result<(), String> {
+        let names = &mut self.names[notice.kind];
+        let place = names.get_mut(notice.item);
+        *place.ok_or(format!("{notice:?} is about no item"))? = notice.name;
+        Ok(())
+    }
+}
+
+fn append(names: &mut Vec<usize>, number: usize, name: usize) -> Result<(), String> {
+    if number != names.len() {
+        return Err(format!("number {number} answered where {} is next", names.len()));
+    }
+    names.push(name);
+    Ok(())
+}
+
+/// The planner beside a run: it reads the answer buffer, command by command.
+pub struct Planner<'a> {
+    answers: &'a [u8],
+    list: NameList,
+    sent: ByKind<usize>,
+    commands: usize,
+    fault: Option<String>,
+}
+
+impl<'a> Planner<'a> {
+    pub fn new(answers: &'a [u8]) -> Planner<'a> {
+        Planner {
+            answers,
+            list: NameList::default(),
+            sent: ByKind::default(),
+            commands: 0,
+            fault: None,
+        }
+    }
+
+    /// Reads the answer to one more accepted command and checks demand 3 up to here.
+    pub fn watch(&mut self, accepted: &Accepted) {
+        if self.fault.is_some() {
+            return;
+        }
+        self.commands += 1;
+        if let Err(fault) = self.check(accepted) {
+            self.fault = Some(format!("after command {}: {fault}", self.commands));
+        }
+    }
+
+    /// The number of commands and of notices, or what demand 3 does not bear.
+    pub fn result(self) -> Result<(usize, usize), String> {
+        match self.fault {
+            Some(fault) => Err(fault),
+            None => Ok((self.commands, KINDS.iter().map(|&kind| self.sent[kind]).sum())),
+        }
+    }
+
+    fn check(&mut self, accepted: &Accepted) -> Result<(), String> {
+        let (answer, length) = decode(self.answers).ok_or("the bytes are no answer")?;
+        self.answers = &self.answers[length..];
+        self.list.feed(&answer)?;
+        if let Answer::Span { notices, .. } = &answer {
+            self.check_doubling(accepted, notices)?;
+        }
+        if self.list.names != accepted.after.names {
+            return Err("the name list differs from the naming book".to_string());
+        }
+        self.check_counts(accepted.after)
+    }
+
+    /// Each notice moves its item into a group at least twice the size of the one it left.
+    fn check_doubling(&mut self, accepted: &Accepted, notices: &[Notice]) -> Result<(), String> {
+        if notices.is_empty() {
+            return Ok(());
+        }
+        for kind in KINDS {
+            let (before, after) = (&accepted.before.groups[kind], &accepted.after.groups[kind]);
+            let (left, entered) = (sizes(before), sizes(after));
+            for notice in notices.iter().filter(|notice| notice.kind == kind) {
+                self.sent[kind] += 1;
+                let was = *before.get(notice.item).ok_or("a notice for an item that is new")?;
+                if entered[after[notice.item]] < 2 * left[was] {
+                    return Err(format!("{notice:?} does not double"));
+                }
+            }
+        }
+        Ok(())
+    }
+
+    /// The notices of a kind are at most k times the whole part of log2 k, k being its items.
+    fn check_counts(&self, book: &Book) -> Result<(), String> {
+        for kind in KINDS {
+            let items = book.names[kind].len();
+            let most = items * items.checked_ilog2().unwrap_or(0) as usize;
+            if self.sent[kind] > most {
+                return Err(format!("{} notices of {kind:?}, {most} allowed", self.sent[kind]));
+            }
+        }
+        Ok(())
+    }
+}

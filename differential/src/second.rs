@@ -1,0 +1,164 @@
+//! A second implementation of document 01, to compare others with. After each command everything
+//! is computed anew from the list of spans; nothing is kept but the naming book.
+
+pub mod book;
+pub mod command;
+pub mod groups;
+
+use crate::engine::{start_refusal, work_needed, Engine, REPORT_NUMBERS};
+use book::{Book, Ties};
+use command::{answer, feed, read, refusal, Capacities, Command};
+
+pub struct Second {
+    ties: Ties,
+}
+
+/// What a run that was not refused at the start comes to.
+#[derive(Default)]
+pub struct Run {
+    /// 0 if the whole journal was accepted.
+    pub refusal: u32,
+    /// The journal's length, or the refused command's first byte.
+    pub place: usize,
+    pub commands: usize,
+    pub answers: Vec<u8>,
+    pub cabinets: usize,
+    pub spans: usize,
+}
+
+/// An accepted command, with the book before it and the book after it.
+pub struct Accepted<'a> {
+    pub command: Command,
+    pub before: &'a Book,
+    pub after: &'a Book,
+}
+
+impl Second {
+    pub fn new() -> Second {
+        Second { ties: Ties::LeastName }
+    }
+
+    /// The same with a fault.
+    pub fn with_ties(ties: Ties) -> Second {
+        Second { ties }
+    }
+
+    /// Runs a journal from an empty network. Each accepted command is shown to `watch`.
+    pub fn walk(
+        &self,
+        capacities: Capacities,
+        journal: &[u8],
+        room: usize,
+        watch: &mut dyn FnMut(Accepted),
+    ) -> Run {
+        let mut book = Book::empty(self.ties);
+        let mut run = Run::default();
+        while run.place < journal.len() {
+            let left = room - run.answers.len();
+            let step = match step(&book, capacities, &journal[run.place..], left) {
+                Ok(step) => step,
+                Err(number) => {
+                    run.refusal = number;
+                    break;
+                }
+            };
+            let after = step.book.as_ref().unwrap_or(&book);
+            watch(Accepted { command: step.command, before: &book, after });
+            run.place += step.length;
+            run.commands += 1;
+            run.answers.extend(step.answer);
+            if let Some(after) = step.book {
+                book = after;
+            }
+        }
+        run.cabinets = book.network.cabinets;
+        run.spans = book.network.spans.len();
+        run
+    }
+
+    /// The bytes that the answers of this journal take with ample room.
+    pub fn answer_bytes(&self, c: u32, s: u32, journal: &[u8]) -> usize {
+        let capacities = Capacities { cabinets: c as usize, spans: s as usize };
+        self.walk(capacities, journal, usize::MAX, &mut |_| ()).answers.len()
+    }
+
+    /// The run of document 01 with all its buffers; each accepted command is shown to `watch`.
+    #[allow(clippy::too_many_arguments)]
+    pub fn run_watched(
+        &self,
+        c: u32,
+        s: u32,
+        journal: &[u8],
+        work: &mut [u32],
+        answers: &mut [u8],
+        report: &mut [u32],
+        watch: &mut dyn FnMut(Accepted),
+    ) -> u32 {
+        let number = start_refusal(c, s, journal.len(), work.len(), report.len());
+        if number != 0 {
+            return number;
+        }
+        let capacities = Capacities { cabinets: c as usize, spans: s as usize };
+        let run = self.walk(capacities, journal, answers.len(), watch);
+        work[..work_needed(c, s)].fill(0);
+        answers[..run.answers.len()].copy_from_slice(&run.answers);
+        report[..REPORT_NUMBERS].copy_from_slice(&report_of(&run));
+        run.refusal
+    }
+}
+
+impl Default for Second {
+    fn default() -> Second {
+        Second::new()
+    }
+}
+
+/// An accepted command, its length in the journal, its answer, and the book after it where it
+/// changes the book.
+struct Taken {
+    command: Command,
+    length: usize,
+    answer: Vec<u8>,
+    book: Option<Book>,
+}
+
+/// Takes the command at the front of `bytes`, or gives the number that refuses it.
+fn step(book: &Book, capacities: Capacities, bytes: &[u8], left: usize) -> Result<Taken, u32> {
+    let (command, length) = read(bytes)?;
+    if let Some(number) = refusal(command, book, capacities) {
+        return Err(number);
+    }
+    let next = feed(book, command);
+    let answer = answer(command, book, next.as_ref().unwrap_or(book));
+    if answer.len() > left {
+        return Err(11);
+    }
+    Ok(Taken { command, length, answer, book: next })
+}
+
+fn report_of(run: &Run) -> [u32; REPORT_NUMBERS] {
+    let counts = [run.place, run.commands, run.answers.len(), run.cabinets, run.spans];
+    let mut report = [run.refusal; REPORT_NUMBERS];
+    for (entry, count) in report[1..].iter_mut().zip(counts) {
+        *entry = u32::try_from(count).expect("every count of a run fits 32 bits");
+    }
+    report
+}
+
+impl Engine for Second {
+    fn name(&self) -> &'static str {
+        "second"
+    }
+
+    fn run(
+        &self,
+        c: u32,
+        s: u32,
+        journal: &[u8],
+        work: &mut [u32],
+        answers: &mut [u8],
+        report: &mut [u32],
+    ) -> u32 {
+        self.run_watched(c, s, journal, work, answers, report, &mut |_| ())
+    }
+}

@@ -1,0 +1,178 @@
+//! The commands: how they are read, which refusal meets them, and what they answer.
+
+use super::book::Book;
+use super::groups::{cut_cabinets, is_sole, route, shared_mesh, sole_spans};
+use crate::kinds::KINDS;
+
+#[derive(Clone, Copy, PartialEq, Eq, Debug)]
+pub enum Command {
+    AddCabinet,
+    AddSpan(usize, usize),
+    DistrictName(usize),
+    RingName(usize),
+    SharedMesh(usize, usize),
+    SoleSpans(usize, usize),
+    CutCabinets(usize, usize),
+    IsSole(usize),
+}
+
+/// The capacities of a run.
+#[derive(Clone, Copy)]
+pub struct Capacities {
+    pub cabinets: usize,
+    pub spans: usize,
+}
+
+/// The number of operands of a command byte; none for a byte that is no command.
+fn operand_count(byte: u8) -> Option<usize> {
+    match byte {
+        0x01 => Some(0),
+        0x02 | 0x05..=0x07 => Some(2),
+        0x03 | 0x04 | 0x08 => Some(1),
+        _ => None,
+    }
+}
+
+/// Reads the command at the front of `bytes`, which are not empty: the command and its length, or
+/// refusal 4 or 5.
+pub fn read(bytes: &[u8]) -> Result<(Command, usize), u32> {
+    let count = operand_count(bytes[0]).ok_or(4u32)?;
+    let length = 1 + 2 * count;
+    if bytes.len() < length {
+        return Err(5);
+    }
+    let operand = |i: usize| 256 * bytes[1 + 2 * i] as usize + bytes[2 + 2 * i] as usize;
+    let command = match bytes[0] {
+        0x01 => Command::AddCabinet,
+        0x02 => Command::AddSpan(operand(0), operand(1)),
+        0x03 => Command::DistrictName(operand(0)),
+        0x04 => Command::RingName(operand(0)),
+        0x05 => Command::SharedMesh(operand(0), operand(1)),
+        0x06 => Command::SoleSpans(operand(0), operand(1)),
+        0x07 => Command::CutCabinets(operand(0), operand(1)),
+        _ => Command::IsSole(operand(0)),
+    };
+    Ok((command, length))
+}
+
+/// The refusal, from 6 to 10, that meets this command: the first line of the table that applies.
+pub fn refusal(command: Command, book: &Book, capacities: Capacities) -> Option<u32> {
+    let lines = [
+        (has_unknown_cabinet(command, book), 6),
+        (has_unknown_span(command, book), 7),
+        (has_equal_cabinets(command), 8),
+        (finds_no_capacity(command, book, capacities), 9),
+    ];
+    let first = lines.into_iter().find(|line| line.0).map(|line| line.1);
+    first.or_else(|| goes_across_districts(command, book).then_some(10))
+}
+
+fn has_unknown_cabinet(command: Command, book: &Book) -> bool {
+    let unknown = |cabinet: usize| cabinet >= book.network.cabinets;
+    match command {
+        Command::AddCabinet | Command::IsSole(_) => false,
+        Command::DistrictName(a) | Command::RingName(a) => unknown(a),
+        Command::AddSpan(a, b)
+        | Command::SharedMesh(a, b)
+        | Command::SoleSpans(a, b)
+        | Command::CutCabinets(a, b) => unknown(a) || unknown(b),
+    }
+}
+
+fn has_unknown_span(command: Command, book: &Book) -> bool {
+    matches!(command, Command::IsSole(s) if s >= book.network.spans.len())
+}
+
+fn has_equal_cabinets(command: Command) -> bool {
+    matches!(command, Command::AddSpan(a, b) | Command::SharedMesh(a, b) if a == b)
+}
+
+fn finds_no_capacity(command: Command, book: &Book, capacities: Capacities) -> bool {
+    match command {
+        Command::AddCabinet => book.network.cabinets >= capacities.cabinets,
+        Command::AddSpan(..) => book.network.spans.len() >= capacities.spans,
+        _ => false,
+    }
+}
+
+fn goes_across_districts(command: Command, book: &Book) -> bool {
+    match command {
+        Command::SoleSpans(a, b) | Command::CutCabinets(a, b) => {
+            book.groups.district[a] != book.groups.district[b]
+        }
+        _ => false,
+    }
+}
+
+/// The book after a command that no line up to 10 refuses.
+pub fn feed(book: &Book, command: Command) -> Option<Book> {
+    match command {
+        Command::AddCabinet => Some(book.with_cabinet()),
+        Command::AddSpan(a, b) => Some(book.with_span(a, b)),
+        _ => None,
+    }
+}
+
+/// The answer to a command, given the book before it and the book after it.
+pub fn answer(command: Command, before: &Book, after: &Book) -> Vec<u8> {
+    let network = &after.network;
+    let groups = &after.groups;
+    let names = &after.names;
+    let route = |a, b| route(network, a, b).expect("refusal 10 meets cabinets of two districts");
+    match command {
+        Command::AddCabinet => fields(0x81, &[before.network.cabinets]),
+        Command::AddSpan(..) => span_answer(before, after),
+        Command::DistrictName(a) => fields(0x83, &[names.district[a]]),
+        Command::RingName(a) => fields(0x84, &[names.ring[a]]),
+        Command::SharedMesh(a, b) => match shared_mesh(network, groups, a, b) {
+            Some(span) => flagged(1, names.mesh[span]),
+            None => flagged(0, 0),
+        },
+        Command::SoleSpans(a, b) => list(0x86, &sole_spans(network, groups, &route(a, b))),
+        Command::CutCabinets(a, b) => list(0x87, &cut_cabinets(groups, &route(a, b))),
+        Command::IsSole(s) => vec![0x88, is_sole(network, groups, s) as u8],
+    }
+}
+
+/// The answer 82: the span's number, its mesh name, the count of notices, the notices.
+fn span_answer(before: &Book, after: &Book) -> Vec<u8> {
+    let number = before.network.spans.len();
+    let mut notices = Vec::new();
+    let mut count = 0;
+    for kind in KINDS {
+        for (item, old) in before.names[kind].iter().enumerate() {
+            let new = after.names[kind][item];
+            if new != *old {
+                notices.extend(fields(kind.byte(), &[item, new]));
+                count += 1;
+            }
+        }
+    }
+    let mut bytes = fields(0x82, &[number, after.names.mesh[number], count]);
+    bytes.extend(notices);
+    bytes
+}
+
+/// A first byte, then fields of 2 bytes, high byte first.
+fn fields(first: u8, values: &[usize]) -> Vec<u8> {
+    let mut bytes = vec![first];
+    for &value in values {
+        let field = u16::try_from(value).expect("every answer field fits 2 bytes");
+        bytes.extend(field.to_be_bytes());
+    }
+    bytes
+}
+
+fn flagged(flag: u8, name: usize) -> Vec<u8> {
+    let mut bytes = vec![0x85];
+    bytes.extend(fields(flag, &[name]));
+    bytes
+}
+
+fn list(first: u8, items: &[usize]) -> Vec<u8> {
+    let mut bytes = fields(first, &[items.len()]);
+    for &item in items {
+        bytes.extend((item as u16).to_be_bytes());
+    }
+    bytes
+}

@@ -1,0 +1,148 @@
+//! The fast parts of the second implementation against the definitions word for word.
+
+use differential::literal;
+use differential::random::Random;
+use differential::second::book::{Book, Ties};
+use differential::second::groups::{
+    cut_cabinets, groups, is_sole, route, shared_mesh, sole_spans, Network,
+};
+
+fn check_groups(network: &Network) {
+    let found = groups(network);
+    for a in 0..network.cabinets {
+        for b in 0..network.cabinets {
+            let district = found.district[a] == found.district[b];
+            assert_eq!(district, literal::share_district(network, a, b), "{network:?} {a} {b}");
+            let ring = found.ring[a] == found.ring[b];
+            assert_eq!(ring, literal::share_ring(network, a, b), "{network:?} {a} {b}");
+        }
+    }
+    for s in 0..network.spans.len() {
+        for t in 0..network.spans.len() {
+            let mesh = found.mesh[s] == found.mesh[t];
+            assert_eq!(mesh, literal::share_mesh(network, s, t), "{network:?} {s} {t}");
+        }
+        assert_eq!(is_sole(network, &found, s), literal::is_sole(network, s), "{network:?} {s}");
+    }
+}
+
+fn check_questions(network: &Network) {
+    let found = groups(network);
+    for a in 0..network.cabinets {
+        for b in 0..network.cabinets {
+            match route(network, a, b) {
+                None => assert!(!literal::share_district(network, a, b)),
+                Some(route) => {
+                    let sole = sole_spans(network, &found, &route);
+                    assert_eq!(sole, literal::sole_spans(network, a, b), "{network:?} {a} {b}");
+                    let cut = cut_cabinets(&found, &route);
+                    assert_eq!(cut, literal::cut_cabinets(network, a, b), "{network:?} {a} {b}");
+                }
+            }
+            if a != b {
+                check_shared_mesh(network, a, b);
+            }
+        }
+    }
+}
+
+/// The shared mesh is found exactly if there is one, and there is at most one.
+fn check_shared_mesh(network: &Network, a: usize, b: usize) {
+    let found = shared_mesh(network, &groups(network), a, b);
+    let shared = literal::spans_of_shared_mesh(network, a, b);
+    assert_eq!(found.is_some(), !shared.is_empty(), "{network:?} {a} {b}");
+    if let Some(span) = found {
+        assert!(shared.contains(&span), "{network:?} {a} {b}");
+    }
+    for &s in &shared {
+        assert!(literal::share_mesh(network, s, shared[0]), "{network:?} {a} {b}");
+    }
+}
+
+/// The book's names for the spans of a network, entered one after the other.
+fn check_names(network: &Network) {
+    let mut book = Book::empty(Ties::LeastName);
+    for _ in 0..network.cabinets {
+        book = book.with_cabinet();
+    }
+    for &(a, b) in &network.spans {
+        let after = book.with_span(a, b);
+        check_names_after(&book, &after);
+        book = after;
+    }
+}
+
+fn check_names_after(before: &Book, after: &Book) {
+    let (old, new) = (&before.network, &after.network);
+    let district = literal::renamed(
+        &before.names.district,
+        &|x, y| literal::share_district(old, x, y),
+        &|x, y| literal::share_district(new, x, y),
+    );
+    assert_eq!(after.names.district, district, "{new:?}");
+    let ring =
+        literal::renamed(&before.names.ring, &|x, y| literal::share_ring(old, x, y), &|x, y| {
+            literal::share_ring(new, x, y)
+        });
+    assert_eq!(after.names.ring, ring, "{new:?}");
+    let number = old.spans.len();
+    let mut first = before.names.mesh.clone();
+    first.push(number);
+    let alone = |x: usize, y: usize| x == y && x == number;
+    let mesh = literal::renamed(
+        &first,
+        &|x, y| alone(x, y) || (x != number && y != number && literal::share_mesh(old, x, y)),
+        &|x, y| literal::share_mesh(new, x, y),
+    );
+    assert_eq!(after.names.mesh, mesh, "{new:?}");
+}
+
+fn check(network: &Network) {
+    check_groups(network);
+    check_questions(network);
+    check_names(network);
+}
+
+/// Every list of `count` spans between `cabinets` cabinets, each span from less to greater.
+fn every_list(cabinets: usize, count: usize, each: &mut dyn FnMut(&Network)) {
+    let mut pairs = Vec::new();
+    for b in 0..cabinets {
+        for a in 0..b {
+            pairs.push((a, b));
+        }
+    }
+    for code in 0..pairs.len().pow(count as u32) {
+        let spans = (0..count).map(|i| pairs[code / pairs.len().pow(i as u32) % pairs.len()]);
+        each(&Network { cabinets, spans: spans.collect() });
+    }
+}
+
+#[test]
+fn every_small_network() {
+    for count in 0..=5 {
+        every_list(3, count, &mut check);
+    }
+    for count in 0..=5 {
+        every_list(4, count, &mut check);
+    }
+    for count in 3..=4 {
+        every_list(5, count, &mut check);
+    }
+}
+
+#[test]
+fn random_networks() {
+    let mut random = Random::new(1);
+    for _ in 0..2000 {
+        let cabinets = random.between(2, 8);
+        let count = random.between(1, cabinets + 3);
+        let mut network = Network { cabinets, spans: Vec::new() };
+        while network.spans.len() < count {
+            let (a, b) = (random.below(cabinets), random.below(cabinets));
+            if a != b {
+                network.spans.push((a, b));
+            }
+        }
+        check(&network);
+    }
+}

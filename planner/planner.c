@@ -1,0 +1,241 @@
+/*
+ * A small shift planner. It writes a journal, has it run by the register in one call with its own
+ * buffers, and reads the answers. It keeps a name for each cabinet and span from the notices alone,
+ * and holds each name that it asked for (03, 04 and 05) against its own. It prints both, and exits
+ * with 1 if any two differ.
+ */
+#include "register.h"
+
+#include <stdio.h>
+
+enum {
+    CABINETS = 64,
+    SPANS = 128,
+    JOURNAL_BYTES = 65536,
+    ANSWER_BYTES = 1 << 20
+};
+
+/* The planner's own buffers. */
+static uint8_t journal[JOURNAL_BYTES];
+static size_t journal_length;
+static uint32_t work[24 * CABINETS + 8 * SPANS + 64];
+static uint8_t answers[ANSWER_BYTES];
+static uint32_t report[REGISTER_REPORT];
+
+/* The spans as entered, for reading the answers to 05. */
+static unsigned ends[SPANS][2];
+static size_t spans_entered;
+
+/* ---- Writing the journal ---- */
+
+static void put_byte(unsigned byte)
+{
+    journal[journal_length++] = (uint8_t)byte;
+}
+
+static void put_operand(unsigned value)
+{
+    put_byte(value >> 8);
+    put_byte(value & 0xFF);
+}
+
+static void add_cabinet(void)
+{
+    put_byte(0x01);
+}
+
+static void add_span(unsigned a, unsigned b)
+{
+    put_byte(0x02);
+    put_operand(a);
+    put_operand(b);
+    ends[spans_entered][0] = a;
+    ends[spans_entered][1] = b;
+    spans_entered++;
+}
+
+static void ask_names(unsigned cabinet)
+{
+    put_byte(0x03);
+    put_operand(cabinet);
+    put_byte(0x04);
+    put_operand(cabinet);
+}
+
+static void ask_mesh(size_t span)
+{
+    put_byte(0x05);
+    put_operand(ends[span][0]);
+    put_operand(ends[span][1]);
+}
+
+/* Asks for every name there is. */
+static void ask_all(unsigned cabinets)
+{
+    for (unsigned cabinet = 0; cabinet < cabinets; cabinet++)
+        ask_names(cabinet);
+    for (size_t span = 0; span < spans_entered; span++)
+        ask_mesh(span);
+}
+
+/* Villages of three cabinets, each closed to a ring; then the villages one after the other in a
+   great loop, whose last span makes all rings one: a join of equal sizes. */
+static void write_journal(unsigned villages)
+{
+    unsigned cabinets = 3 * villages;
+    for (unsigned cabinet = 0; cabinet < cabinets; cabinet++)
+        add_cabinet();
+    for (unsigned village = villages; village-- > 0;) {
+        unsigned first = 3 * village;
+        add_span(first, first + 1);
+        add_span(first + 1, first + 2);
+        add_span(first + 2, first);
+        ask_all(cabinets);
+    }
+    for (unsigned village = 0; village < villages; village++) {
+        add_span(3 * village + 1, 3 * ((village + 1) % villages));
+        ask_all(cabinets);
+    }
+}
+
+/* ---- Reading the answers ---- */
+
+/* The planner's name list. */
+static unsigned district[CABINETS], ring[CABINETS], mesh[SPANS];
+static size_t cabinets_known, spans_known;
+
+/* The place reached in the journal and in the answers. */
+static size_t asked_at, answered_at;
+
+/* What was asked for and what the list had, for the last answer about each item. */
+static unsigned asked_district[CABINETS], asked_ring[CABINETS], asked_mesh[SPANS];
+static unsigned notices_read, names_compared, differences;
+
+static unsigned two_bytes(const uint8_t *at)
+{
+    return (unsigned)at[0] << 8 | at[1];
+}
+
+static void read_cabinet(void)
+{
+    unsigned number = two_bytes(answers + answered_at + 1);
+    district[number] = number;
+    ring[number] = number;
+    cabinets_known = number + 1;
+    asked_at += 1;
+    answered_at += 3;
+}
+
+static void read_notice(const uint8_t *at)
+{
+    unsigned item = two_bytes(at + 1), name = two_bytes(at + 3);
+    if (at[0] == 1)
+        district[item] = name;
+    else if (at[0] == 2)
+        ring[item] = name;
+    else
+        mesh[item] = name;
+    notices_read++;
+}
+
+static void read_span(void)
+{
+    const uint8_t *answer = answers + answered_at;
+    unsigned number = two_bytes(answer + 1), count = two_bytes(answer + 5);
+    mesh[number] = two_bytes(answer + 3);
+    spans_known = number + 1;
+    for (unsigned i = 0; i < count; i++)
+        read_notice(answer + 7 + 5 * i);
+    asked_at += 5;
+    answered_at += 7 + 5 * (size_t)count;
+}
+
+static void hold(const char *kind, size_t item, unsigned asked, unsigned learnt)
+{
+    names_compared++;
+    if (asked == learnt)
+        return;
+    differences++;
+    printf("%s of %zu: asked %u, learnt %u\n", kind, item, asked, learnt);
+}
+
+static void read_district(void)
+{
+    unsigned item = two_bytes(journal + asked_at + 1);
+    asked_district[item] = two_bytes(answers + answered_at + 1);
+    hold("district", item, asked_district[item], district[item]);
+    asked_at += 3;
+    answered_at += 3;
+}
+
+static void read_ring(void)
+{
+    unsigned item = two_bytes(journal + asked_at + 1);
+    asked_ring[item] = two_bytes(answers + answered_at + 1);
+    hold("ring", item, asked_ring[item], ring[item]);
+    asked_at += 3;
+    answered_at += 3;
+}
+
+/* Both ends of a span share its mesh. */
+static void read_mesh(void)
+{
+    unsigned a = two_bytes(journal + asked_at + 1), b = two_bytes(journal + asked_at + 3);
+    unsigned name = two_bytes(answers + answered_at + 2);
+    for (size_t span = 0; span < spans_known; span++) {
+        if (ends[span][0] == a && ends[span][1] == b) {
+            asked_mesh[span] = name;
+            hold("mesh", span, name, mesh[span]);
+        }
+    }
+    asked_at += 5;
+    answered_at += 4;
+}
+
+/* Reads one answer; 0 if its first byte is none that the planner asked for. */
+static int read_answer(void)
+{
+    switch (answers[answered_at]) {
+    case 0x81: read_cabinet(); return 1;
+    case 0x82: read_span(); return 1;
+    case 0x83: read_district(); return 1;
+    case 0x84: read_ring(); return 1;
+    case 0x85: read_mesh(); return 1;
+    default: return 0;
+    }
+}
+
+static void print_names(void)
+{
+    printf("cabinet  district learnt asked  ring learnt asked\n");
+    for (size_t item = 0; item < cabinets_known; item++)
+        printf("%7zu  %15u %5u  %11u %5u\n", item, district[item], asked_district[item],
+               ring[item], asked_ring[item]);
+    printf("span  mesh learnt asked\n");
+    for (size_t item = 0; item < spans_known; item++)
+        printf("%4zu  %11u %5u\n", item, mesh[item], asked_mesh[item]);
+}
+
+int main(void)
+{
+    write_journal(5);
+    uint32_t number = register_run(CABINETS, SPANS, journal, journal_length,
+                                   work, sizeof work / sizeof work[0],
+                                   answers, sizeof answers,
+                                   report, sizeof report / sizeof report[0]);
+    if (number != REGISTER_ACCEPTED) {
+        printf("refused: %u at byte %u\n", (unsigned)number,
+               (unsigned)report[REGISTER_REPORT_PLACE]);
+        return 1;
+    }
+    while (answered_at < report[REGISTER_REPORT_ANSWERS]) {
+        if (!read_answer()) {
+            printf("no answer at byte %zu\n", answered_at);
+            return 1;
+        }
+    }
+    print_names();
+    printf("%u commands, %u notices read, %u names compared, %u differ\n",
+           (unsigned)report[REGISTER_REPORT_COMMANDS], notices_read, names_compared, differences);
+    return differences != 0 || asked_at != journal_length;
+}

@@ -1,0 +1,175 @@
+/*
+ * How much stack the register takes.
+ *
+ *     stack BYTES [CABINETS]
+ *
+ * Runs the journals that make the register climb longest, in a thread with a stack of BYTES bytes
+ * and a page below it that must not be touched. Prints the bytes that the calls took and exits with
+ * 0. With too small a stack it ends by a signal; run it with falling sizes to find the least.
+ *
+ * The stack is filled with a pattern first; what a call took is counted from the lowest byte that
+ * lost the pattern up to the frame that made the call.
+ */
+#define _GNU_SOURCE
+#include "register.h"
+
+#include <pthread.h>
+#include <stdio.h>
+#include <stdlib.h>
+#include <string.h>
+#include <sys/mman.h>
+#include <unistd.h>
+
+enum { PATTERN = 0xA5, ANSWER_BYTES = 1 << 20 };
+
+static uint8_t journal[REGISTER_LONGEST_JOURNAL];
+static size_t journal_length;
+static uint32_t work[24 * 4096 + 8 * 8192 + 64];
+static uint8_t answers[ANSWER_BYTES];
+static uint32_t report[REGISTER_REPORT];
+
+static unsigned cabinets = REGISTER_MOST_CABINETS;
+static uint8_t *stack_low;
+static size_t stack_taken;
+static int failed;
+
+/* ---- The journals ---- */
+
+static void command(unsigned byte, unsigned a, unsigned b)
+{
+    const uint8_t bytes[5] = {(uint8_t)byte, (uint8_t)(a >> 8), (uint8_t)a,
+                              (uint8_t)(b >> 8), (uint8_t)b};
+    memcpy(journal + journal_length, bytes, sizeof bytes);
+    journal_length += sizeof bytes;
+}
+
+static void add_cabinets(void)
+{
+    memset(journal, 0x01, cabinets);
+    journal_length = cabinets;
+}
+
+/* Both lists from end to end, in both directions; then the span that closes the chain. */
+static void ask_and_close(unsigned first, unsigned last)
+{
+    command(0x06, first, last);
+    command(0x06, last, first);
+    command(0x07, first, last);
+    command(0x07, last, first);
+    command(0x05, first, last);
+    command(0x02, last, first);
+    command(0x06, first, last);
+}
+
+/* Each cabinet is put below the one before: the last is as deep as can be. */
+static void chain_from_the_first(void)
+{
+    add_cabinets();
+    for (unsigned i = 1; i < cabinets; i++)
+        command(0x02, i - 1, i);
+    ask_and_close(0, cabinets - 1);
+}
+
+/* The same from the last cabinet on. */
+static void chain_from_the_last(void)
+{
+    add_cabinets();
+    for (unsigned i = cabinets - 1; i > 0; i--)
+        command(0x02, i, i - 1);
+    ask_and_close(0, cabinets - 1);
+}
+
+/* Two chains of one length, joined at their deepest ends: the second is turned as a whole. */
+static void two_chains(void)
+{
+    unsigned half = cabinets / 2;
+    add_cabinets();
+    for (unsigned i = 1; i < half; i++)
+        command(0x02, i - 1, i);
+    for (unsigned i = half + 1; i < cabinets; i++)
+        command(0x02, i - 1, i);
+    command(0x02, half - 1, cabinets - 1);
+    ask_and_close(0, half);
+}
+
+/* ---- The runs ---- */
+
+static size_t untouched(const uint8_t *below)
+{
+    size_t count = 0;
+    while (stack_low + count < below && stack_low[count] == PATTERN)
+        count++;
+    return count;
+}
+
+static void run_one(const char *name, void (*write_journal)(void))
+{
+    uint8_t here;
+    write_journal();
+    uint32_t number = register_run(cabinets, REGISTER_MOST_SPANS, journal, journal_length,
+                                   work, sizeof work / sizeof work[0],
+                                   answers, sizeof answers,
+                                   report, sizeof report / sizeof report[0]);
+    size_t taken = (size_t)(&here - stack_low) - untouched(&here);
+    if (number != REGISTER_ACCEPTED || report[REGISTER_REPORT_SPANS] != cabinets) {
+        printf("%s: refused: %u at byte %u\n", name, (unsigned)number,
+               (unsigned)report[REGISTER_REPORT_PLACE]);
+        failed = 1;
+    }
+    if (taken > stack_taken)
+        stack_taken = taken;
+}
+
+static void *run_all(void *unused)
+{
+    run_one("chain from the first", chain_from_the_first);
+    run_one("chain from the last", chain_from_the_last);
+    run_one("two chains", two_chains);
+    return unused;
+}
+
+/* A stack of so many bytes, filled with the pattern, above a page that must not be touched. */
+static uint8_t *make_stack(size_t bytes)
+{
+    size_t page = (size_t)sysconf(_SC_PAGESIZE);
+    uint8_t *low = mmap(NULL, bytes + page, PROT_READ | PROT_WRITE,
+                        MAP_PRIVATE | MAP_ANONYMOUS, -1, 0);
+    if (low == MAP_FAILED || mprotect(low, page, PROT_NONE) != 0)
+        return NULL;
+    memset(low + page, PATTERN, bytes);
+    return low + page;
+}
+
+static int run_with_stack(size_t bytes)
+{
+    pthread_attr_t attributes;
+    pthread_t thread;
+    stack_low = make_stack(bytes);
+    if (stack_low == NULL || pthread_attr_init(&attributes) != 0)
+        return 0;
+    if (pthread_attr_setstack(&attributes, stack_low, bytes) != 0)
+        return 0;
+    if (pthread_create(&thread, &attributes, run_all, NULL) != 0)
+        return 0;
+    return pthread_join(thread, NULL) == 0;
+}
+
+int main(int count, char **words)
+{
+    size_t page = (size_t)sysconf(_SC_PAGESIZE);
+    size_t bytes = count > 1 ? strtoul(words[1], NULL, 10) : 0;
+    if (count > 2)
+        cabinets = (unsigned)strtoul(words[2], NULL, 10);
+    if (bytes == 0 || cabinets < 4 || cabinets > REGISTER_MOST_CABINETS) {
+        fprintf(stderr, "usage: stack BYTES [CABINETS from 4 to 4096]\n");
+        return 2;
+    }
+    bytes = (bytes + page - 1) / page * page;
+    if (!run_with_stack(bytes)) {
+        fprintf(stderr, "no thread with a stack of %zu bytes\n", bytes);
+        return 2;
+    }
+    printf("stack of %zu bytes, %u cabinets: %s; the calls took %zu bytes\n", bytes, cabinets,
+           failed ? "refused" : "passed", stack_taken);
+    return failed;
+}
