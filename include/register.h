@@ -69,7 +69,7 @@ enum {
  * good for its length; work and report must be aligned for uint32_t. The four buffers must not
  * overlap. A null pointer is allowed where the length is 0.
  *
- * Stack needed, at the greatest capacities: STACK_BYTES
+ * Stack needed, at the greatest capacities: less than 524,288 bytes.
  *
  * Returns 0 if the whole journal was accepted, else the number of the refusal, 1 to 11.
  */

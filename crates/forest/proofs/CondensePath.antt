@@ -13,7 +13,8 @@ use Rattle.graph.specs.BlockPath.{BlockPath}
 use Rattle.graph.proofs.Truth.{ne-eqb, eqb-swap}
 use Rattle.graph.proofs.Grows.{block-next}
 use Rattle.graph.proofs.EdgeMoreBlocks.{onPath, joinsPath, block-edge-within}
-use Rattle.graph.proofs.EdgeMoreRings.{onRings, bridge-block-edge-within-never}
+use Rattle.graph.proofs.EdgeMoreRings.{onRings}
+use Rattle.graph.proofs.BaseRule.{bridge-block-edge-within-never}
 use Rattle.naming.proofs.Merge.{inMerged}
 use Rattle.forest.specs.declared.table.Capacities.{Capacities}
 use Rattle.forest.specs.Climb.{pathVertex, pathEdge}

@@ -13,7 +13,7 @@ use Rattle.graph.specs.Groups.{component, bridgeBlock}
 use Rattle.graph.specs.Cycle.{Step}
 use Rattle.graph.specs.Between.{bridgesBetween}
 use Rattle.graph.proofs.Truth.{true-or-false, or-neither-right}
-use Rattle.graph.proofs.PathBridges.{partingEdges, bridges-of-block-path-never}
+use Rattle.graph.proofs.BaseRule.{partingEdges, bridges-of-block-path-never}
 use Rattle.naming.proofs.Listed.{tabulate-same}
 use Rattle.forest.specs.declared.table.Capacities.{Capacities}
 use Rattle.forest.specs.Layout.{cell, put, vertexArea, bridgeBlockArea}

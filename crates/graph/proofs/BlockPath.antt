@@ -11,7 +11,7 @@ use Rattle.graph.specs.Cycle.{Step, anyStep}
 use Rattle.graph.specs.Block.{block}
 use Rattle.graph.specs.BlockPath.{onBlock, blocksLead, fresh, blocksDiffer, BlockPath}
 use Rattle.graph.proofs.Truth.{not-both, false-of-not, false-of-not-true, or-cases, or-left, or-right, or-neither, or-neither-left, or-neither-right}
-use Rattle.graph.proofs.Truth.{and-left, and-right, eqb-eq, eq-eqb, eqb-swap, ltb-lt}
+use Rattle.graph.proofs.Truth.{and-left, and-right, and-both, not-of-false, eqb-eq, eqb-same, eq-eqb, eqb-swap, ltb-lt, lt-ltb}
 use Rattle.graph.proofs.Joined.{joined-refl, joined-trans}
 use Rattle.graph.proofs.Ends.{joined-from, joined-to}
 use Rattle.graph.proofs.Mates.{joined-component}
@@ -59,6 +59,29 @@ onward {g} {a} {b} {p} {ps} path =
             all-differ = rest-differ g p ps (path .all-differ);
           };
     }
+
+-- and put together from its first step and the path behind it
+pub onward-path : {g : Network} {a b : ℕ} {p : Step} {ps : List Step} → Onward g a p ps b → blocksDiffer g (p ∷ ps) ≡ true
+    → BlockPath g a (p ∷ ps) b
+unfolding blocksLead fresh anyStep
+onward-path {g} {a} {b} {p} {ps} o d =
+    record {
+      lead = and-both (and-both (and-both (lt-ltb (p .along) (edgeCount g) (o .known)) (o .on-start)) (o .on-end)) (o .rest .lead);
+      all-fresh = and-both (not-of-false (or-neither (eqb-swap (p .to) a ∙ o .away) (o .no-return))) (o .rest .all-fresh);
+      all-differ = d;
+    }
+
+-- the path without a step from a vertex to itself
+pub no-steps : (g : Network) (a : ℕ) → BlockPath g a [] a
+unfolding blocksLead fresh blocksDiffer
+no-steps g a = record { lead = eqb-same a; all-fresh = refl; all-differ = refl }
+
+-- the path of one step through a block that has both vertices
+pub one-step : (g : Network) (s a b : ℕ) → s < edgeCount g → onBlock g s a ≡ true → onBlock g s b ≡ true → eqb a b ≡ false
+    → BlockPath g a (record { along = s; to = b } ∷ []) b
+unfolding blocksDiffer anyStep
+one-step g s a b h e f d =
+    onward-path (record { known = h; on-start = e; on-end = f; away = d; no-return = refl; rest = no-steps g b }) refl
 
 -- the first two steps go through different blocks
 pub next-differs : {g : Network} {a b : ℕ} {p q : Step} {ps : List Step} → BlockPath g a (p ∷ q ∷ ps) b

@@ -6,14 +6,14 @@ use mathlib.Core.Logic.{inl, inr, ⊎-elim, _↔_}
 use mathlib.Core.Path.{_≡_, refl, sym, _∙_, subst}
 use Prim.Native.Nat.{ℕ, _<_}
 use lib.Dec.{eqb}
-use Rattle.graph.specs.Network.{Network, MateRule, Proper, edge, edgeCount, touches, mates}
+use Rattle.graph.specs.Network.{Network, MateRule, Proper, edge, edgeCount, touches, parallel, mates}
 use Rattle.graph.specs.Cycle.{Step, joins, leads, anyStep, crosses, simple, OnCycle}
 use Rattle.graph.specs.Block.{block, ShareBlock}
 use Rattle.graph.specs.BlockPath.{fresh}
 use Rattle.graph.proofs.Truth.{true-or-false, false-of-not, not-both, and-both, or-left, or-right, or-cases, or-neither}
-use Rattle.graph.proofs.Truth.{not-of-false, eqb-eq, eqb-same}
-use Rattle.graph.proofs.Walks.{joins-ends, joins-swap, FirstStep, leads-first, first-leads}
-use Rattle.graph.proofs.Joins.{joins-touches, joins-other}
+use Rattle.graph.proofs.Truth.{not-of-false, eqb-eq, eqb-same, eqb-swap}
+use Rattle.graph.proofs.Walks.{joins-ends, joins-swap, FirstStep, leads-first, first-leads, leads-one}
+use Rattle.graph.proofs.Joins.{joins-back, joins-touches, joins-other, parallel-joins}
 use Rattle.graph.proofs.Steps.{any-more, none-of-either, visits-end, visits-touched}
 use Rattle.graph.proofs.Block.{block-sym, block-trans}
 use Rattle.graph.proofs.Mates.{mates-refl, mates-sym}
@@ -111,6 +111,37 @@ module _ (g : Network) (rule : MateRule (g .rule)) where
         holds-first = or-right (eqb t s) (k .holds);
         holds-second = or-left (eqb-same t) (crosses t (k .steps));
       }
+
+-- two parallel edges that are not mates are a simple cycle: out along the one and back along the other
+pub parallel-edges-on-cycle : (g : Network) → Proper g → (s t : ℕ) → s < edgeCount g → t < edgeCount g → mates g s t ≡ false
+    → parallel (edge g s) (edge g t) ≡ true → OnCycle g s t
+unfolding simple crosses anyStep
+parallel-edges-on-cycle g proper s t h k n p =
+    record {
+      cycle = record {
+        start = b;
+        steps = record { along = t; to = a } ∷ back ∷ [];
+        closed =
+            first-leads g b (record { along = t; to = a }) (back ∷ []) b
+            (record {
+              known = k;
+              over = parallel-joins (edge g s) (edge g t) p b a (joins-back (edge g s));
+              later = leads-one g a s b h (joins-ends (edge g s));
+            });
+        is-simple = and-both (not-of-false (or-neither (or-neither (eqb-swap b a ∙ proper .no-loop s h) n) refl)) refl;
+      };
+      holds-first = or-right (eqb t s) (or-left (eqb-same s) false);
+      holds-second = or-left (eqb-same t) (crosses t (back ∷ []));
+    }
+  where
+    a : ℕ
+    a = edge g s .left
+
+    b : ℕ
+    b = edge g s .right
+
+    back : Step
+    back = record { along = s; to = b }
 
 module _ (g : Network) (proper : Proper g) (rule : MateRule (g .rule)) where
   -- two edges of one block are mates, or some simple cycle holds both

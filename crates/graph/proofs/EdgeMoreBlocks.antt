@@ -1,11 +1,12 @@
 -- One edge more within a component: the blocks of a block path between its ends and the new edge become one, and no other changes.
-use mathlib.Core.Bool.{Bool, true, false, _&&_, _||_, false≢true}
+-- Where the new edge has a mate, it joins the mate's block, and no other changes.
+use mathlib.Core.Bool.{Bool, true, false, _&&_, _||_, or-false, false≢true}
 use mathlib.Core.List.{List, [], _∷_}
 use mathlib.Core.Logic.{_⊎_, inl, inr}
-use mathlib.Core.Path.{_≡_, sym, _∙_, subst}
+use mathlib.Core.Path.{_≡_, sym, _∙_, ap, ap₂, subst}
 use Prim.Native.Nat.{ℕ, _<_}
 use lib.Dec.{eqb}
-use Rattle.graph.specs.Network.{Network, Edge, edge, edgeCount, touches, otherEnd, addEdge, Proper, without, joined}
+use Rattle.graph.specs.Network.{Network, Edge, edge, edgeCount, touches, otherEnd, addEdge, Proper, MateRule, mates, without, joined}
 use Rattle.graph.specs.Cycle.{Step, anyStep}
 use Rattle.graph.specs.Block.{block}
 use Rattle.graph.specs.BlockPath.{onBlock, BlockPath}
@@ -17,9 +18,10 @@ use Rattle.graph.proofs.Block.{block-equivalence, block-refl, block-sym
 use Rattle.graph.proofs.Ends.{touches-left, touches-right, other-end-touches, other-end-differs, other-end-ways, at-link, ends-joined-without}
 use Rattle.graph.proofs.BlockVertices.{end-on-block, blocks-meet}
 use Rattle.graph.proofs.BlockPath.{visits, Onward, onward, stays, visits-none, visits-first, visits-later, start-fresh, visited-differs, end-visited, other-end-visited}
-use Rattle.graph.proofs.BlockPath.{path-outlives-vertex, later-outlives}
+use Rattle.graph.proofs.BlockPath.{one-step, path-outlives-vertex, later-outlives}
 use Rattle.graph.proofs.Grows.{new-below, joined-without-grows, block-grows, on-block-grows, block-next}
 use Rattle.graph.proofs.EdgeMore.{block-more-least}
+use Rattle.graph.proofs.EdgeMoreBridges.{mate-joins}
 
 -- edge t is in a block of the path
 abbrev pub onPath : Network → List Step → ℕ → Bool
@@ -251,3 +253,25 @@ module _ (g : Network) (e : Edge) (r : Proper g) (r′ : Proper (addEdge g e)) w
       → block (addEdge g e) s t ≡ (block g s t || (joinsPath g ps s && joinsPath g ps t))
   block-edge-within {ps} path s t =
       bool-ext (block (addEdge g e) s t) (condensed g ps s t) (grows-condensed path s t) (condensed-grows path s t)
+
+-- edge s is the new edge or in the block of t
+abbrev pub joinsMate : Network → ℕ → ℕ → Bool
+joinsMate g t s = eqb s (edgeCount g) || block g t s
+
+-- the path through the block of t alone joins that block
+joins-one-step : (g : Network) (t b s : ℕ) → joinsPath g (record { along = t; to = b } ∷ []) s ≡ joinsMate g t s
+unfolding joinsPath anyStep
+joins-one-step g t b s = ap (λ z. eqb s (edgeCount g) || z) (or-false (block g t s))
+
+-- a new edge with a mate joins the mate's block, and no other block changes
+pub block-edge-mate : (g : Network) (e : Edge) → Proper g → Proper (addEdge g e) → MateRule (g .rule)
+    → (t : ℕ) → t < edgeCount g → mates (addEdge g e) t (edgeCount g) ≡ true → (s u : ℕ)
+    → block (addEdge g e) s u ≡ (block g s u || (joinsMate g t s && joinsMate g t u))
+block-edge-mate g e r r′ rule t h m s u =
+    block-edge-within g e r r′ (one-step g t (e .left) (e .right) h (ends .0) (ends .1) (differ g e r r′)) s u
+    ∙ ap₂ (λ x y. block g s u || (x && y)) (joins-one-step g t (e .right) s) (joins-one-step g t (e .right) u)
+  where
+    ends : (onBlock g t (e .left) ≡ true) × (onBlock g t (e .right) ≡ true)
+    ends =
+        mate-joins g e rule t h m (λ x y. (onBlock g t x ≡ true) × (onBlock g t y ≡ true)) (λ x y k. (k .1, k .0))
+        (end-on-block g t _ h (touches-left (edge g t)), end-on-block g t _ h (touches-right (edge g t)))

@@ -58,7 +58,7 @@ module _ (g : Network) (e : Edge) where
       x y
 
   -- what a mate of the new edge joins, the new edge's ends share
-  mate-joins : MateRule (g .rule) → (s : ℕ) → s < edgeCount g → mates (addEdge g e) s (edgeCount g) ≡ true
+  pub mate-joins : MateRule (g .rule) → (s : ℕ) → s < edgeCount g → mates (addEdge g e) s (edgeCount g) ≡ true
       → (R : ℕ → ℕ → Type 0) → ((x y : ℕ) → R x y → R y x) → R (edge g s .left) (edge g s .right) → R (e .left) (e .right)
   mate-joins rule s h m R w k =
       subst (λ f. R (f .left) (f .right)) (edge-new g e)

@@ -3,11 +3,11 @@
 use mathlib.Core.Bool.{Bool, true, false, not, _&&_, _||_, false≢true}
 use mathlib.Core.List.{List, [], _∷_}
 use mathlib.Core.Logic.{_⊎_, inl, inr, ⊎-elim}
-use mathlib.Core.Path.{_≡_, refl, sym, _∙_, ap, ap₂, subst}
+use mathlib.Core.Path.{_≡_, refl, sym, _∙_, ap, subst}
 use Prim.Native.Nat.{ℕ, _<_}
 use lib.Dec.{eqb}
 use Rattle.graph.specs.Lists.{isIn}
-use Rattle.graph.specs.Network.{Network, Edge, MateRule, Proper, never, edge, edgeCount, addEdge, mates, nothing, lossOf, joined}
+use Rattle.graph.specs.Network.{Network, Edge, MateRule, Proper, edge, edgeCount, addEdge, mates, nothing, lossOf, joined}
 use Rattle.graph.specs.Groups.{component, bridge, bridgeBlock}
 use Rattle.graph.specs.Cycle.{Step, anyStep}
 use Rattle.graph.specs.Travel.{firstMate}
@@ -25,10 +25,9 @@ use Rattle.graph.proofs.MateEdges.{mates-joins}
 use Rattle.graph.proofs.Joins.{joins-carries}
 use Rattle.graph.proofs.Travel.{first-mate}
 use Rattle.graph.proofs.PathCuts.{joined-through-path}
-use Rattle.graph.proofs.PathBridges.{pathBridges, partingEdges, path-bridges-never, PathBridge, in-path-bridges, loss-parts-path}
+use Rattle.graph.proofs.PathBridges.{pathBridges, PathBridge, in-path-bridges, loss-parts-path}
 use Rattle.graph.proofs.Grows.{bridge-block-grows}
 use Rattle.graph.proofs.EdgeMoreBridges.{rule-more, loss-kept, loss-new, bridge-old-within}
-use Rattle.graph.proofs.Never.{never-rule, first-mate-never, no-mate-never}
 
 -- vertex x lies in the bridge-block of a vertex of the path from a
 unfoldable pub onRings : Network → ℕ → List Step → ℕ → Bool
@@ -204,18 +203,3 @@ module _ (g : Network) (e : Edge) (proper : Proper g) (rule : MateRule (g .rule)
             (λ b. gathered-before (bridgeBlock g) on (edge g t .left) (edge g t .right)
             (true-of-not-false (bridgeBlock g (edge g t .left) (edge g t .right)) (sym (bridge-parts-bridge-blocks g rule t h) ∙ b)))
             (true-or-false (bridge g t))
-
--- where no edge has another mate, the same without asking for mates
-pub bridge-block-edge-within-never : (g : Network) (e : Edge) → Proper g → g .rule ≡ never → {ps : List Step}
-    → BlockPath g (e .left) ps (e .right) → (x y : ℕ)
-    → bridgeBlock (addEdge g e) x y ≡ (bridgeBlock g x y || (onRings g (e .left) ps x && onRings g (e .left) ps y))
-bridge-block-edge-within-never g e proper none =
-    bridge-block-edge-within g e proper (never-rule g none) (no-mate-never g e none)
-
--- and its bridges
-pub bridge-old-on-path-never : (g : Network) (e : Edge) → Proper g → g .rule ≡ never → {ps : List Step}
-    → BlockPath g (e .left) ps (e .right) → (s : ℕ) → s < edgeCount g
-    → bridge (addEdge g e) s ≡ (bridge g s && not (isIn s (partingEdges g (e .left) ps)))
-bridge-old-on-path-never g e proper none {ps} path s h =
-    bridge-old-on-path g e proper (never-rule g none) (no-mate-never g e none) path s h
-    ∙ ap (λ b. bridge g s && not b) (ap₂ isIn (first-mate-never g none s) (path-bridges-never g none (e .left) ps))

@@ -32,6 +32,8 @@ pub mod LoneEdge
 pub mod BlockVertices
 pub mod SharedBlock
 pub mod BlockPath
+pub mod BlockPathExists
+pub mod MeshOutlives
 pub mod PathCuts
 pub mod BridgeVertices
 pub mod PathBridges
@@ -41,5 +43,6 @@ pub mod EdgeMore
 pub mod EdgeMoreBlocks
 pub mod EdgeMoreBridges
 pub mod EdgeMoreRings
+pub mod BaseRule
 pub mod SecondRule
 pub mod Lengths

@@ -1,13 +1,14 @@
--- The rule of document 01, by which no other edge is lost with an edge: it is a rule of mates, and under it every edge is its own
--- only mate.
+-- The rule of document 01, by which no other edge is lost with an edge: it is a rule of mates that does not look at the direction of
+-- an edge, and under it every edge is its own only mate.
 use mathlib.Core.Bool.{false, _||_, or-false, false≢true}
-use mathlib.Core.Path.{_≡_, sym, _∙_, ap, subst}
+use mathlib.Core.Path.{_≡_, refl, sym, _∙_, ap, subst}
 use Prim.Native.Nat.{ℕ, _<_}
 use native.Mathlib.Omega.{arith}
 use lib.Dec.{eqb}
 use Rattle.graph.specs.Network.{Network, Edge, MateRule, never, edge, edgeCount, addEdge, mates}
 use Rattle.graph.specs.Travel.{firstMate}
 use Rattle.graph.proofs.Truth.{ne-eqb, eqb-eq}
+use Rattle.graph.proofs.Turned.{Undirected}
 use Rattle.graph.proofs.Travel.{first-mate}
 
 -- "no other edge" is a rule of mates
@@ -19,6 +20,11 @@ never-mates =
       transitive = λ e f h k l. k;
       only-parallel = λ e f k. absurd (false≢true k);
     }
+
+-- it does not look at the direction of an edge
+pub never-undirected : Undirected never
+unfolding never
+never-undirected = record { on-left = λ e f. refl; on-right = λ e f. refl }
 
 module _ (g : Network) (none : g .rule ≡ never) where
   -- it is the rule of the network

@@ -7,7 +7,7 @@ use mathlib.Core.Path.{_≡_, refl, sym, _∙_, ap, subst}
 use Prim.Native.Nat.{ℕ, _<_}
 use lib.Dec.{eqb}
 use Rattle.graph.specs.Lists.{isIn, distinct, ordered}
-use Rattle.graph.specs.Network.{Network, MateRule, Proper, never, edge, edgeCount, lossOf, joined}
+use Rattle.graph.specs.Network.{Network, MateRule, Proper, edge, edgeCount, lossOf, joined}
 use Rattle.graph.specs.Groups.{parts, bridge, bridgeBlock}
 use Rattle.graph.specs.Cycle.{Step, joins}
 use Rattle.graph.specs.Between.{leastMate, isBridgeBetween, bridgeBefore, bridgesBetween}
@@ -26,7 +26,6 @@ use Rattle.graph.proofs.BridgeBlock.{bridge-block-lasts}
 use Rattle.graph.proofs.BridgesBetween.{bridge-between-least, bridge-between-parts, bridge-between-known, bridges-between-unique}
 use Rattle.graph.proofs.Parting.{parts-apart}
 use Rattle.graph.proofs.Travel.{first-mate, first-mate-least, other-first-mate}
-use Rattle.graph.proofs.Never.{never-rule, first-mate-never}
 use Rattle.graph.proofs.BlockPath.{visits, Onward, onward, stays, visits-next, visits-later, later-outlives, path-component, path-outlives-vertex}
 use Rattle.graph.proofs.BridgeVertices.{bridge-mates, on-bridge-joins, bridge-of-block-vertices}
 
@@ -262,23 +261,3 @@ module _ (g : Network) (proper : Proper g) (rule : MateRule (g .rule)) where
     where
       s : ℕ
       s = firstMate g t
-
--- the edges by which the steps of a path from a between different bridge-blocks are given, in the order of the path
-unfoldable pub partingEdges : Network → ℕ → List Step → List ℕ
-partingEdges g a [] = []
-partingEdges g a (p ∷ ps) =
-    let later = partingEdges g (p .to) ps in
-    cond (bridgeBlock g a (p .to)) later (p .along ∷ later)
-
--- where no edge has another mate, the least edge of such a block is the edge of the step
-pub path-bridges-never : (g : Network) → g .rule ≡ never → (a : ℕ) (ps : List Step) → pathBridges g a ps ≡ partingEdges g a ps
-unfolding pathBridges partingEdges
-path-bridges-never g none a [] = refl
-path-bridges-never g none a (p ∷ ps) = rw (path-bridges-never g none (p .to) ps, first-mate-never g none (p .along))
-
--- where no edge has another mate, the bridges between the ends of a block path are the edges of its steps between different
--- bridge-blocks, in its order
-pub bridges-of-block-path-never : (g : Network) → Proper g → g .rule ≡ never → {a b : ℕ} {ps : List Step} → BlockPath g a ps b
-    → bridgesBetween g a b ≡ partingEdges g a ps
-bridges-of-block-path-never g proper none {a} {b} {ps} path =
-    bridges-of-block-path g proper (never-rule g none) path ∙ path-bridges-never g none a ps

@@ -1,6 +1,6 @@
 -- The laws at a second rule, by which an edge is lost with every edge between the same two ends: what they ask of a rule is its
 -- record, and nothing else.
-use mathlib.Core.Bool.{true, false, _&&_, _||_}
+use mathlib.Core.Bool.{true, false, _&&_, _||_, and-comm, or-comm}
 use mathlib.Core.List.{List, [], _∷_}
 use mathlib.Core.Logic.{⊎-elim, _↔_}
 use mathlib.Core.Path.{_≡_, refl, sym, _∙_, ap, ap₂, subst}
@@ -18,6 +18,7 @@ use Rattle.graph.specs.Travel.{firsts, crossed}
 use Rattle.graph.specs.BlockPath.{BlockPath}
 use Rattle.graph.proofs.Truth.{bool-ext, or-right, or-cases, eqb-eq}
 use Rattle.graph.proofs.Walks.{joins-ends, joins-swap}
+use Rattle.graph.proofs.Turned.{Undirected, Turned, bridge-block-turned}
 use Rattle.graph.proofs.Mates.{parallel-carries}
 use Rattle.graph.proofs.BridgeBlock.{bridge-block-is-joined-off-bridges}
 use Rattle.graph.proofs.BridgesBetween.{bridges-between-ordered}
@@ -25,6 +26,7 @@ use Rattle.graph.proofs.Travel.{bridges-in-travelling-order}
 use Rattle.graph.proofs.CommonCycle.{block-is-common-cycle}
 use Rattle.graph.proofs.LoneEdge.{lone-edge}
 use Rattle.graph.proofs.PathBridges.{pathBridges, bridges-of-block-path}
+use Rattle.graph.proofs.EdgeMoreBlocks.{joinsMate, block-edge-mate}
 use Rattle.graph.proofs.EdgeMoreBridges.{bridge-block-mate}
 use Rattle.graph.proofs.EdgeMoreRings.{onRings, bridge-block-edge-within}
 use Rattle.graph.proofs.Joined.{edge-old, edge-new}
@@ -48,6 +50,20 @@ parallel-trans e f h p q =
 -- "the same two ends" is a rule of mates
 pub parallel-mates : MateRule parallel
 parallel-mates = record { symmetric = parallel-sym; transitive = parallel-trans; only-parallel = λ e f k. k }
+
+-- it does not look at the direction of an edge, as document 01's rule does not (never-undirected)
+pub parallel-undirected : Undirected parallel
+unfolding parallel
+parallel-undirected =
+    record {
+      on-left = λ e f.
+          or-comm (eqb (e .right) (f .left) && eqb (e .left) (f .right)) (eqb (e .right) (f .right) && eqb (e .left) (f .left))
+          ∙ ap₂ _||_
+          (and-comm (eqb (e .right) (f .right)) (eqb (e .left) (f .left)))
+          (and-comm (eqb (e .right) (f .left)) (eqb (e .left) (f .right)));
+      on-right = λ e f.
+          or-comm (eqb (e .left) (f .right) && eqb (e .right) (f .left)) (eqb (e .left) (f .left) && eqb (e .right) (f .right));
+    }
 
 -- under it mates are the parallel edges
 mates-parallel : (g : Network) → g .rule ≡ parallel → (s t : ℕ) → mates g s t ≡ parallel (edge g s) (edge g t)
@@ -77,6 +93,10 @@ module _ (g : Network) (proper : Proper g) (two-ends : g .rule ≡ parallel) whe
   pub bridge-block-two-ends : (x y : ℕ) → bridgeBlock g x y ≡ joined g (bridge g) x y
   bridge-block-two-ends = bridge-block-is-joined-off-bridges g rule
 
+  -- which the direction of edges does not change
+  pub bridge-block-turned-two-ends : (g′ : Network) → Turned g g′ → (x y : ℕ) → bridgeBlock g′ x y ≡ bridgeBlock g x y
+  bridge-block-turned-two-ends g′ t = bridge-block-turned g g′ t (subst Undirected (sym two-ends) parallel-undirected)
+
   -- the bridges between two vertices are listed in order
   pub bridges-ordered-two-ends : (a b : ℕ) → ordered (bridgeBefore g a) (bridgesBetween g a b) ≡ true
   bridges-ordered-two-ends = bridges-between-ordered g rule
@@ -99,6 +119,11 @@ module _ (g : Network) (proper : Proper g) (two-ends : g .rule ≡ parallel) whe
   pub bridge-block-parallel-more : (e : Edge) (t : ℕ) → t < edgeCount g → parallel (edge g t) e ≡ true → (x y : ℕ)
       → bridgeBlock (addEdge g e) x y ≡ bridgeBlock g x y
   bridge-block-parallel-more e t h p = bridge-block-mate g e rule t h (mates-new g two-ends e t h ∙ p)
+
+  -- and joins its block, and no other block changes
+  pub block-parallel-more : (e : Edge) → Proper (addEdge g e) → (t : ℕ) → t < edgeCount g → parallel (edge g t) e ≡ true
+      → (s u : ℕ) → block (addEdge g e) s u ≡ (block g s u || (joinsMate g t s && joinsMate g t u))
+  block-parallel-more e proper′ t h p = block-edge-mate g e proper proper′ rule t h (mates-new g two-ends e t h ∙ p)
 
   -- any other makes the bridge-blocks of a block path between its ends one
   pub bridge-block-other-more : (e : Edge) → ((t : ℕ) → t < edgeCount g → parallel (edge g t) e ≡ false) → {ps : List Step}

@@ -9,7 +9,7 @@ use lib.Dec.{eqb, ltb}
 use lib.ListN.{set, length-set}
 use lib.Seq.{set-out, getD-set-same, getD-set-other}
 use Rattle.graph.specs.Labels.{same}
-use Rattle.graph.specs.Network.{Network, Edge, Rule, never, Loss, edge, edgeCount, touches, otherEnd, mates, nothing}
+use Rattle.graph.specs.Network.{Network, Edge, Rule, Loss, edge, edgeCount, touches, otherEnd, mates, nothing}
 use Rattle.graph.specs.Network.{lossOf, without, joined}
 use Rattle.graph.specs.Groups.{component, bridge, bridgeBlock}
 use Rattle.graph.specs.Block.{linkAt, link, pairsBelow, links, block}
@@ -25,11 +25,6 @@ turnedEdge e = record { left = e .right; right = e .left }
 pub record Undirected (rule : Rule) : Type 0 where
   pub on-left : (e f : Edge) → rule (turnedEdge e) f ≡ rule e f
   pub on-right : (e f : Edge) → rule e (turnedEdge f) ≡ rule e f
-
--- the rule of document 01 does not look at the direction of an edge
-pub never-undirected : Undirected never
-unfolding never
-never-undirected = record { on-left = λ e f. refl; on-right = λ e f. refl }
 
 -- two networks that differ at most in the direction of their edges
 pub record Turned (g g′ : Network) : Type 0 where

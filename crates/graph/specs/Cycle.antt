@@ -4,7 +4,7 @@ use mathlib.Core.List.{List, [], _∷_}
 use mathlib.Core.Path.{_≡_}
 use Prim.Native.Nat.{ℕ}
 use lib.Dec.{eqb, ltb}
-use Rattle.graph.specs.Network.{Network, Edge, edge, edgeCount, touches, otherEnd, mates}
+use Rattle.graph.specs.Network.{Network, Edge, edge, edgeCount, mates}
 
 -- One step of a walk: along an edge to a vertex.
 pub record Step : Type 0 where

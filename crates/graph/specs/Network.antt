@@ -48,7 +48,7 @@ pub record Network : Type 0 where
 unfoldable pub edgeCount : Network → ℕ
 edgeCount g = length (g .edges)
 
--- Edge s. Where there is none the value says nothing, and nothing below asks for it.
+-- Edge s. Where there is none the value says nothing, and no answer depends on it.
 unfoldable pub edge : Network → ℕ → Edge
 edge g s = getD (g .edges) s (record { left = 0; right = 0 })
 
