@@ -153,9 +153,9 @@ module _ (caps : Capacities) (m : ℕ) (t : List ℕ) (k : ℕ) (g : Network) (a
       first-items
       (blocks-with-new s u)
 
-  best-is : w ≡ bestOf (candidate (block g) (block g′) (namesIn t area m)) (candidate (block g) (block g′) (namesIn t area m) (itemOf t l 0)) (laterItems t l) .name
+  best-is : w ≡ bestOf (candidate (block g) (namesIn t area m)) (candidate (block g) (namesIn t area m) (itemOf t l 0)) (laterItems t l) .name
   best-is =
-      best-listed t area m (block g) (block g′) valid l (itemOf t l 0) (laterItems t l) (items-are t l (edges-some caps t k some)) small-items
+      best-listed t area m (block g) valid l (itemOf t l 0) (laterItems t l) (items-are t l (edges-some caps t k some)) small-items
 
   module _ (v : ℕ) where
     abbrev t₅ : List ℕ

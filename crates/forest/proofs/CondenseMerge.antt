@@ -74,11 +74,11 @@ module _ (n : ℕ) (before after : Grouping) (names : List ℕ) (named : Naming 
 
   -- an item of the merged groups gets the best of the older names
   pub joined-best : (x : ℕ) → x < suc n → inMerged before (n ∷ r ∷ rs) x ≡ true
-      → nameOf (rename before after (names ++ n ∷ [])) x ≡ bestOf (candidate before after names) (candidate before after names r) rs .name
+      → nameOf (rename before after (names ++ n ∷ [])) x ≡ bestOf (candidate before names) (candidate before names r) rs .name
   joined-best x h m =
       merge-best (suc n) before after longer named-longer e n (r ∷ rs) below-longer merges x h m
       ∙ ap (λ (c : Candidate). c .name)
-      (new-item-never-wins n before after names (named .sized) e alone (named .name-below) r rs small)
+      (new-item-never-wins n before names (named .sized) e alone (named .name-below) r rs small)
 
   -- every other item keeps its name
   pub joined-stays : (x : ℕ) → x < n → inMerged before (n ∷ r ∷ rs) x ≡ false

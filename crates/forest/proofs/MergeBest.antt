@@ -116,33 +116,33 @@ first-and-rest t l (suc k) r rs e = ((cc), rw less (cc))
     less = omega arith
 
 -- the table says of an item's group what naming takes for it
-stands : (t : List ℕ) (area : Area) (n : ℕ) (before after : Grouping) → KindValid t area n before → (x : ℕ) → x < n
-    → standing t area x ≡ candidate before after (namesIn t area n) x
+stands : (t : List ℕ) (area : Area) (n : ℕ) (before : Grouping) → KindValid t area n before → (x : ℕ) → x < n
+    → standing t area x ≡ candidate before (namesIn t area n) x
 unfolding candidate
-stands t area n before after valid x h = λ i. record { size = sizes i; name = sym (name-in-list t area n x h) i }
+stands t area n before valid x h = λ i. record { size = sizes i; name = sym (name-in-list t area n x h) i }
   where
     sizes : sizeIn t area (nameIn t area x) ≡ size (length (namesIn t area n)) before x
     sizes = rw (length-names t area n) (valid .sized x h)
 
 -- in a valid table the best of the listed names is the best name of the listed items' groups
-pub best-listed : (t : List ℕ) (area : Area) (n : ℕ) (before after : Grouping) → KindValid t area n before
+pub best-listed : (t : List ℕ) (area : Area) (n : ℕ) (before : Grouping) → KindValid t area n before
     → (l : Listing) (r : ℕ) (rs : List ℕ)
     → itemsFrom t l 0 (l .count) ≡ r ∷ rs
     → ((z : ℕ) → List·Memᴰ z (r ∷ rs) → z < n)
     → bestListed t area l
-    ≡ bestOf (candidate before after (namesIn t area n)) (candidate before after (namesIn t area n) r) rs .name
+    ≡ bestOf (candidate before (namesIn t area n)) (candidate before (namesIn t area n) r) rs .name
 unfolding bestListed
-best-listed t area n before after valid l r rs items small =
+best-listed t area n before valid l r rs items small =
     rw (first .0, first .1) (best-over t area r rs ∙ ap (λ (c : Candidate). c .name) agree)
   where
     first : (itemOf t l 0 ≡ r) × (itemsFrom t l 1 (l .count - 1) ≡ rs)
     first = first-and-rest t l (l .count) r rs items
 
     of : ℕ → Candidate
-    of = candidate before after (namesIn t area n)
+    of = candidate before (namesIn t area n)
 
     same : (x : ℕ) → x < n → standing t area x ≡ of x
-    same = stands t area n before after valid
+    same = stands t area n before valid
 
     agree : bestOf (standing t area) (standing t area r) rs ≡ bestOf of (of r) rs
     agree =

@@ -105,12 +105,12 @@ module _ (t : List ℕ) (area : Area) (n : ℕ) (columns : HasColumns t area 4) 
   abbrev merged : ℕ → Bool
   merged = inMerged before (r ∷ rs)
 
-  best-is : w ≡ bestOf (candidate before after (namesIn t area n)) (candidate before after (namesIn t area n) r) rs .name
-  best-is = best-listed t area n before after valid l r rs items below
+  best-is : w ≡ bestOf (candidate before (namesIn t area n)) (candidate before (namesIn t area n) r) rs .name
+  best-is = best-listed t area n before valid l r rs items below
 
   -- a listed item whose name is the winner
-  heir : BestOf (candidate before after (namesIn t area n)) (λ z. List·Memᴰ z (r ∷ rs)) w
-  heir = rw best-is (best-name (best-of-list (candidate before after (namesIn t area n)) r rs))
+  heir : BestOf (candidate before (namesIn t area n)) (λ z. List·Memᴰ z (r ∷ rs)) w
+  heir = rw best-is (best-name (best-of-list (candidate before (namesIn t area n)) r rs))
 
   heir-known : heir .item < n
   heir-known = below (heir .item) (heir .member)

@@ -27,7 +27,7 @@ use Rattle.journal.specs.Entry.{Buffers, bookAfter}
 use Rattle.journal.specs.Decode.{decodeFirst}
 use Rattle.journal.proofs.Cases.{impossible}
 use Rattle.journal.proofs.RunBooks.{whole-run-sound}
-use Rattle.journal.proofs.ReadBack.{accepted, returned, read-back, answer-at}
+use Rattle.journal.proofs.ReadBack.{accepted, answerBuffer, read-back, answer-at}
 
 -- edge s is of a block that has an edge at each of the two vertices
 pub record OfSharedBlock (g : Network) (x y s : ℕ) : Type 0 where
@@ -124,7 +124,7 @@ module _ (rule : Rule) (r : MateRule rule) (caps : Capacities) (journal : List �
 
   -- and the answers that the buffer holds are those: answer i is to command i from the book after the commands before it
   pub answer-in-buffer : (i : ℕ) (c : Command) → getElem? (accepted rule caps journal lent) i ≡ some c
-      → getElem? (decodeFirst (length (accepted rule caps journal lent)) (returned rule caps journal lent)) i
+      → getElem? (decodeFirst (length (accepted rule caps journal lent)) (answerBuffer rule caps journal lent)) i
       ≡ some (answer (bookAfter rule (take i (accepted rule caps journal lent))) c)
   unfolding bookAfter
   answer-in-buffer i c e =

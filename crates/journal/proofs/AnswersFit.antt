@@ -23,12 +23,12 @@ use Rattle.naming.specs.Rename.{nameOf}
 use Rattle.naming.specs.Book.{Book, enterEdge, feed}
 use Rattle.naming.proofs.Count.{count-at-most}
 use Rattle.journal.specs.Command.{Command, addCabinet, addSpan, districtName, ringName, sharedMesh, soleSpans, cutCabinets, isSole, addition}
-use Rattle.journal.specs.Refusal.{Capacities, cabinetsOf, refusalOf}
+use Rattle.journal.specs.Refusal.{Capacities, cabinetsOf, cabinetsKnown, refusalOf}
 use Rattle.journal.specs.Answer.{Kind, district, ring, mesh, Notice, notices}
 use Rattle.journal.specs.Step.{after, spanAnswer, meshAnswer, answer}
 use Rattle.journal.specs.Run.{Accepted}
 use Rattle.journal.specs.WholeRun.{EachNotice, itemsOf, sameKind, countNotices}
-use Rattle.journal.proofs.Causes.{cabinetsKnown, not-refused-exactly}
+use Rattle.journal.proofs.Causes.{not-refused-exactly}
 use Rattle.journal.proofs.Start.{InRange}
 use Rattle.journal.proofs.Decode.{Small, EachSmall, NoticeFits, Fits, AllFit}
 use Rattle.journal.proofs.SizedBook.{namesIn}

@@ -7,7 +7,7 @@ use native.Mathlib.Omega.{arith}
 use lib.Dec.{ltb}
 use lib.ListN.{length}
 use Rattle.graph.specs.Lists.{allIn}
-use Rattle.graph.proofs.Truth.{and-left, and-right, and-both, lt-ltb}
+use Rattle.graph.proofs.Truth.{and-left, and-right, and-both, ltb-lt, lt-ltb}
 use Rattle.journal.specs.Bytes.{number, twoBytes, fourBytes, twoBytesEach}
 
 -- the two bytes of a number below 65,536 give the number
@@ -53,6 +53,17 @@ all-bytes-append (x ∷ xs) ys p q =
     and-both
     (and-left (ltb x 256) (allBytes xs) p)
     (all-bytes-append xs ys (and-right (ltb x 256) (allBytes xs) p) q)
+
+-- the first of them is one
+pub first-is-byte : (x : ℕ) (xs : List ℕ) → allBytes (x ∷ xs) ≡ true → x < 256
+unfolding allBytes allIn
+first-is-byte x xs p = ltb-lt x 256 (and-left (ltb x 256) (allBytes xs) p)
+
+-- and those behind are
+pub all-bytes-behind : (xs ys : List ℕ) → allBytes (xs ++ ys) ≡ true → allBytes ys ≡ true
+unfolding allBytes allIn
+all-bytes-behind [] ys p = p
+all-bytes-behind (x ∷ xs) ys p = all-bytes-behind xs ys (and-right (ltb x 256) (allBytes (xs ++ ys)) p)
 
 -- a number in two bytes, in four bytes, and each number of a list in two bytes: all are bytes
 pub all-bytes-two-bytes : (n : ℕ) → allBytes (twoBytes n) ≡ true

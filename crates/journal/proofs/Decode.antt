@@ -5,13 +5,13 @@ use mathlib.Core.Path.{_≡_, refl, _∙_, ap}
 use Prim.Native.Nat.{ℕ, zero, suc, _≤_, _<_}
 use native.Mathlib.Nat.{not-suc-le-zero}
 use native.Mathlib.Omega.{arith}
-use lib.ListN.{length, take, length-map}
+use lib.ListN.{length, take, getD, length-map}
 use lib.Seq.{length-take-le}
 use Rattle.journal.specs.Bytes.{twoBytes, twoBytesEach}
 use Rattle.journal.specs.Answer.{Kind, district, ring, mesh, kindByte, boolByte, Notice, noticeBytes, noticesBytes, Answer, cabinetAdded, spanAdded, districtNamed, ringNamed, meshShared, noMeshShared, soleSpansAre, cutCabinetsAre, soleIs, answerBytes}
 use Rattle.journal.specs.Run.{Accepted, bytesOfAnswers}
 use Rattle.journal.specs.WholeRun.{EachNotice}
-use Rattle.journal.specs.Decode.{decoded, Then, byteThen, fieldThen, fieldsThen, kindOf, kindThen, noticeThen, noticesThen, flagThen, decodeBody, decode, decodeFirst}
+use Rattle.journal.specs.Decode.{malformed, decoded, Then, byteThen, fieldThen, fieldsThen, kindOf, kindThen, noticeThen, noticesThen, flagThen, noughtThen, decodeBody, decode, decodeFirst}
 use Rattle.journal.proofs.Bytes.{number-of-two-bytes}
 
 -- the number fits into two bytes
@@ -89,14 +89,14 @@ counted-read ns h k rest =
 
 -- an answer that fits is read back from its bytes, whatever follows them
 pub decode-answer : (a : Answer) → Fits a → (rest : List ℕ) → decode (answerBytes a ++ rest) ≡ decoded a rest
-unfolding decode byteThen decodeBody flagThen answerBytes boolByte twoBytes
+unfolding decode byteThen decodeBody flagThen noughtThen answerBytes boolByte twoBytes
 decode-answer (cabinetAdded k) h rest = field-read k h (λ x. decoded (cabinetAdded x)) rest
 decode-answer (spanAdded s name ts) h rest =
     rw (field-read s (h .0), field-read name (h .1), field-read (length ts) (h .2), notices-read ts (h .3))
 decode-answer (districtNamed name) h rest = field-read name h (λ x. decoded (districtNamed x)) rest
 decode-answer (ringNamed name) h rest = field-read name h (λ x. decoded (ringNamed x)) rest
 decode-answer (meshShared name) h rest = field-read name h (λ x. decoded (meshShared x)) rest
-decode-answer noMeshShared h rest = field-read 0 (omega arith) (λ x. decoded noMeshShared) rest
+decode-answer noMeshShared h rest = field-read 0 (omega arith) (λ n. getD (decoded noMeshShared ∷ []) n (λ bytes. malformed)) rest
 decode-answer (soleSpansAre ss) h rest = counted-read ss h (λ ns. decoded (soleSpansAre ns)) rest
 decode-answer (cutCabinetsAre cs) h rest = counted-read cs h (λ ns. decoded (cutCabinetsAre ns)) rest
 decode-answer (soleIs true) h rest = refl

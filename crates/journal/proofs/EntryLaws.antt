@@ -23,7 +23,8 @@ use Rattle.journal.specs.Steps.{capacitiesOf}
 use Rattle.journal.specs.Runs.{RunPromise}
 use Rattle.journal.specs.Promise.{sixNumbers, RegisterPromise}
 use Rattle.journal.proofs.Cases.{le-or-gt, gt-leb}
-use Rattle.journal.proofs.Start.{good-exactly, shortBuffers, ran-exactly}
+use Rattle.journal.specs.Entry.{shortBuffers}
+use Rattle.journal.proofs.Start.{good-exactly, ran-exactly}
 use Rattle.journal.proofs.Returned.{zero-exactly}
 use Rattle.journal.proofs.WholeRun.{register-whole-run}
 

@@ -15,22 +15,22 @@ use Rattle.graph.proofs.Joined.{edge-count-more}
 use Rattle.graph.proofs.VertexMore.{proper-vertex-more, proper-edge-more}
 use Rattle.naming.specs.Book.{Book, emptyBook, enterVertex, enterEdge, feed}
 use Rattle.journal.specs.Command.{Command, addCabinet, addSpan, districtName, ringName, sharedMesh, soleSpans, cutCabinets, isSole, addition}
-use Rattle.journal.specs.Refusal.{Refusal, Capacities, cabinetsOf, hasEqualCabinets, isFull, refusalOf}
+use Rattle.journal.specs.Refusal.{Refusal, Capacities, cabinetsOf, cabinetsKnown, hasEqualCabinets, isFull, refusalOf}
 use Rattle.journal.specs.Step.{after}
 use Rattle.journal.specs.Run.{Accepted}
 use Rattle.journal.proofs.Cases.{leb-gt}
 use Rattle.journal.proofs.Steps.{RunsTo, ends, refuses, accepts, was-accepted}
 use Rattle.journal.proofs.Place.{bookFed, fed-none, fed-more}
-use Rattle.journal.proofs.Causes.{cabinetsKnown, NotRefused, not-refused-exactly}
+use Rattle.journal.proofs.Causes.{NotRefused, not-refused-exactly}
 
 -- the network is within the capacities, and proper
-pub record Fits (caps : Capacities) (g : Network) : Type 0 where
+pub record WithinCapacities (caps : Capacities) (g : Network) : Type 0 where
   pub cabinets-fit : g .vertices ≤ caps .cabinets
   pub spans-fit : edgeCount g ≤ caps .spans
   pub proper : Proper g
 
 -- an empty network is
-pub empty-fits : (caps : Capacities) (rule : Rule) → Fits caps (emptyBook rule .network)
+pub empty-fits : (caps : Capacities) (rule : Rule) → WithinCapacities caps (emptyBook rule .network)
 unfolding emptyBook edgeCount
 empty-fits caps rule =
     record {
@@ -45,7 +45,7 @@ empty-fits caps rule =
     }
 
 -- a cabinet more
-cabinet-more : (caps : Capacities) (b : Book) → Fits caps (b .network) → NotRefused caps b addCabinet → Fits caps (after b addCabinet .network)
+cabinet-more : (caps : Capacities) (b : Book) → WithinCapacities caps (b .network) → NotRefused caps b addCabinet → WithinCapacities caps (after b addCabinet .network)
 unfolding isFull after feed addition enterVertex addVertex edgeCount
 cabinet-more caps b fits n =
     record {
@@ -55,8 +55,8 @@ cabinet-more caps b fits n =
     }
 
 -- a span more
-span-more : (caps : Capacities) (b : Book) (x y : ℕ) → Fits caps (b .network) → NotRefused caps b (addSpan x y)
-    → Fits caps (after b (addSpan x y) .network)
+span-more : (caps : Capacities) (b : Book) (x y : ℕ) → WithinCapacities caps (b .network) → NotRefused caps b (addSpan x y)
+    → WithinCapacities caps (after b (addSpan x y) .network)
 unfolding isFull after feed addition enterEdge addEdge cabinetsKnown cabinetsOf allIn hasEqualCabinets
 span-more caps b x y fits n =
     record {
@@ -82,7 +82,7 @@ span-more caps b x y fits n =
     known-right = ltb y (b .network .vertices)
 
 -- every command that is not refused keeps the network within the capacities, and proper
-pub kept : (caps : Capacities) (b : Book) (c : Command) → Fits caps (b .network) → refusalOf caps b c ≡ none → Fits caps (after b c .network)
+pub kept : (caps : Capacities) (b : Book) (c : Command) → WithinCapacities caps (b .network) → refusalOf caps b c ≡ none → WithinCapacities caps (after b c .network)
 unfolding after addition feed
 kept caps b addCabinet fits e = cabinet-more caps b fits (not-refused-exactly caps b addCabinet .0 e)
 kept caps b (addSpan x y) fits e = span-more caps b x y fits (not-refused-exactly caps b (addSpan x y) .0 e)
@@ -95,7 +95,7 @@ kept caps b (isSole s) fits e = fits
 
 -- so it is after every number of the accepted commands
 pub fits-after : (caps : Capacities) {b : Book} {journal : List ℕ} {l : List Accepted} {end : Option Refusal}
-    → RunsTo caps b journal l end → Fits caps (b .network) → (k : ℕ) → Fits caps (bookFed b (take k l) .network)
+    → RunsTo caps b journal l end → WithinCapacities caps (b .network) → (k : ℕ) → WithinCapacities caps (bookFed b (take k l) .network)
 fits-after caps {b} r fits zero = rw (fed-none b) fits
 fits-after caps (ends {b = b}) fits (suc k) = rw (fed-none b) fits
 fits-after caps (refuses {b = b} e) fits (suc k) = rw (fed-none b) fits

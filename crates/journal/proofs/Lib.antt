@@ -5,13 +5,14 @@ pub mod Steps
 pub mod Place
 pub mod Table
 pub mod Causes
+pub mod Refused
 pub mod Start
 pub mod Returned
 pub mod Kept
 pub mod Report
 pub mod Bytes
 pub mod Decode
-pub mod DecodeCount
+pub mod DecodeExact
 pub mod SizedBook
 pub mod Notices
 pub mod NoticeOrder

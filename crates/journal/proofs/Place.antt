@@ -15,7 +15,7 @@ use Rattle.journal.specs.Answer.{answerBytes}
 use Rattle.journal.specs.Step.{after}
 use Rattle.journal.specs.Run.{Accepted, Run, refused, accepted, verdict, runFrom, fitting, runWithin, bytesOfAnswers, placeAfter}
 use Rattle.journal.proofs.Cases.{impossible}
-use Rattle.journal.proofs.Room.{AllFit, CutAt, cut-where-no-room, Prefix, fitting-is-prefix}
+use Rattle.journal.proofs.Room.{RoomForAll, CutAt, cut-where-no-room, all-fit-whole, cut-at-stop, cut-before-end, Prefix, fitting-is-prefix}
 use Rattle.journal.proofs.Steps.{RunsTo, ends, refuses, accepts, run-takes-steps, accepted-width-fits}
 
 -- the commands' additions, entered into the book one after another
@@ -210,20 +210,20 @@ module _ (room : ℕ) (caps : Capacities) (b : Book) (journal : List ℕ) where
   -- a run within the room stops in one of these ways
   pub stops-within : StopsWithin room caps b journal (runWithin room caps b journal)
   unfolding runWithin
-  stops-within = go (cut-where-no-room room (all .accepted) (all .refusal))
+  stops-within = go (cut-where-no-room room (all .accepted))
     where
       all : Run
       all = runFrom caps b 0 journal
 
-      go : AllFit room (all .accepted) (all .refusal) ⊎ CutAt room (all .accepted) (all .refusal)
-          → StopsWithin room caps b journal (fitting room (all .accepted) (all .refusal))
-      go (inl w) = inl (rw (w .whole) (stops-at-place caps (all .refusal) (whole-run-steps caps b journal)))
+      go : RoomForAll room (all .accepted) ⊎ CutAt room (all .accepted) → StopsWithin room caps b journal (fitting room (all .accepted) (all .refusal))
+      go (inl w) =
+          inl (rw (all-fit-whole room (all .accepted) (all .refusal) w) (stops-at-place caps (all .refusal) (whole-run-steps caps b journal)))
       go (inr c) =
-          let at = each-at-its-place caps b journal (c .count) (c .before-end) in
+          let at = each-at-its-place caps b journal (c .count) (cut-before-end room (all .accepted) c) in
           let kth = getElem-drop (all .accepted) (c .count) (c .next) (c .later) (c .splits) in
           let same : c .next ≡ at .this = cc (at .is-kth) in
           inr
-          (rw (c .cut) (
+          (rw (cut-at-stop room (all .accepted) (all .refusal) c) (
             refl,
             record {
               byte = at .byte;

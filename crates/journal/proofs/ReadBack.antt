@@ -50,12 +50,12 @@ module _ (rule : Rule) (caps : Capacities) (journal : List ℕ) (lent : Buffers)
   accepted = acceptedCommands (whole rule caps journal lent)
 
   -- the answer buffer on return
-  abbrev pub returned : List ℕ
-  returned = entryUnder rule caps journal lent .buffers .answers
+  abbrev pub answerBuffer : List ℕ
+  answerBuffer = entryUnder rule caps journal lent .buffers .answers
 
   -- the first k answers that the buffer holds are those to the first k commands
   pub read-back : MateRule rule → (k : ℕ) → k ≤ length accepted
-      → decodeFirst k returned ≡ answersFrom (emptyBook rule) (take k accepted)
+      → decodeFirst k answerBuffer ≡ answersFrom (emptyBook rule) (take k accepted)
   unfolding entryUnder outcome over acceptedCommands commandsOf bytesOfAnswers
   read-back r k h = go (refused-or-ran rule caps journal (length (lent .work)) (length (lent .answers)) (length (lent .report))) h
     where

@@ -54,6 +54,17 @@ widthOf (alone c) = 0
 widthOf (withOne f) = 2
 widthOf (withTwo f) = 4
 
+-- a byte with operands is one of 01 to 08
+pub operands-known : (byte k : ℕ) → k < widthOf (form byte) → (leb 1 byte && leb byte 8) ≡ true
+unfolding isKnown widthOf
+operands-known byte k = go (form byte) (known-bytes byte)
+  where
+    go : (f : Form) → isKnown f ≡ (leb 1 byte && leb byte 8) → k < widthOf f → (leb 1 byte && leb byte 8) ≡ true
+    go unknown e h = absurd (omega arith)
+    go (alone c) e h = sym e
+    go (withOne f) e h = sym e
+    go (withTwo f) e h = sym e
+
 -- the operands are there
 pub long-enough : (width : ℕ) (bytes : List ℕ) (c : Command) → width ≤ length bytes → ifLong width bytes c ≡ command c width
 unfolding ifLong

@@ -21,7 +21,7 @@ use Rattle.journal.proofs.Cases.{le-or-gt}
 use Rattle.journal.proofs.Room.{Prefix}
 use Rattle.journal.proofs.Steps.{run-takes-steps}
 use Rattle.journal.proofs.Place.{bookFed, within-is-prefix}
-use Rattle.journal.proofs.Kept.{Fits, empty-fits, fits-after}
+use Rattle.journal.proofs.Kept.{WithinCapacities, empty-fits, fits-after}
 
 -- the command is 01
 unfoldable pub addsCabinet : Command → Bool
@@ -132,7 +132,7 @@ first-of-prefix l m p k = go (le-or-gt k (length l))
 
 -- after every number of the accepted commands of a run the network is within the capacities, and proper
 pub run-fits : (rule : Rule) (caps : Capacities) (journal : List ℕ) (k : ℕ)
-    → Fits caps (bookAfter rule (take k (commandsOf (runFrom caps (emptyBook rule) 0 journal))) .network)
+    → WithinCapacities caps (bookAfter rule (take k (commandsOf (runFrom caps (emptyBook rule) 0 journal))) .network)
 run-fits rule caps journal k =
     rw
     (book-after-first rule (runFrom caps (emptyBook rule) 0 journal) k)
@@ -140,7 +140,7 @@ run-fits rule caps journal k =
 
 -- and so it is with any room
 pub run-within-fits : (room : ℕ) (rule : Rule) (caps : Capacities) (journal : List ℕ) (k : ℕ)
-    → Fits caps (bookAfter rule (take k (commandsOf (runWithin room caps (emptyBook rule) journal))) .network)
+    → WithinCapacities caps (bookAfter rule (take k (commandsOf (runWithin room caps (emptyBook rule) journal))) .network)
 run-within-fits room rule caps journal k =
     let first = first-of-prefix _ _ (within-is-prefix room caps (emptyBook rule) journal) k in
     rw
@@ -149,13 +149,13 @@ run-within-fits room rule caps journal k =
 
 -- and so it is after every number of the accepted commands of a whole run
 pub whole-run-fits : (rule : Rule) (caps : Capacities) (journal : List ℕ) (workLength answersLength reportLength k : ℕ)
-    → Fits caps (bookAfter rule (take k (acceptedCommands (wholeRun rule caps journal workLength answersLength reportLength))) .network)
+    → WithinCapacities caps (bookAfter rule (take k (acceptedCommands (wholeRun rule caps journal workLength answersLength reportLength))) .network)
 unfolding wholeRun wholeUnless acceptedCommands bookAfter feedAll
 whole-run-fits rule caps journal workLength answersLength reportLength k =
     go (firstThatApplies (startLines caps (length journal) workLength reportLength)) k
   where
     go : (o : Option Refusal) (k : ℕ)
-        → Fits caps (bookAfter rule (take k (acceptedCommands (wholeUnless o (runWithin answersLength caps (emptyBook rule) journal)))) .network)
+        → WithinCapacities caps (bookAfter rule (take k (acceptedCommands (wholeUnless o (runWithin answersLength caps (emptyBook rule) journal)))) .network)
     go (some r) zero = empty-fits caps rule
     go (some r) (suc k) = empty-fits caps rule
     go none k = run-within-fits answersLength rule caps journal k

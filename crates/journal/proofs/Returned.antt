@@ -1,24 +1,27 @@
 -- The returned number: which run it stands for.
-use mathlib.Core.Bool.{true, false}
+use mathlib.Core.Bool.{true, false, _&&_}
 use mathlib.Core.List.{List}
 use mathlib.Core.Logic.{_↔_, Iff·rfl, Iff·trans, Iff·and, _⊎_, inl, inr, _≢_}
 use mathlib.Core.Option.{Option, none, some}
 use mathlib.Core.Path.{_≡_, refl, sym, _∙_, ap, subst}
-use Prim.Native.Nat.{ℕ, _≤_}
+use Prim.Native.Nat.{ℕ, _≤_, _<_}
 use native.Mathlib.Omega.{arith}
-use lib.Dec.{ltb}
+use lib.Dec.{leb, ltb}
 use lib.ListN.{length}
 use Rattle.graph.specs.Network.{Rule}
 use Rattle.naming.specs.Book.{Book, emptyBook}
-use Rattle.journal.specs.Refusal.{Refusal, badCapacity, shortBuffer, longJournal, noRoom, refusalNumber, Capacities}
-use Rattle.journal.specs.Run.{Run, runFrom, fitting, runWithin}
-use Rattle.journal.specs.Entry.{Whole, refusedAtStart, wholeRun, numberOf, Buffers, outcome, entryUnder}
-use Rattle.journal.proofs.Room.{AllFit, CutAt, cut-where-no-room}
+use Rattle.journal.specs.Command.{Command, form, readCommand}
+use Rattle.journal.specs.Refusal.{Refusal, badCapacity, shortBuffer, longJournal, badByte, cutOperands, unknownCabinet, unknownSpan, equalCabinets, full, twoDistricts, noRoom, refusalNumber, Capacities, cabinetsKnown, spansKnown, hasEqualCabinets, isFull, isAcross, refusalOf}
+use Rattle.journal.specs.Run.{Run, refused, verdict, runFrom, fitting, runWithin}
+use Rattle.journal.specs.Entry.{goodCapacities, shortBuffers, Whole, refusedAtStart, wholeRun, numberOf, Buffers, outcome, entryUnder}
+use Rattle.journal.proofs.Room.{RoomForAll, CutAt, cut-where-no-room, all-fit-whole, cut-at-stop}
 use Rattle.journal.proofs.Cases.{impossible}
-use Rattle.journal.proofs.Place.{RefusedAt, refused-at-place, refused-exactly, StopsWithin, stops-within}
+use Rattle.journal.proofs.Place.{bookFed, RefusedAt, refused-at-place, refused-exactly, StopsWithin, stops-within}
 use Rattle.journal.proofs.Table.{same-number, number-above-zero, Between}
-use Rattle.journal.proofs.Causes.{verdict-numbers}
-use Rattle.journal.proofs.Start.{goodCapacities, shortBuffers, StartsWell, start-numbers, bad-capacity-exactly, short-buffer-exactly, long-journal-exactly, ran-exactly, refused-or-ran}
+use Rattle.journal.proofs.Reading.{widthOf}
+use Rattle.journal.proofs.Causes.{unknown-cabinet-exactly, unknown-span-exactly, equal-cabinets-exactly, full-exactly, two-districts-exactly, bad-byte-exactly, cut-operands-exactly, verdict-numbers}
+use Rattle.journal.proofs.Refused.{ByteAt, CommandAt, byte-refused-exactly, command-refused-exactly}
+use Rattle.journal.proofs.Start.{StartsWell, start-numbers, bad-capacity-exactly, short-buffer-exactly, long-journal-exactly, ran-exactly, refused-or-ran}
 
 -- a refusal's number is returned for that refusal alone
 pub number-exactly : (o : Option Refusal) (r : Refusal) → (numberOf o ≡ refusalNumber r) ↔ (o ≡ some r)
@@ -36,33 +39,36 @@ zero-exactly (some s) = (λ e. absurd (omega (arith, number-above-zero s)), λ e
 module _ (room : ℕ) (caps : Capacities) (b : Book) (journal : List ℕ) where
   -- it is refused for want of room exactly if the next answer does not fit
   pub no-room-exactly : (runWithin room caps b journal .refusal ≡ some noRoom)
-      ↔ CutAt room (runFrom caps b 0 journal .accepted) (runFrom caps b 0 journal .refusal)
+      ↔ CutAt room (runFrom caps b 0 journal .accepted)
   unfolding runWithin refusalNumber
-  no-room-exactly = (λ e. go e (cut-where-no-room room (all .accepted) (all .refusal)), λ c. rw (c .cut))
+  no-room-exactly = (λ e. go e (cut-where-no-room room (all .accepted)), λ c. rw (cut-at-stop room (all .accepted) (all .refusal) c))
     where
       all : Run
       all = runFrom caps b 0 journal
 
       go : fitting room (all .accepted) (all .refusal) .refusal ≡ some noRoom
-          → AllFit room (all .accepted) (all .refusal) ⊎ CutAt room (all .accepted) (all .refusal)
-          → CutAt room (all .accepted) (all .refusal)
-      go e (inl w) = let at = refused-at-place caps b journal (rw (w .whole) at e) in absurd (omega (arith, verdict-numbers caps _ _ noRoom (at .refuses) .to))
+          → RoomForAll room (all .accepted) ⊎ CutAt room (all .accepted) → CutAt room (all .accepted)
+      go e (inl w) =
+          let at = refused-at-place caps b journal (rw (all-fit-whole room (all .accepted) (all .refusal) w) at e) in
+          absurd (omega (arith, verdict-numbers caps _ _ noRoom (at .refuses) .to))
       go e (inr c) = c
 
   -- it ends in any other way exactly if all answers fit and the run without regard to room ends so
   pub otherwise-exactly : (end : Option Refusal) → end ≢ some noRoom → (runWithin room caps b journal .refusal ≡ end)
-      ↔ (AllFit room (runFrom caps b 0 journal .accepted) (runFrom caps b 0 journal .refusal) × (runFrom caps b 0 journal .refusal ≡ end))
+      ↔ (RoomForAll room (runFrom caps b 0 journal .accepted) × (runFrom caps b 0 journal .refusal ≡ end))
   unfolding runWithin
-  otherwise-exactly end n = (λ e. go e (cut-where-no-room room (all .accepted) (all .refusal)), λ f. rw (f .0 .whole) (f .1))
+  otherwise-exactly end n = (
+    λ e. go e (cut-where-no-room room (all .accepted)),
+    λ f. rw (all-fit-whole room (all .accepted) (all .refusal) (f .0)) (f .1),
+  )
     where
       all : Run
       all = runFrom caps b 0 journal
 
       go : fitting room (all .accepted) (all .refusal) .refusal ≡ end
-          → AllFit room (all .accepted) (all .refusal) ⊎ CutAt room (all .accepted) (all .refusal)
-          → AllFit room (all .accepted) (all .refusal) × (all .refusal ≡ end)
-      go e (inl w) = (w, rw (w .whole) at e)
-      go e (inr c) = absurd (n (sym e ∙ ap (λ (r : Run). r .refusal) (c .cut)))
+          → RoomForAll room (all .accepted) ⊎ CutAt room (all .accepted) → RoomForAll room (all .accepted) × (all .refusal ≡ end)
+      go e (inl w) = (w, rw (all-fit-whole room (all .accepted) (all .refusal) w) at e)
+      go e (inr c) = absurd (n (sym e ∙ ap (λ (r : Run). r .refusal) (cut-at-stop room (all .accepted) (all .refusal) c)))
 
   -- it is refused with a number from 4 to 11
   pub run-numbers : (r : Refusal) → runWithin room caps b journal .refusal ≡ some r → Between 4 11 r
@@ -154,7 +160,7 @@ module _ (rule : Rule) (caps : Capacities) (journal : List ℕ) (lent : Buffers)
 
   -- 11: the run starts, and is cut before an answer for which there is no room
   pub eleven-exactly : (entryUnder rule caps journal lent .returned ≡ 11)
-      ↔ (WellStarted × CutAt (length (lent .answers)) (unbounded .accepted) (unbounded .refusal))
+      ↔ (WellStarted × CutAt (length (lent .answers)) (unbounded .accepted))
   unfolding refusalNumber
   eleven-exactly =
       Iff·trans
@@ -164,7 +170,7 @@ module _ (rule : Rule) (caps : Capacities) (journal : List ℕ) (lent : Buffers)
   -- 4 to 10: the run starts, all answers before it fit, and the command where they end is refused so
   pub four-to-ten-exactly : (r : Refusal) → Between 4 10 r → (entryUnder rule caps journal lent .returned ≡ refusalNumber r)
       ↔ (WellStarted
-      × (AllFit (length (lent .answers)) (unbounded .accepted) (unbounded .refusal)
+      × (RoomForAll (length (lent .answers)) (unbounded .accepted)
       × RefusedAt caps (emptyBook rule) journal (unbounded .accepted) r))
   unfolding refusalNumber
   four-to-ten-exactly r h =
@@ -179,9 +185,92 @@ module _ (rule : Rule) (caps : Capacities) (journal : List ℕ) (lent : Buffers)
       not-room : some r ≢ some noRoom
       not-room e = let same : r ≡ noRoom = cc in omega (arith, ap refusalNumber same)
 
+  -- the book after the commands before the one refused
+  abbrev pub reached : Book
+  reached = bookFed (emptyBook rule) (unbounded .accepted)
+
+  -- the run starts, the answers before the refused command fit, and this is so of what stands there
+  abbrev pub Stopped : Type 0 → Type 0
+  Stopped X = WellStarted × (RoomForAll (length (lent .answers)) (unbounded .accepted) × X)
+
+  -- the byte where the accepted commands end meets the cause
+  abbrev pub StoppedAtByte : (ℕ → List ℕ → Type 0) → Type 0
+  StoppedAtByte Cause = Stopped (ByteAt journal (unbounded .accepted) Cause)
+
+  -- the command where the accepted commands end stands there whole, and meets the cause
+  abbrev pub StoppedAtCommand : (Command → Type 0) → Type 0
+  StoppedAtCommand Cause = Stopped (CommandAt journal (unbounded .accepted) Cause)
+
+  byte-returned-exactly : (r : Refusal) → Between 4 10 r → (Cause : ℕ → List ℕ → Type 0)
+      → ((byte : ℕ) (bytes : List ℕ) → (verdict caps reached (readCommand byte bytes) ≡ refused r) ↔ Cause byte bytes)
+      → (entryUnder rule caps journal lent .returned ≡ refusalNumber r) ↔ StoppedAtByte Cause
+  byte-returned-exactly r h Cause f =
+      Iff·trans
+      (four-to-ten-exactly r h)
+      (Iff·and Iff·rfl (Iff·and Iff·rfl (byte-refused-exactly caps (emptyBook rule) journal (unbounded .accepted) r Cause f)))
+
+  command-returned-exactly : (r : Refusal) → Between 6 10 r → (Cause : Command → Type 0)
+      → ((c : Command) → (refusalOf caps reached c ≡ some r) ↔ Cause c)
+      → (entryUnder rule caps journal lent .returned ≡ refusalNumber r) ↔ StoppedAtCommand Cause
+  command-returned-exactly r h Cause f =
+      Iff·trans
+      (four-to-ten-exactly r (record { from = omega arith; to = h .to }))
+      (Iff·and
+      Iff·rfl
+      (Iff·and Iff·rfl (command-refused-exactly caps (emptyBook rule) journal (unbounded .accepted) r Cause (h .from) f)))
+
+  -- 4: the command byte is not 01 to 08
+  pub four-exactly : (entryUnder rule caps journal lent .returned ≡ 4)
+      ↔ StoppedAtByte (λ byte bytes. (leb 1 byte && leb byte 8) ≡ false)
+  unfolding refusalNumber
+  four-exactly = byte-returned-exactly badByte (omega arith) _ (bad-byte-exactly caps reached)
+
+  -- 5: the command byte is 01 to 08, and its operands are cut off by the journal's end
+  pub five-exactly : (entryUnder rule caps journal lent .returned ≡ 5)
+      ↔ StoppedAtByte (λ byte bytes. ((leb 1 byte && leb byte 8) ≡ true) × (length bytes < widthOf (form byte)))
+  unfolding refusalNumber
+  five-exactly = byte-returned-exactly cutOperands (omega arith) _ (cut-operands-exactly caps reached)
+
+  -- 6: the command is read whole, and a cabinet number is not yet given
+  pub six-exactly : (entryUnder rule caps journal lent .returned ≡ 6) ↔ StoppedAtCommand (λ c. cabinetsKnown reached c ≡ false)
+  unfolding refusalNumber
+  six-exactly = command-returned-exactly unknownCabinet (omega arith) _ (unknown-cabinet-exactly caps reached)
+
+  -- 7: the cabinet numbers are given, and a span number is not
+  pub seven-exactly : (entryUnder rule caps journal lent .returned ≡ 7)
+      ↔ StoppedAtCommand (λ c. (cabinetsKnown reached c ≡ true) × (spansKnown reached c ≡ false))
+  unfolding refusalNumber
+  seven-exactly = command-returned-exactly unknownSpan (omega arith) _ (unknown-span-exactly caps reached)
+
+  -- 8: all numbers are given, and the command is 02 or 05 with equal cabinets
+  pub eight-exactly : (entryUnder rule caps journal lent .returned ≡ 8)
+      ↔ StoppedAtCommand
+      (λ c. (cabinetsKnown reached c ≡ true) × ((spansKnown reached c ≡ true) × (hasEqualCabinets c ≡ true)))
+  unfolding refusalNumber
+  eight-exactly = command-returned-exactly equalCabinets (omega arith) _ (equal-cabinets-exactly caps reached)
+
+  -- 9: none of these, and the command is 01 with C cabinets, or 02 with S spans present
+  pub nine-exactly : (entryUnder rule caps journal lent .returned ≡ 9)
+      ↔ StoppedAtCommand
+      (λ c.
+      (cabinetsKnown reached c ≡ true)
+      × ((spansKnown reached c ≡ true) × ((hasEqualCabinets c ≡ false) × (isFull caps reached c ≡ true))))
+  unfolding refusalNumber
+  nine-exactly = command-returned-exactly full (omega arith) _ (full-exactly caps reached)
+
+  -- 10: none of these, and the command is 06 or 07 across districts
+  pub ten-exactly : (entryUnder rule caps journal lent .returned ≡ 10)
+      ↔ StoppedAtCommand
+      (λ c.
+      (cabinetsKnown reached c ≡ true)
+      × ((spansKnown reached c ≡ true)
+      × ((hasEqualCabinets c ≡ false) × ((isFull caps reached c ≡ false) × (isAcross reached c ≡ true)))))
+  unfolding refusalNumber
+  ten-exactly = command-returned-exactly twoDistricts (omega arith) _ (two-districts-exactly caps reached)
+
   -- 0: the run starts, all answers fit, and no command is refused
   pub nought-exactly : (entryUnder rule caps journal lent .returned ≡ 0)
-      ↔ (WellStarted × (AllFit (length (lent .answers)) (unbounded .accepted) (unbounded .refusal) × (unbounded .refusal ≡ none)))
+      ↔ (WellStarted × (RoomForAll (length (lent .answers)) (unbounded .accepted) × (unbounded .refusal ≡ none)))
   nought-exactly =
       Iff·trans
       (λ e. go e (refused-or-ran rule caps journal _ _ _), λ w. returned-by-run (w .0) ∙ zero-exactly (within .refusal) .1 (w .1))

@@ -5,14 +5,14 @@ use mathlib.Core.Option.{Option, some}
 use mathlib.Core.Path.{_≡_, refl, sym, _∙_, ap}
 use Prim.Native.Nat.{ℕ, zero, suc, _+_, _-_, _≤_, _<_, suc-le-suc}
 use native.Mathlib.Omega.{arith}
-use lib.ListN.{length, take, drop, length-append, take-append-drop}
+use lib.ListN.{length, take, drop, length-append, length-drop}
 use lib.Seq.{take-length, length-take-le}
 use Rattle.graph.proofs.Truth.{le-leb}
 use Rattle.naming.specs.Book.{Book}
 use Rattle.journal.specs.Answer.{answerBytes}
 use Rattle.journal.specs.Refusal.{Refusal, noRoom, Capacities}
-use Rattle.journal.specs.Run.{Accepted, Run, stop, andThen, runFrom, fitting, bytesOfAnswers}
-use Rattle.journal.proofs.Cases.{le-or-gt, gt-leb}
+use Rattle.journal.specs.Run.{Accepted, stop, andThen, runFrom, fitting, bytesOfAnswers}
+use Rattle.journal.proofs.Cases.{le-or-gt, gt-leb, impossible}
 
 -- to run with operands to skip is to run from behind them
 pub run-skips-operands : (caps : Capacities) (b : Book) (k : ℕ) (bytes : List ℕ) → runFrom caps b k bytes ≡ runFrom caps b 0 (drop k bytes)
@@ -26,14 +26,6 @@ pub bytes-append : (l m : List Accepted) → bytesOfAnswers (l ++ m) ≡ bytesOf
 unfolding bytesOfAnswers
 bytes-append [] m = refl
 bytes-append (a ∷ later) m = rw (bytes-append later m) (sym (append-assoc (answerBytes (a .answer)) (bytesOfAnswers later) (bytesOfAnswers m)))
-
--- the bytes of the first k answers and of the others, counted
-pub bytes-split : (k : ℕ) (l : List Accepted)
-    → length (bytesOfAnswers l) ≡ length (bytesOfAnswers (take k l)) + length (bytesOfAnswers (drop k l))
-bytes-split k l =
-    ap (λ m. length (bytesOfAnswers m)) (sym (take-append-drop k l))
-    ∙ ap length (bytes-append (take k l) (drop k l))
-    ∙ length-append (bytesOfAnswers (take k l)) (bytesOfAnswers (drop k l))
 
 -- the answers' bytes are the first answer's and the others', counted
 pub bytes-of-more : (a : Accepted) (later : List Accepted)
@@ -53,39 +45,31 @@ pub first-does-not-fit : (room : ℕ) (a : Accepted) (later : List Accepted) (en
 unfolding fitting
 first-does-not-fit room a later end h = rw (gt-leb (length (answerBytes (a .answer))) room h)
 
--- all answers fit, and the run is the run without room
-pub record AllFit (room : ℕ) (l : List Accepted) (end : Option Refusal) : Type 0 where
-  pub fits : length (bytesOfAnswers l) ≤ room
-  pub whole : fitting room l end ≡ record { accepted = l; refusal = end }
+-- there is room for all answers
+abbrev pub RoomForAll : ℕ → List Accepted → Type 0
+RoomForAll room l = length (bytesOfAnswers l) ≤ room
 
--- the run is cut before an accepted command whose answer is longer than the room that is left
-pub record CutAt (room : ℕ) (l : List Accepted) (end : Option Refusal) : Type 0 where
+-- the answers before an accepted command fit, and its own is longer than the room that they leave
+pub record CutAt (room : ℕ) (l : List Accepted) : Type 0 where
   pub count : ℕ
   pub next : Accepted
   pub later : List Accepted
   pub splits : drop count l ≡ next ∷ later
-  pub before-end : count < length l
-  pub cut : fitting room l end ≡ record { accepted = take count l; refusal = some noRoom }
-  pub fits : length (bytesOfAnswers (take count l)) ≤ room
+  pub fits : RoomForAll room (take count l)
   pub no-room : room < length (bytesOfAnswers (take count l)) + length (answerBytes (next .answer))
 
--- the answers fit into the room, or the run is cut
-pub cut-where-no-room : (room : ℕ) (l : List Accepted) (end : Option Refusal) → AllFit room l end ⊎ CutAt room l end
-unfolding fitting bytesOfAnswers stop andThen
-cut-where-no-room room [] end = inl (record { fits = omega arith; whole = refl })
-cut-where-no-room room (a ∷ later) end = go (le-or-gt size room) (cut-where-no-room (room - size) later end)
+-- there is room for all answers, or the run is cut
+pub cut-where-no-room : (room : ℕ) (l : List Accepted) → RoomForAll room l ⊎ CutAt room l
+unfolding bytesOfAnswers
+cut-where-no-room room [] = inl (omega arith)
+cut-where-no-room room (a ∷ later) = go (le-or-gt size room) (cut-where-no-room (room - size) later)
   where
     size : ℕ
     size = length (answerBytes (a .answer))
 
-    go : (size ≤ room) ⊎ (room < size) → AllFit (room - size) later end ⊎ CutAt (room - size) later end
-        → AllFit room (a ∷ later) end ⊎ CutAt room (a ∷ later) end
-    go (inl h) (inl w) =
-        inl
-        (record {
-          fits = rw (bytes-of-more a later) (omega (arith, w .fits));
-          whole = first-fits room a later end h ∙ ap (andThen a) (w .whole);
-        })
+    go : (size ≤ room) ⊎ (room < size) → RoomForAll (room - size) later ⊎ CutAt (room - size) later
+        → RoomForAll room (a ∷ later) ⊎ CutAt room (a ∷ later)
+    go (inl h) (inl w) = inl (rw (bytes-of-more a later) (omega arith))
     go (inl h) (inr c) =
         inr
         (record {
@@ -93,42 +77,57 @@ cut-where-no-room room (a ∷ later) end = go (le-or-gt size room) (cut-where-no
           next = c .next;
           later = c .later;
           splits = c .splits;
-          before-end = omega (arith, c .before-end);
-          cut = first-fits room a later end h ∙ ap (andThen a) (c .cut);
           fits = rw (bytes-of-more a (take (c .count) later)) (omega (arith, c .fits));
           no-room = rw (bytes-of-more a (take (c .count) later)) (omega (arith, c .no-room));
         })
-    go (inr h) w =
-        inr
-        (record {
-          count = 0;
-          next = a;
-          later = later;
-          splits = refl;
-          before-end = omega arith;
-          cut = first-does-not-fit room a later end h;
-          fits = omega arith;
-          no-room = omega arith;
-        })
+    go (inr h) w = inr (record { count = 0; next = a; later = later; splits = refl; fits = omega arith; no-room = omega arith })
 
--- where the answers need no more room than there is, the room changes nothing
-pub enough-room : (room : ℕ) (r : Run) → length (bytesOfAnswers (r .accepted)) ≤ room → fitting room (r .accepted) (r .refusal) ≡ r
-enough-room room r h = go (cut-where-no-room room (r .accepted) (r .refusal))
+-- with room for all answers, the run is the run without regard to room
+pub all-fit-whole : (room : ℕ) (l : List Accepted) (end : Option Refusal) → RoomForAll room l
+    → fitting room l end ≡ record { accepted = l; refusal = end }
+unfolding fitting andThen
+all-fit-whole room [] end h = refl
+all-fit-whole room (a ∷ later) end h =
+    first-fits room a later end (omega (arith, bytes-of-more a later))
+    ∙ ap (andThen a) (all-fit-whole (room - length (answerBytes (a .answer))) later end (omega (arith, bytes-of-more a later)))
+
+-- where an answer does not fit, the run stops before its command, for want of room
+pub cut-at-stop : (room : ℕ) (l : List Accepted) (end : Option Refusal) (c : CutAt room l)
+    → fitting room l end ≡ record { accepted = take (c .count) l; refusal = some noRoom }
+unfolding bytesOfAnswers stop andThen
+cut-at-stop room l end c = stops-before room l (c .count) (c .splits) (c .fits) (c .no-room)
   where
-    no-cut : CutAt room (r .accepted) (r .refusal) → ⊥
-    no-cut c = omega (arith, bytes-split (c .count) (r .accepted), bytes-of-more (c .next) (c .later), ap (λ m. length (bytesOfAnswers m)) (c .splits), c .no-room)
+    stops-before : (room : ℕ) (l : List Accepted) (count : ℕ) {next : Accepted} {later : List Accepted} → drop count l ≡ next ∷ later
+        → RoomForAll room (take count l) → room < length (bytesOfAnswers (take count l)) + length (answerBytes (next .answer))
+        → fitting room l end ≡ record { accepted = take count l; refusal = some noRoom }
+    stops-before room [] zero e h n = impossible (cc)
+    stops-before room [] (suc k) e h n = impossible (cc)
+    stops-before room (a ∷ l) zero {next} e h n =
+        let same : a ≡ next = cc in
+        first-does-not-fit room a l end (omega (arith, ap (λ (b : Accepted). length (answerBytes (b .answer))) same))
+    stops-before room (a ∷ l) (suc k) e h n =
+        first-fits room a l end (omega (arith, bytes-of-more a (take k l)))
+        ∙ ap
+        (andThen a)
+        (stops-before
+        (room - length (answerBytes (a .answer)))
+        l
+        k
+        e
+        (omega (arith, bytes-of-more a (take k l)))
+        (omega (arith, bytes-of-more a (take k l))))
 
-    go : AllFit room (r .accepted) (r .refusal) ⊎ CutAt room (r .accepted) (r .refusal) → fitting room (r .accepted) (r .refusal) ≡ r
-    go (inl w) = w .whole
-    go (inr c) = absurd (no-cut c)
+-- the command that is not answered is one of the accepted ones
+pub cut-before-end : (room : ℕ) (l : List Accepted) (c : CutAt room l) → c .count < length l
+cut-before-end room l c = omega (arith, ap length (c .splits), length-drop (c .count) l)
 
 -- the answers that are given fit into the room
 pub answers-fit : (room : ℕ) (l : List Accepted) (end : Option Refusal) → length (bytesOfAnswers (fitting room l end .accepted)) ≤ room
-answers-fit room l end = go (cut-where-no-room room l end)
+answers-fit room l end = go (cut-where-no-room room l)
   where
-    go : AllFit room l end ⊎ CutAt room l end → length (bytesOfAnswers (fitting room l end .accepted)) ≤ room
-    go (inl w) = rw (w .whole) (w .fits)
-    go (inr c) = rw (c .cut) (c .fits)
+    go : RoomForAll room l ⊎ CutAt room l → length (bytesOfAnswers (fitting room l end .accepted)) ≤ room
+    go (inl w) = rw (all-fit-whole room l end w) w
+    go (inr c) = rw (cut-at-stop room l end c) (c .fits)
 
 -- the one list begins the other
 pub record Prefix {ℓ} {A : Type ℓ} (l m : List A) : Type ℓ where
@@ -146,11 +145,11 @@ cons-prefix {A = A} a p = record { shorter = suc-le-suc (p .shorter); same = ap 
 
 -- the commands that are answered are the first of those accepted without regard to room
 pub fitting-is-prefix : (room : ℕ) (l : List Accepted) (end : Option Refusal) → Prefix (fitting room l end .accepted) l
-fitting-is-prefix room l end = go (cut-where-no-room room l end)
+fitting-is-prefix room l end = go (cut-where-no-room room l)
   where
-    go : AllFit room l end ⊎ CutAt room l end → Prefix (fitting room l end .accepted) l
-    go (inl w) = rw (w .whole) (record { shorter = omega arith; same = sym (take-length l) })
-    go (inr c) = rw (c .cut) (take-is-prefix (c .count) l (omega arith))
+    go : RoomForAll room l ⊎ CutAt room l → Prefix (fitting room l end .accepted) l
+    go (inl w) = rw (all-fit-whole room l end w) (record { shorter = omega arith; same = sym (take-length l) })
+    go (inr c) = rw (cut-at-stop room l end c) (take-is-prefix (c .count) l (omega (arith, cut-before-end room l c)))
 
 -- more room changes no earlier answer
 pub more-room-changes-no-earlier-answer : (room room′ : ℕ) (l : List Accepted) (end : Option Refusal) → room ≤ room′

@@ -15,7 +15,7 @@ use Rattle.journal.specs.Run.{Accepted, runFrom, runWithin, commandsOf}
 use Rattle.journal.specs.Entry.{startLines, wholeUnless, wholeRun, acceptedCommands, bookAfter}
 use Rattle.journal.proofs.Steps.{RunsTo, ends, refuses, accepts, run-takes-steps, was-accepted}
 use Rattle.journal.proofs.Place.{within-is-prefix}
-use Rattle.journal.proofs.Kept.{Fits as WithinCapacities, empty-fits, kept}
+use Rattle.journal.proofs.Kept.{WithinCapacities, empty-fits, kept}
 use Rattle.journal.proofs.Decode.{answersIn}
 use Rattle.journal.proofs.NameList.{answersFrom}
 

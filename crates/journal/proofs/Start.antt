@@ -1,5 +1,5 @@
 -- The refusals at the start of a run: each is given exactly for its cause, where no earlier line of the table applies.
-use mathlib.Core.Bool.{Bool, true, false, _&&_, _||_}
+use mathlib.Core.Bool.{true, false, _&&_}
 use mathlib.Core.List.{List}
 use mathlib.Core.Logic.{_↔_, Iff·trans, _⊎_, inl, inr}
 use mathlib.Core.Option.{Option, none, some}
@@ -12,14 +12,10 @@ use Rattle.graph.proofs.Truth.{not-of-true, true-of-not-false, and-left, and-ri
 use Rattle.naming.specs.Book.{emptyBook}
 use Rattle.journal.specs.Refusal.{Refusal, badCapacity, shortBuffer, longJournal, refusalNumber, Line, Capacities, firstThatApplies}
 use Rattle.journal.specs.Run.{Run, runWithin}
-use Rattle.journal.specs.Entry.{workNeeded, startLines, refusedAtStart, ran, wholeUnless, wholeRun}
+use Rattle.journal.specs.Entry.{goodCapacities, shortBuffers, startLines, refusedAtStart, ran, wholeUnless, wholeRun}
 use Rattle.journal.proofs.Cases.{impossible}
 use Rattle.journal.proofs.Table.{given-exactly, Between, given-between, NoneOf, none-exactly}
 use Rattle.journal.proofs.Causes.{not-is-true, not-is-false}
-
--- the capacities are in their ranges
-unfoldable pub goodCapacities : Capacities → Bool
-goodCapacities caps = leb 1 (caps .cabinets) && leb (caps .cabinets) 4096 && leb 1 (caps .spans) && leb (caps .spans) 8192
 
 -- C is 1 to 4,096, and S is 1 to 8,192
 pub record InRange (caps : Capacities) : Type 0 where
@@ -53,10 +49,6 @@ good-exactly caps = (to, from)
         and-both
         (and-both (and-both (le-leb _ _ (r .some-cabinets)) (le-leb _ _ (r .few-cabinets))) (le-leb _ _ (r .some-spans)))
         (le-leb _ _ (r .few-spans))
-
--- the working table or the report is too short
-unfoldable pub shortBuffers : Capacities → ℕ → ℕ → Bool
-shortBuffers caps workLength reportLength = ltb workLength (workNeeded caps) || ltb reportLength 6
 
 -- none of the three causes at the start
 pub record StartsWell (caps : Capacities) (journalLength workLength reportLength : ℕ) : Type 0 where
@@ -93,27 +85,27 @@ module _ (rule : Rule) (caps : Capacities) (journal : List ℕ) (workLength answ
   -- bad capacity: C or S is out of its range
   pub bad-capacity-exactly : (wholeRun rule caps journal workLength answersLength reportLength ≡ refusedAtStart badCapacity)
       ↔ (goodCapacities caps ≡ false)
-  unfolding startLines refusalNumber goodCapacities
+  unfolding startLines refusalNumber
   bad-capacity-exactly = Iff·trans (start-decides badCapacity) (simp not-is-true at (given-exactly 0 badCapacity startTable refl))
 
   -- short buffer: the capacities are good, and the working table or the report is too short
   pub short-buffer-exactly : (wholeRun rule caps journal workLength answersLength reportLength ≡ refusedAtStart shortBuffer)
       ↔ ((goodCapacities caps ≡ true) × (shortBuffers caps workLength reportLength ≡ true))
-  unfolding startLines refusalNumber goodCapacities shortBuffers
+  unfolding startLines refusalNumber
   short-buffer-exactly = Iff·trans (start-decides shortBuffer) (simp not-is-false at (given-exactly 1 shortBuffer startTable refl))
 
   -- long journal: neither, and the journal is longer than 65,536 bytes
   pub long-journal-exactly : (wholeRun rule caps journal workLength answersLength reportLength ≡ refusedAtStart longJournal)
       ↔ ((goodCapacities caps ≡ true) × ((shortBuffers caps workLength reportLength ≡ false) × (ltb 65536 (length journal) ≡ true)))
-  unfolding startLines refusalNumber goodCapacities shortBuffers
+  unfolding startLines refusalNumber
   long-journal-exactly = Iff·trans (start-decides longJournal) (simp not-is-false at (given-exactly 2 longJournal startTable refl))
 
   starts-well : NoneOf startTable → StartsWell caps (length journal) workLength reportLength
-  unfolding startLines goodCapacities shortBuffers
+  unfolding startLines
   starts-well f = record { good-capacities = true-of-not-false _ (f .0); long-buffers = f .1 .0; short-journal = f .1 .1 .0 }
 
   no-line : StartsWell caps (length journal) workLength reportLength → NoneOf startTable
-  unfolding startLines goodCapacities shortBuffers
+  unfolding startLines
   no-line w = (not-of-true (w .good-capacities), (w .long-buffers, (w .short-journal, tt)))
 
   -- the run goes ahead exactly if none of the three applies

@@ -13,7 +13,8 @@ use Rattle.journal.specs.Command.{Command}
 use Rattle.journal.specs.Refusal.{unknownCabinet, unknownSpan, equalCabinets, full, twoDistricts, refusalNumber, hasEqualCabinets, isFull, isAcross}
 use Rattle.journal.specs.Steps.{capacitiesOf, oneUnknown, bookIn, StepPromise}
 use Rattle.journal.proofs.Cases.{leb-gt}
-use Rattle.journal.proofs.Causes.{cabinetsKnown, spansKnown, unknown-cabinet-exactly, unknown-span-exactly, equal-cabinets-exactly, full-exactly, two-districts-exactly}
+use Rattle.journal.specs.Refusal.{cabinetsKnown, spansKnown}
+use Rattle.journal.proofs.Causes.{unknown-cabinet-exactly, unknown-span-exactly, equal-cabinets-exactly, full-exactly, two-districts-exactly}
 use Rattle.journal.proofs.StepLaws.{cabinets-held, refused-step}
 
 module _ (shape : Shape) (t : List ℕ) where

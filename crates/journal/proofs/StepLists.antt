@@ -31,7 +31,7 @@ use Rattle.journal.specs.Answer.{answerBytes}
 use Rattle.journal.specs.Step.{answer}
 use Rattle.journal.specs.Writes.{Wrote, itemAt}
 use Rattle.journal.specs.Steps.{capacitiesOf, oneUnknown, pairRefusal, bookIn, Holds, StepPromise, answeredOf}
-use Rattle.journal.proofs.Causes.{cabinetsKnown, spansKnown}
+use Rattle.journal.specs.Refusal.{cabinetsKnown, spansKnown}
 use Rattle.naming.proofs.Listed.{length-tabulate}
 use Rattle.journal.proofs.StepLaws.{answered-step, holds-written-down}
 use Rattle.journal.proofs.StepCauses.{both-known, cabinets-known, cabinets-unknown, unknown-cabinet-step, two-districts-step}

@@ -12,7 +12,8 @@ use Rattle.journal.specs.Command.{Command, addCabinet, addSpan, district
 use Rattle.journal.specs.Refusal.{cabinetsOf, spansOf, hasEqualCabinets, isFull, isAcross, refusalOf}
 use Rattle.journal.specs.Steps.{capacitiesOf, oneUnknown, bookIn, StepPromise}
 use Rattle.journal.proofs.Cases.{gt-leb}
-use Rattle.journal.proofs.Causes.{cabinetsKnown, spansKnown, not-refused-exactly}
+use Rattle.journal.specs.Refusal.{cabinetsKnown, spansKnown}
+use Rattle.journal.proofs.Causes.{not-refused-exactly}
 use Rattle.journal.proofs.StepLaws.{cabinets-held, spans-held}
 use Rattle.journal.proofs.StepCauses.{cabinet-known, cabinet-unknown, cabinets-known, cabinets-unknown, unknown-cabinet-step, unknown-span-step, equal-cabinets-step, full-step}
 

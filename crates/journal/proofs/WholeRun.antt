@@ -17,7 +17,7 @@ use Rattle.journal.proofs.SizedBook.{sized-empty}
 use Rattle.journal.proofs.NameList.{answersFrom, hear-all, no-names}
 use Rattle.journal.proofs.RunBooks.{NoneRefused, first-not-refused, Sound, empty-sound, whole-run-not-refused}
 use Rattle.journal.proofs.NoticeBound.{few-in-all, each-doubles-at}
-use Rattle.journal.proofs.ReadBack.{length-answers, accepted, returned, read-back}
+use Rattle.journal.proofs.ReadBack.{length-answers, accepted, answerBuffer, read-back}
 
 -- the whole-run claim holds of every run: refused at the start, refused later, or accepted
 pub whole-run : (rule : Rule) → MateRule rule → (caps : Capacities) (journal : List ℕ) (lent : Buffers)
@@ -50,7 +50,7 @@ whole-run rule r caps journal lent =
     not-refused : NoneRefused caps start commands
     not-refused = whole-run-not-refused rule caps journal (length (lent .work)) (length (lent .answers)) (length (lent .report))
 
-    read : (k : ℕ) → k ≤ length commands → decodeFirst k (returned rule caps journal lent) ≡ answersFrom start (take k commands)
+    read : (k : ℕ) → k ≤ length commands → decodeFirst k (answerBuffer rule caps journal lent) ≡ answersFrom start (take k commands)
     read = read-back rule caps journal lent r
 
 -- so it holds of every run of the register

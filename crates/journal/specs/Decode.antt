@@ -47,6 +47,10 @@ noticesThen (suc n) k = noticeThen (λ t. noticesThen n (λ ts. k (t ∷ ts)))
 unfoldable pub flagThen : (List ℕ → Decoded) → (List ℕ → Decoded) → List ℕ → Decoded
 flagThen one none′ = byteThen (λ byte. getD (none′ ∷ one ∷ []) byte (λ bytes. malformed))
 
+-- Two bytes that are 0.
+unfoldable pub noughtThen : (List ℕ → Decoded) → List ℕ → Decoded
+noughtThen k = fieldThen (λ n. getD (k ∷ []) n (λ bytes. malformed))
+
 -- The answers by their byte, from 80 on: 81 to 88. Every other byte is malformed.
 unfoldable pub decodeBody : ℕ → List ℕ → Decoded
 decodeBody byte =
@@ -56,7 +60,7 @@ decodeBody byte =
     ∷ fieldThen (λ s. fieldThen (λ name. fieldThen (λ n. noticesThen n (λ ts. decoded (spanAdded s name ts)))))
     ∷ fieldThen (λ name. decoded (districtNamed name))
     ∷ fieldThen (λ name. decoded (ringNamed name))
-    ∷ flagThen (fieldThen (λ name. decoded (meshShared name))) (fieldThen (λ zeros. decoded noMeshShared))
+    ∷ flagThen (fieldThen (λ name. decoded (meshShared name))) (noughtThen (decoded noMeshShared))
     ∷ fieldThen (λ n. fieldsThen n (λ ss. decoded (soleSpansAre ss)))
     ∷ fieldThen (λ n. fieldsThen n (λ cs. decoded (cutCabinetsAre cs)))
     ∷ flagThen (decoded (soleIs true)) (decoded (soleIs false))

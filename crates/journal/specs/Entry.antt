@@ -1,5 +1,5 @@
 -- The entry that a planner calls: what it is handed, what it returns, and what it leaves in each buffer.
-use mathlib.Core.Bool.{not, _&&_, _||_}
+use mathlib.Core.Bool.{Bool, not, _&&_, _||_}
 use mathlib.Core.List.{List, [], _∷_, _++_, map}
 use mathlib.Core.Option.{Option, none, some}
 use Prim.Native.Nat.{ℕ, _+_, _*_}
@@ -15,14 +15,19 @@ use Rattle.journal.specs.Run.{Run, runWithin, commandsOf, bytesOfAnswers
 unfoldable pub workNeeded : Capacities → ℕ
 workNeeded caps = 24 * caps .cabinets + 8 * caps .spans + 64
 
+-- C is 1 to 4,096, and S is 1 to 8,192.
+unfoldable pub goodCapacities : Capacities → Bool
+goodCapacities caps = leb 1 (caps .cabinets) && leb (caps .cabinets) 4096 && leb 1 (caps .spans) && leb (caps .spans) 8192
+
+-- The working table or the report is too short.
+unfoldable pub shortBuffers : Capacities → ℕ → ℕ → Bool
+shortBuffers caps workLength reportLength = ltb workLength (workNeeded caps) || ltb reportLength 6
+
 -- The lines of the table that are tested before the journal is read, in their order.
 unfoldable pub startLines : Capacities → ℕ → ℕ → ℕ → List Line
 startLines caps journalLength workLength reportLength =
-    record {
-      applies = not (leb 1 (caps .cabinets) && leb (caps .cabinets) 4096 && leb 1 (caps .spans) && leb (caps .spans) 8192);
-      refusal = badCapacity;
-    }
-    ∷ record { applies = ltb workLength (workNeeded caps) || ltb reportLength 6; refusal = shortBuffer }
+    record { applies = not (goodCapacities caps); refusal = badCapacity }
+    ∷ record { applies = shortBuffers caps workLength reportLength; refusal = shortBuffer }
     ∷ record { applies = ltb 65536 journalLength; refusal = longJournal }
     ∷ []
 

@@ -263,8 +263,8 @@ twoRingsJoined =
     }
 
 -- One cabinet, 06 0 0: empty list.
-unfoldable pub noWay : History
-noWay =
+unfoldable pub fromItselfToItself : History
+fromItselfToItself =
     record {
       input = journal (addCabinet ∷ soleSpans 0 0 ∷ []);
       output = output (cabinetAdded 0 ∷ soleSpansAre [] ∷ []) accepted;
@@ -313,7 +313,7 @@ histories =
     ∷ chain
     ∷ twoMeshes
     ∷ twoRingsJoined
-    ∷ noWay
+    ∷ fromItselfToItself
     ∷ spanToItself
     ∷ spanToNowhere
     ∷ acrossDistricts

@@ -16,4 +16,6 @@ pub mod Steps
 pub mod Runs
 pub mod Promise
 pub mod Histories
+pub mod Computed
 pub mod HistoriesShown
+pub mod EntryShown

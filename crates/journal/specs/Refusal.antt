@@ -73,6 +73,14 @@ spansOf (soleSpans a b) = []
 spansOf (cutCabinets a b) = []
 spansOf (isSole s) = s ∷ []
 
+-- The cabinets that a command names are all known.
+unfoldable pub cabinetsKnown : Book → Command → Bool
+cabinetsKnown b c = allIn (λ a. ltb a (b .network .vertices)) (cabinetsOf c)
+
+-- The spans that a command names are all known.
+unfoldable pub spansKnown : Book → Command → Bool
+spansKnown b c = allIn (λ s. ltb s (edgeCount (b .network))) (spansOf c)
+
 -- The command is 02 or 05, with equal cabinets.
 unfoldable pub hasEqualCabinets : Command → Bool
 hasEqualCabinets addCabinet = false
@@ -109,8 +117,8 @@ isAcross b (isSole s) = false
 -- The lines of the table that a command read whole can meet, in their order; room for the answer comes after them.
 unfoldable pub lines : Capacities → Book → Command → List Line
 lines caps b c =
-    record { applies = not (allIn (λ a. ltb a (b .network .vertices)) (cabinetsOf c)); refusal = unknownCabinet }
-    ∷ record { applies = not (allIn (λ s. ltb s (edgeCount (b .network))) (spansOf c)); refusal = unknownSpan }
+    record { applies = not (cabinetsKnown b c); refusal = unknownCabinet }
+    ∷ record { applies = not (spansKnown b c); refusal = unknownSpan }
     ∷ record { applies = hasEqualCabinets c; refusal = equalCabinets }
     ∷ record { applies = isFull caps b c; refusal = full }
     ∷ record { applies = isAcross b c; refusal = twoDistricts }

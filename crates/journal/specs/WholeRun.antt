@@ -1,14 +1,13 @@
 -- The whole-run claim (demand 3): one statement about the whole list of accepted commands and the answer buffer on return.
 use mathlib.Core.Bool.{Bool, true, false, cond}
-use mathlib.Core.List.{List, [], _∷_, _++_}
+use mathlib.Core.List.{List, [], _∷_}
 use mathlib.Core.Path.{_≡_}
-use Prim.Native.Nat.{ℕ, zero, suc, _+_, _*_, _≤_, _<_}
-use lib.ListN.{length, take, drop, getD}
+use Prim.Native.Nat.{ℕ, suc, _+_, _*_, _≤_, _<_}
+use lib.ListN.{length, take, getD}
 use Rattle.graph.specs.Network.{Network, Rule, edgeCount}
 use Rattle.graph.specs.Groups.{component, bridgeBlock}
 use Rattle.graph.specs.Block.{block}
 use Rattle.naming.specs.Rename.{Grouping, size}
-use Rattle.naming.specs.Book.{Book}
 use Rattle.naming.specs.Log.{wholeLog2}
 use Rattle.journal.specs.Command.{Command}
 use Rattle.journal.specs.Answer.{Kind, district, ring, mesh, Notice, Answer, cabinetAdded, spanAdded, districtNamed, ringNamed, meshShared, noMeshShared, soleSpansAre, cutCabinetsAre, soleIs}

@@ -26,7 +26,7 @@ unfolding candidate
 rename-doubles n before after names named e e′ finer x h changed =
     omega (arith, no-larger, sizes-add n before after e e′ finer x (b .item) apart (b .member .1))
   where
-    b : BestOf (candidate before after names) (InGroup n after x) (nameOf (rename before after names) x)
+    b : BestOf (candidate before names) (InGroup n after x) (nameOf (rename before after names) x)
     b = renamed-best n before after names named e x h (e′ .reflexive x)
 
     -- the group that gave the name was no smaller

@@ -73,7 +73,7 @@ Merges n before after rs =
 module _ (n : ℕ) (before after : Grouping) (names : List ℕ) (named : Naming n before names) (e : Equivalent before)
     (r : ℕ) (rs : List ℕ) (small : (z : ℕ) → List·Memᴰ z (r ∷ rs) → z < n) (merges : Merges n before after (r ∷ rs)) where
   abbrev of : ℕ → Candidate
-  of = candidate before after names
+  of = candidate before names
 
   abbrev merged : ℕ → Bool
   merged = inMerged before (r ∷ rs)
@@ -99,7 +99,7 @@ module _ (n : ℕ) (before after : Grouping) (names : List ℕ) (named : Naming 
   -- each item of the merged groups gets the best of their names
   pub merge-best : (x : ℕ) → x < n → inMerged before (r ∷ rs) x ≡ true
       → nameOf (rename before after names) x
-      ≡ bestOf (candidate before after names) (candidate before after names r) rs .name
+      ≡ bestOf (candidate before names) (candidate before names r) rs .name
   merge-best x h m =
       best-determined
       b

@@ -61,13 +61,13 @@ name-of-name n groups names named x h =
 module _ (n : ℕ) (before after : Grouping) (names : List ℕ) (named : Naming n before names) (e : Equivalent before) where
   -- items of one group before bring the same
   pub candidate-same : (x y : ℕ) → x < n → y < n → before x y ≡ true
-      → candidate before after names x ≡ candidate before after names y
+      → candidate before names x ≡ candidate before names y
   unfolding candidate
   candidate-same x y h k s = λ i. record { size = size-same (length names) before e x y s i; name = named .one-name x y h k s i }
 
   -- the new name of an item is the best of the groups before that make up its group after
   pub renamed-best : (x : ℕ) → x < n → after x x ≡ true
-      → BestOf (candidate before after names) (InGroup n after x) (nameOf (rename before after names) x)
+      → BestOf (candidate before names) (InGroup n after x) (nameOf (rename before after names) x)
   unfolding candidate
   renamed-best x h r = go (true-or-false (holdsSeveral before after names x))
     where
@@ -77,16 +77,16 @@ module _ (n : ℕ) (before after : Grouping) (names : List ℕ) (named : Naming 
       alone : holdsSeveral before after names x ≡ false
           → (z : ℕ)
           → InGroup n after x z
-          → candidate before after names z ≡ candidate before after names x
+          → candidate before names z ≡ candidate before names x
       alone f z b = sym (candidate-same x z h (b .0) (holds-one before after names x z f (below z (b .0)) (b .1)))
 
       go : (holdsSeveral before after names x ≡ true) ⊎ (holdsSeveral before after names x ≡ false)
-          → BestOf (candidate before after names) (InGroup n after x) (nameOf (rename before after names) x)
+          → BestOf (candidate before names) (InGroup n after x) (nameOf (rename before after names) x)
       go (inl f) =
           rw
           (nameOf-rename before after names x (below x h), f)
           (subst
-          (λ (m : ℕ). BestOf (candidate before after names) (InGroup m after x) (bestName before after names x))
+          (λ (m : ℕ). BestOf (candidate before names) (InGroup m after x) (bestName before after names x))
           (named .sized)
           (best-name-is before after names x (below x h) r))
       go (inr f) =
@@ -96,7 +96,7 @@ module _ (n : ℕ) (before after : Grouping) (names : List ℕ) (named : Naming 
             item = x;
             member = (h, r);
             named = refl;
-            beats = λ z b. rw (alone f z b) (at-most-refl (candidate before after names x));
+            beats = λ z b. rw (alone f z b) (at-most-refl (candidate before names x));
           }
 
   module _ (e′ : Equivalent after) (finer : Finer before after) where
@@ -115,15 +115,15 @@ module _ (n : ℕ) (before after : Grouping) (names : List ℕ) (named : Naming 
         name : ℕ → ℕ
         name x = nameOf (rename before after names) x
 
-        best : (x : ℕ) → x < n → BestOf (candidate before after names) (InGroup n after x) (name x)
+        best : (x : ℕ) → x < n → BestOf (candidate before names) (InGroup n after x) (name x)
         best x h = renamed-best x h (e′ .reflexive x)
 
         shift : (x y : ℕ) → after x y ≡ true → (z : ℕ) → InGroup n after x z → InGroup n after y z
         shift x y s z b = (b .0, e′ .transitive y x z (e′ .symmetric x y s) (b .1))
 
         met : (x y : ℕ)
-            → BestOf (candidate before after names) (InGroup n after x) (name x)
-            → BestOf (candidate before after names) (InGroup n after y) (name y)
+            → BestOf (candidate before names) (InGroup n after x) (name x)
+            → BestOf (candidate before names) (InGroup n after y) (name y)
             → name x ≡ name y
             → after x y ≡ true
         met x y b c q =
@@ -132,7 +132,7 @@ module _ (n : ℕ) (before after : Grouping) (names : List ℕ) (named : Naming 
             let t = e′ .transitive x (b .item) (c .item) (b .member .1) (finer (b .item) (c .item) s) in
             e′ .transitive x (c .item) y t (e′ .symmetric y (c .item) (c .member .1))
 
-        within : (x : ℕ) → BestOf (candidate before after names) (InGroup n after x) (name x) → after x (name x) ≡ true
+        within : (x : ℕ) → BestOf (candidate before names) (InGroup n after x) (name x) → after x (name x) ≡ true
         within x b =
             let s = finer (b .item) (nameOf names (b .item)) (named .name-within (b .item) (b .member .0)) in
             rw (← b .named) (e′ .transitive x (b .item) (nameOf names (b .item)) (b .member .1) s)

@@ -36,10 +36,10 @@ InGroup n groups x y = (y < n) × (groups x y ≡ true)
 
 -- the best name is the best of the groups before of the items that share x's group after
 pub best-name-is : (before after : Grouping) (names : List ℕ) (x : ℕ) → x < length names → after x x ≡ true
-    → BestOf (candidate before after names) (InGroup (length names) after x) (bestName before after names x)
+    → BestOf (candidate before names) (InGroup (length names) after x) (bestName before after names x)
 unfolding bestName
 best-name-is before after names x h e =
-    best-same within listing (best-name (best-of-list (candidate before after names) x (listed (length names) (after x))))
+    best-same within listing (best-name (best-of-list (candidate before names) x (listed (length names) (after x))))
   where
     first : (z : ℕ) → (z ≡ x) ⊎ List·Memᴰ z (listed (length names) (after x)) → InGroup (length names) after x z
     first z (inl d) = (rw d h, rw d e)
@@ -66,7 +66,7 @@ holds-one before after names x y f h e =
 module _ (before before′ after after′ : Grouping) (names : List ℕ)
     (f : AgreeBelow (length names) before before′)
     (g : AgreeBelow (length names) after after′) where
-  candidate-agree : (x : ℕ) → x < length names → candidate before after names x ≡ candidate before′ after′ names x
+  candidate-agree : (x : ℕ) → x < length names → candidate before names x ≡ candidate before′ names x
   unfolding candidate
   candidate-agree x h =
       ap
@@ -81,15 +81,15 @@ module _ (before before′ after after′ : Grouping) (names : List ℕ)
   unfolding bestName
   best-agree x h = ap (λ (c : Candidate). c .name) same
     where
-      same : bestOf (candidate before after names) (candidate before after names x) (listed (length names) (after x))
-          ≡ bestOf (candidate before′ after′ names) (candidate before′ after′ names x) (listed (length names) (after′ x))
+      same : bestOf (candidate before names) (candidate before names x) (listed (length names) (after x))
+          ≡ bestOf (candidate before′ names) (candidate before′ names x) (listed (length names) (after′ x))
       same =
           rw
           (listed-same (length names) (after x) (after′ x) (λ y l. g x y h l), candidate-agree x h)
           (best-of-agree
-          (candidate before after names)
-          (candidate before′ after′ names)
-          (candidate before′ after′ names x)
+          (candidate before names)
+          (candidate before′ names)
+          (candidate before′ names x)
           (listed (length names) (after′ x))
           (λ z m. candidate-agree z (listed-passes (length names) (after′ x) z m .0)))
 

@@ -12,16 +12,16 @@ use Rattle.naming.proofs.Best.{AtMost, at-most-refl, Outdone, best-of-l
 use Rattle.naming.proofs.Naming.{nameOf-old, nameOf-new}
 
 -- a group of one item does not win against any whose name is no greater
-pub single-loses : (n : ℕ) (before after : Grouping) (names : List ℕ)
+pub single-loses : (n : ℕ) (before : Grouping) (names : List ℕ)
     → length names ≡ n
     → Equivalent before
     → (s z : ℕ)
     → z < n
     → size n before s ≡ 1
     → nameOf names z ≤ nameOf names s
-    → AtMost (candidate before after names s) (candidate before after names z)
+    → AtMost (candidate before names s) (candidate before names z)
 unfolding candidate
-single-loses n before after names sized e s z h one least =
+single-loses n before names sized e s z h one least =
     rw sized record { no-larger = omega (arith, size-positive n before e z h); no-less = λ q. least }
 
 -- an item that does not win against any of a list may be left out of one that holds it and them
@@ -52,10 +52,10 @@ first-never-wins of s r rs loses =
     never-wins of s r s rs (r ∷ rs) loses (λ z m. List·Memᴰ·cases-cons m) (λ z m. List·Memᴰ·tail m)
 
 -- What a new item n brings that is alone in its group, and what the older items bring beside it.
-module _ (n : ℕ) (before after : Grouping) (names : List ℕ) (sized : length names ≡ n) (e : Equivalent before)
+module _ (n : ℕ) (before : Grouping) (names : List ℕ) (sized : length names ≡ n) (e : Equivalent before)
     (alone : (x : ℕ) → x < n → before n x ≡ false) where
   -- the older items' groups bring the same as without it
-  pub candidate-old : (z : ℕ) → z < n → candidate before after (names ++ n ∷ []) z ≡ candidate before after names z
+  pub candidate-old : (z : ℕ) → z < n → candidate before (names ++ n ∷ []) z ≡ candidate before names z
   unfolding candidate
   candidate-old z h = λ i. record { size = sizes i; name = nameOf-old names n z (rw sized h) i }
     where
@@ -67,15 +67,15 @@ module _ (n : ℕ) (before after : Grouping) (names : List ℕ) (sized : length 
 
   -- so they have the same best
   pub best-of-old : (r : ℕ) (rs : List ℕ) → ((z : ℕ) → List·Memᴰ z (r ∷ rs) → z < n)
-      → bestOf (candidate before after (names ++ n ∷ [])) (candidate before after (names ++ n ∷ []) r) rs
-      ≡ bestOf (candidate before after names) (candidate before after names r) rs
+      → bestOf (candidate before (names ++ n ∷ [])) (candidate before (names ++ n ∷ []) r) rs
+      ≡ bestOf (candidate before names) (candidate before names r) rs
   best-of-old r rs small =
       rw
       (candidate-old r (small r (List·Memᴰ·head refl)))
       (best-of-agree
-      (candidate before after (names ++ n ∷ []))
-      (candidate before after names)
-      (candidate before after names r)
+      (candidate before (names ++ n ∷ []))
+      (candidate before names)
+      (candidate before names r)
       rs
       (λ z m. candidate-old z (small z (List·Memᴰ·tail m))))
 
@@ -83,21 +83,20 @@ module _ (n : ℕ) (before after : Grouping) (names : List ℕ) (sized : length 
   pub new-item-never-wins : ((z : ℕ) → z < n → nameOf names z < n)
       → (r : ℕ) (rs : List ℕ)
       → ((z : ℕ) → List·Memᴰ z (r ∷ rs) → z < n)
-      → bestOf (candidate before after (names ++ n ∷ [])) (candidate before after (names ++ n ∷ []) n) (r ∷ rs)
-      ≡ bestOf (candidate before after names) (candidate before after names r) rs
+      → bestOf (candidate before (names ++ n ∷ [])) (candidate before (names ++ n ∷ []) n) (r ∷ rs)
+      ≡ bestOf (candidate before names) (candidate before names r) rs
   new-item-never-wins below r rs small =
-      first-never-wins (candidate before after (names ++ n ∷ [])) n r rs (λ z m. loses z (small z m)) ∙ best-of-old r rs small
+      first-never-wins (candidate before (names ++ n ∷ [])) n r rs (λ z m. loses z (small z m)) ∙ best-of-old r rs small
     where
       longer : length (names ++ n ∷ []) ≡ suc n
       longer = rw length-append (omega arith)
 
       loses : (z : ℕ) → z < n
-          → AtMost (candidate before after (names ++ n ∷ []) n) (candidate before after (names ++ n ∷ []) z)
+          → AtMost (candidate before (names ++ n ∷ []) n) (candidate before (names ++ n ∷ []) z)
       loses z h =
           single-loses
           (suc n)
           before
-          after
           (names ++ n ∷ [])
           longer
           e

@@ -32,18 +32,18 @@ unfoldable pub bestOf : (ℕ → Candidate) → Candidate → List ℕ → Candi
 bestOf candidate c [] = c
 bestOf candidate c (x ∷ xs) = better (candidate x) (bestOf candidate c xs)
 
-module _ (before after : Grouping) (names : List ℕ) where
-  -- What the group that held item x before brings.
-  unfoldable pub candidate : ℕ → Candidate
-  candidate x = record { size = size (length names) before x; name = nameOf names x }
+-- What item x's group brings: its size among the named items, and its name.
+unfoldable pub candidate : Grouping → List ℕ → ℕ → Candidate
+candidate groups names x = record { size = size (length names) groups x; name = nameOf names x }
 
+module _ (before after : Grouping) (names : List ℕ) where
   -- The group that holds x after holds several of those before: it has an item that was not in x's group.
   unfoldable pub holdsSeveral : ℕ → Bool
   holdsSeveral x = anyBelow (length names) (λ y. after x y && not (before x y))
 
   -- The name of the largest of the groups before that make up x's group after; among equals, the least name.
   unfoldable pub bestName : ℕ → ℕ
-  bestName x = bestOf candidate (candidate x) (listed (length names) (after x)) .name
+  bestName x = bestOf (candidate before names) (candidate before names x) (listed (length names) (after x)) .name
 
   -- Wherever one group after holds several before, each of its items gets the best of their names. All other names stay.
   unfoldable pub rename : List ℕ
