@@ -39,3 +39,6 @@ pub mod StepAnswers
 pub mod StepLists
 pub mod StepSpan
 pub mod StepLaws
+pub mod ReaderLocals
+pub mod ReaderPromise
+pub mod ReaderWalk

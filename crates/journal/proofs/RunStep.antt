@@ -68,10 +68,11 @@ module _ (p p′ : Progress) (journal : List ℕ) where
 
     module _ (c : Command) (width : ℕ) (reads : readCommand byteHere bytesBehind ≡ command c width) where
       -- a command that was read whole stands in the journal
-      pub ready : Ready p width t answers
+      pub ready : Ready p width journal t answers
       ready =
           record {
-            short = omega (arith, under .short, under .at-command, simp length-drop at (operands-fit byteHere bytesBehind c width reads));
+            whole = omega (arith, under .at-command, simp length-drop at (operands-fit byteHere bytesBehind c width reads));
+            short = under .short;
             counted = under .counted;
             written-fits = under .written-fits;
             holds = under .holds;

@@ -30,8 +30,9 @@ pub record Underway (p : Progress) (journal work answers : List ℕ) : Type 0 wh
   pub holds : Holds (p .shape) work
 
 -- A run that has read a command whole, with so many bytes of operands.
-pub record Ready (p : Progress) (width : ℕ) (work answers : List ℕ) : Type 0 where
-  pub short : p .place + 1 + width ≤ 65536
+pub record Ready (p : Progress) (width : ℕ) (journal work answers : List ℕ) : Type 0 where
+  pub whole : p .place + 1 + width ≤ length journal
+  pub short : length journal ≤ 65536
   pub counted : p .commands ≤ p .place
   pub written-fits : p .written ≤ length answers
   pub holds : Holds (p .shape) work

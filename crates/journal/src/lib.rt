@@ -8,6 +8,7 @@ ghost use Rattle.journal.specs.Promise.{sixNumbers, Reportable, Register
 
 pub mod notice;
 pub mod read;
+pub mod reader;
 pub mod run;
 pub mod step;
 pub mod write;

@@ -12,7 +12,8 @@ ghost use Rattle.journal.specs.Steps.{capacitiesOf};
 ghost use Rattle.journal.specs.Runs.{refusedProgress, Underway, Ready, OrderPromise, RunOn, RunPromise};
 use crate::read::Order;
 use crate::read::Taken;
-use crate::read::take_at;
+use crate::reader::place_after;
+use crate::reader::taken_at;
 use crate::step::Stepped;
 use crate::step::step;
 use forest::Shape;
@@ -44,22 +45,24 @@ fn refuse(p: Progress, number: u32) -> Progress
 
 // One command read whole, with so many bytes of operands.
 fn run_order(
+    journal: &[u8],
     work: &mut [u32],
     answers: &mut [u8],
     p: Progress,
     order: Order,
     width: usize,
 ) -> Progress
-    requires { ⌜ Ready p width (now work) (now answers) ⌝ }
+    requires { ⌜ Ready p width (now journal) (now work) (now answers) ⌝ }
     ensures { λ r. ⌜ OrderPromise p r (now (work .entry)) (now (work .exit)) (now (answers .entry)) (now (answers .exit)) (meaning order) width ⌝ }
 {
     let shape = p.shape;
     let written = p.written;
+    let place = place_after(journal, p.place, width);
     let stepped = step(work, &mut answers[written..], shape, order);
     match stepped {
         Stepped::Done(next, size) => Progress {
             shape: next,
-            place: p.place + 1 + width,
+            place: place,
             commands: p.commands + 1,
             written: written + size,
             refusal: 0,
@@ -74,11 +77,11 @@ fn run_one(journal: &[u8], work: &mut [u32], answers: &mut [u8], p: Progress) ->
     ensures { λ r. ⌜ RunOn p r (now (journal .entry)) (now (work .entry)) (now (work .exit)) (now (answers .entry)) (now (answers .exit)) ⌝ }
 {
     let place = p.place;
-    let taken = take_at(journal, place);
+    let taken = taken_at(journal, place);
     match taken {
         Taken::Unknown => refuse(p, 4),
         Taken::CutOff => refuse(p, 5),
-        Taken::Command(order, width) => run_order(work, answers, p, order, width),
+        Taken::Command(order, width) => run_order(journal, work, answers, p, order, width),
     }
 }
 

@@ -6,8 +6,8 @@ use Rattle.journal.proofs.RunStep.{unknown-ends, cut-off-ends, ready, o
 use Rattle.journal.proofs.run.run_one.Statement.{statement}
 use Rattle.journal.proofs.run.run_one.Tie as tie
 
-take-at-requires : tie.Need-take-at-requires
-take-at-requires c κs = search needs
+taken-at-requires : tie.Need-taken-at-requires
+taken-at-requires c κs = search needs
 
 enum-told : tie.Need-enum-told
 enum-told c = search needs
@@ -40,7 +40,7 @@ run-order-requires c κs =
     (s .pre)
     (meaning (g .0 .0))
     (g .0 .1 .0)
-    (sym (at-take-at .take-at .ensures) ∙ ap readingOf (g .1))
+    (sym (at-take-at .taken-at .ensures) ∙ ap readingOf (g .1))
 
 returns : tie.Need-returns
 unfolding readingOf
@@ -54,7 +54,7 @@ returns c =
     (s .args .work .now)
     (s .args .answers .now)
     (s .pre)
-    (sym (at-take-at .take-at .ensures) ∙ ap readingOf (c .before .enum-told .given .1))
+    (sym (at-take-at .taken-at .ensures) ∙ ap readingOf (c .before .enum-told .given .1))
     (c .refuse .ensures)
 
 returns-2 : tie.Need-returns-2
@@ -69,7 +69,7 @@ returns-2 c =
     (s .args .work .now)
     (s .args .answers .now)
     (s .pre)
-    (sym (at-take-at .take-at .ensures) ∙ ap readingOf (c .before .enum-told2 .given .1))
+    (sym (at-take-at .taken-at .ensures) ∙ ap readingOf (c .before .enum-told2 .given .1))
     (c .refuse2 .ensures)
 
 same-length : tie.Need-same-length
@@ -95,16 +95,16 @@ returns-3 c =
     (s .pre)
     (meaning (g .0 .0))
     (g .0 .1 .0)
-    (sym (at-take-at .take-at .ensures) ∙ ap readingOf (g .1))
-    (at-run-order .run-order .last .0)
+    (sym (at-take-at .taken-at .ensures) ∙ ap readingOf (g .1))
     (at-run-order .run-order .last .1 .0)
+    (at-run-order .run-order .last .1 .1 .0)
     (at-run-order .run-order .ensures)
 
 pub run-one-spec : {M : Type 1} → statement M
 run-one-spec =
     tie.close
     (tie.spec
-    take-at-requires
+    taken-at-requires
     enum-told
     refuse-requires
     enum-told-2

@@ -6,6 +6,9 @@ use Rattle.journal.proofs.RunStep.{size-fits, order-done, order-refused
 use Rattle.journal.proofs.run.run_order.Statement.{statement}
 use Rattle.journal.proofs.run.run_order.Tie as tie
 
+place-after-requires : tie.Need-place-after-requires
+place-after-requires c κs = search needs
+
 sub-step : tie.Need-sub-step
 sub-step c = search needs
 
@@ -21,21 +24,16 @@ step-requires c κs = search needs
 enum-known-stepped : tie.Need-enum-known-stepped
 enum-known-stepped c = search needs
 
-add-t19 : tie.Need-add-t19
-add-t19 c = search needs
-
-add-t20 : tie.Need-add-t20
-add-t20 c = search needs
-
 add-t21 : tie.Need-add-t21
 add-t21 c = search needs
 
 add-t22 : tie.Need-add-t22
 add-t22 c =
-    let at-stepped = c .before .before .before in
+    let at-stepped = c .before .before in
     let g = at-stepped .stepped .given in
     let at-step = at-stepped .before .before .before .before .before .before in
-    let s = at-step .before .before .before .before .before .before in
+    let at-place-after = at-step .before .before .before in
+    let s = at-place-after .before .before .before .before .before in
     let fits =
     size-fits
     (s .args .p)
@@ -66,11 +64,13 @@ same-length-2 c = search needs
 
 returns : tie.Need-returns
 returns c =
-    let at-stepped = c .before .before .before in
+    let at-stepped = c .before .before in
     let g = at-stepped .stepped .given in
     let at-step = at-stepped .before .before .before .before .before .before in
-    let s = at-step .before .before .before .before .before .before in
-    order-done
+    let at-place-after = at-step .before .before .before in
+    let s = at-place-after .before .before .before .before .before in
+    rw (at-place-after .place-after .ensures)
+    (order-done
     (s .args .p)
     (meaning (s .args .order))
     (s .args .width)
@@ -82,7 +82,7 @@ returns c =
     (at-step .step .ensures)
     (g .0 .0)
     (g .0 .1 .0)
-    (g .1)
+    (g .1))
 
 same-length-3 : tie.Need-same-length-3
 same-length-3 c = search needs
@@ -95,7 +95,8 @@ returns-2 c =
     let at-stepped2 = c .before .before in
     let g = at-stepped2 .stepped2 .given in
     let at-step = at-stepped2 .before .before .before .before .before .before in
-    let s = at-step .before .before .before .before .before .before in
+    let at-place-after = at-step .before .before .before in
+    let s = at-place-after .before .before .before .before .before in
     order-refused
     (s .args .p)
     (meaning (s .args .order))
@@ -115,13 +116,12 @@ pub run-order-spec : {M : Type 1} → statement M
 run-order-spec =
     tie.close
     (tie.spec
+    place-after-requires
     sub-step
     part-step-start
     part-step-end
     step-requires
     enum-known-stepped
-    add-t19
-    add-t20
     add-t21
     add-t22
     enum-known-stepped-2
