@@ -22,6 +22,9 @@ extern "C" {
 /* The least length of the working table, in numbers of 32 bits, for capacities c and s. */
 #define REGISTER_WORK(c, s) (24u * (size_t)(c) + 8u * (size_t)(s) + 64u)
 
+/* The bytes of stack that a call takes are fewer than this, whatever the capacities. */
+#define REGISTER_STACK 4096u
+
 /* The least length of the report, and the place of each of its numbers. */
 #define REGISTER_REPORT 6u
 enum {
@@ -69,7 +72,7 @@ enum {
  * good for its length; work and report must be aligned for uint32_t. The four buffers must not
  * overlap. A null pointer is allowed where the length is 0.
  *
- * Stack needed, at the greatest capacities: less than 524,288 bytes.
+ * REGISTER_STACK bytes of stack must be there.
  *
  * Returns 0 if the whole journal was accepted, else the number of the refusal, 1 to 11.
  */

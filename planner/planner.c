@@ -1,24 +1,19 @@
 /*
  * A small shift planner. It writes a journal, has it run by the register in one call with its own
  * buffers, and reads the answers. It keeps a name for each cabinet and span from the notices alone,
- * and holds each name that it asked for (03, 04 and 05) against its own. It prints both, and exits
- * with 1 if any two differ.
+ * and holds each name that it asked for (03, 04 and 05) against its own, and each new number against
+ * the next one. It prints the names, and exits with 1 if any two differ.
  */
 #include "register.h"
 
 #include <stdio.h>
 
-enum {
-    CABINETS = 64,
-    SPANS = 128,
-    JOURNAL_BYTES = 65536,
-    ANSWER_BYTES = 1 << 20
-};
+enum { CABINETS = 64, SPANS = 128, ANSWER_BYTES = 1 << 20, NO_NAME = 0xFFFF };
 
 /* The planner's own buffers. */
-static uint8_t journal[JOURNAL_BYTES];
+static uint8_t journal[REGISTER_LONGEST_JOURNAL];
 static size_t journal_length;
-static uint32_t work[24 * CABINETS + 8 * SPANS + 64];
+static uint32_t work[REGISTER_WORK(CABINETS, SPANS)];
 static uint8_t answers[ANSWER_BYTES];
 static uint32_t report[REGISTER_REPORT];
 
@@ -109,16 +104,27 @@ static size_t asked_at, answered_at;
 
 /* What was asked for and what the list had, for the last answer about each item. */
 static unsigned asked_district[CABINETS], asked_ring[CABINETS], asked_mesh[SPANS];
-static unsigned notices_read, names_compared, differences;
+static unsigned notices_read, compared, differences;
 
 static unsigned two_bytes(const uint8_t *at)
 {
     return (unsigned)at[0] << 8 | at[1];
 }
 
+/* What was answered about an item against what the planner has for it. */
+static void hold(const char *kind, size_t item, unsigned answered, unsigned known)
+{
+    compared++;
+    if (answered == known)
+        return;
+    differences++;
+    printf("%s %zu: answered %u, known %u\n", kind, item, answered, known);
+}
+
 static void read_cabinet(void)
 {
     unsigned number = two_bytes(answers + answered_at + 1);
+    hold("cabinet", cabinets_known, number, (unsigned)cabinets_known);
     district[number] = number;
     ring[number] = number;
     cabinets_known = number + 1;
@@ -142,6 +148,7 @@ static void read_span(void)
 {
     const uint8_t *answer = answers + answered_at;
     unsigned number = two_bytes(answer + 1), count = two_bytes(answer + 5);
+    hold("span", spans_known, number, (unsigned)spans_known);
     mesh[number] = two_bytes(answer + 3);
     spans_known = number + 1;
     for (unsigned i = 0; i < count; i++)
@@ -150,29 +157,12 @@ static void read_span(void)
     answered_at += 7 + 5 * (size_t)count;
 }
 
-static void hold(const char *kind, size_t item, unsigned asked, unsigned learnt)
-{
-    names_compared++;
-    if (asked == learnt)
-        return;
-    differences++;
-    printf("%s of %zu: asked %u, learnt %u\n", kind, item, asked, learnt);
-}
-
-static void read_district(void)
+/* The answer to 03 or 04: a cabinet's name of one kind. */
+static void read_name(const char *kind, const unsigned learnt[], unsigned asked[])
 {
     unsigned item = two_bytes(journal + asked_at + 1);
-    asked_district[item] = two_bytes(answers + answered_at + 1);
-    hold("district", item, asked_district[item], district[item]);
-    asked_at += 3;
-    answered_at += 3;
-}
-
-static void read_ring(void)
-{
-    unsigned item = two_bytes(journal + asked_at + 1);
-    asked_ring[item] = two_bytes(answers + answered_at + 1);
-    hold("ring", item, asked_ring[item], ring[item]);
+    asked[item] = two_bytes(answers + answered_at + 1);
+    hold(kind, item, asked[item], learnt[item]);
     asked_at += 3;
     answered_at += 3;
 }
@@ -180,8 +170,9 @@ static void read_ring(void)
 /* Both ends of a span share its mesh. */
 static void read_mesh(void)
 {
+    const uint8_t *answer = answers + answered_at;
     unsigned a = two_bytes(journal + asked_at + 1), b = two_bytes(journal + asked_at + 3);
-    unsigned name = two_bytes(answers + answered_at + 2);
+    unsigned name = answer[1] == 1 ? two_bytes(answer + 2) : NO_NAME;
     for (size_t span = 0; span < spans_known; span++) {
         if (ends[span][0] == a && ends[span][1] == b) {
             asked_mesh[span] = name;
@@ -192,14 +183,16 @@ static void read_mesh(void)
     answered_at += 4;
 }
 
-/* Reads one answer; 0 if its first byte is none that the planner asked for. */
+/* Reads one answer; 0 if its first byte is not the one that answers the command. */
 static int read_answer(void)
 {
+    if (answers[answered_at] != journal[asked_at] + 0x80)
+        return 0;
     switch (answers[answered_at]) {
     case 0x81: read_cabinet(); return 1;
     case 0x82: read_span(); return 1;
-    case 0x83: read_district(); return 1;
-    case 0x84: read_ring(); return 1;
+    case 0x83: read_name("district", district, asked_district); return 1;
+    case 0x84: read_name("ring", ring, asked_ring); return 1;
     case 0x85: read_mesh(); return 1;
     default: return 0;
     }
@@ -235,7 +228,8 @@ int main(void)
         }
     }
     print_names();
-    printf("%u commands, %u notices read, %u names compared, %u differ\n",
-           (unsigned)report[REGISTER_REPORT_COMMANDS], notices_read, names_compared, differences);
-    return differences != 0 || asked_at != journal_length;
+    printf("%u commands, %u notices read, %u names and numbers compared, %u differ\n",
+           (unsigned)report[REGISTER_REPORT_COMMANDS], notices_read, compared, differences);
+    return differences != 0 || asked_at != journal_length
+        || answered_at != report[REGISTER_REPORT_ANSWERS];
 }

@@ -4,8 +4,9 @@
  *     stack BYTES [CABINETS]
  *
  * Runs the journals that make the register climb longest, in a thread with a stack of BYTES bytes
- * and a page below it that must not be touched. Prints the bytes that the calls took and exits with
- * 0. With too small a stack it ends by a signal; run it with falling sizes to find the least.
+ * and a page below it that must not be touched. Prints the bytes that the calls took, and exits with
+ * 0 if they are fewer than the header tells. With too small a stack it ends by a signal; run it with
+ * falling sizes to find the least, which no thread's stack may go below.
  *
  * The stack is filled with a pattern first; what a call took is counted from the lowest byte that
  * lost the pattern up to the frame that made the call.
@@ -24,7 +25,7 @@ enum { PATTERN = 0xA5, ANSWER_BYTES = 1 << 20 };
 
 static uint8_t journal[REGISTER_LONGEST_JOURNAL];
 static size_t journal_length;
-static uint32_t work[24 * 4096 + 8 * 8192 + 64];
+static uint32_t work[REGISTER_WORK(REGISTER_MOST_CABINETS, REGISTER_MOST_SPANS)];
 static uint8_t answers[ANSWER_BYTES];
 static uint32_t report[REGISTER_REPORT];
 
@@ -169,7 +170,7 @@ int main(int count, char **words)
         fprintf(stderr, "no thread with a stack of %zu bytes\n", bytes);
         return 2;
     }
-    printf("stack of %zu bytes, %u cabinets: %s; the calls took %zu bytes\n", bytes, cabinets,
-           failed ? "refused" : "passed", stack_taken);
-    return failed;
+    printf("stack of %zu bytes, %u cabinets: %s; the calls took %zu bytes of the %u told\n", bytes,
+           cabinets, failed ? "refused" : "run", stack_taken, REGISTER_STACK);
+    return failed || stack_taken >= REGISTER_STACK;
 }

@@ -14,7 +14,8 @@ pub struct Case {
     pub report: usize,
     /// The number that must be returned, where it is known beforehand.
     pub returned: Option<u32>,
-    /// The answers and the report that must be left, where they are known beforehand.
+    /// The bytes that the answer buffer must begin with and the report, where they are known
+    /// beforehand.
     pub left: Option<(Vec<u8>, [u32; REPORT_NUMBERS])>,
 }
 

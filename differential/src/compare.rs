@@ -1,25 +1,26 @@
 //! One case run by an engine and by the second implementation, and every byte compared.
 
 use crate::cases::{hex, Case};
-use crate::engine::Engine;
-use crate::names::Planner;
+use crate::engine::{Call, Engine};
+use crate::names::{Planner, Read};
 use crate::random::Random;
-use crate::second::Second;
+use crate::second::{Accepted, Second};
 
-/// Words before and after each buffer that no engine may touch.
-const GUARD: usize = 4;
+/// Entries before and after each buffer that no engine may touch.
+const GUARD: usize = 64;
 
 /// What was compared so far.
 #[derive(Clone, Copy, Default)]
 pub struct Tally {
     pub journals: usize,
-    pub accepted: usize,
+    /// How often each number from 0 to 11 was returned.
+    pub returned: [usize; 12],
     pub commands: usize,
     pub notices: usize,
 }
 
-/// The buffers of one call, each between guards, all with random contents.
-#[derive(Clone, PartialEq, Eq)]
+/// The buffers of one call, each between guards, with random contents.
+#[derive(Clone)]
 struct Lent {
     journal: Vec<u8>,
     work: Vec<u32>,
@@ -33,9 +34,21 @@ impl Lent {
         inner(&mut journal).copy_from_slice(&case.journal);
         Lent {
             journal,
-            work: words(case.work, random),
+            work: table(case.work, random),
             answers: bytes(case.answers, random),
             report: words(case.report, random),
+        }
+    }
+
+    /// The call with these buffers, without their guards.
+    fn call(&mut self, case: &Case) -> Call<'_> {
+        Call {
+            c: case.c,
+            s: case.s,
+            journal: inner(&mut self.journal),
+            work: inner(&mut self.work),
+            answers: inner(&mut self.answers),
+            report: inner(&mut self.report),
         }
     }
 }
@@ -46,6 +59,20 @@ fn bytes(length: usize, random: &mut Random) -> Vec<u8> {
 
 fn words(length: usize, random: &mut Random) -> Vec<u32> {
     (0..length + 2 * GUARD).map(|_| random.number() as u32).collect()
+}
+
+/// A working table may hold anything before the call: random numbers, small ones that could be
+/// taken for names and sizes, zeros or ones.
+fn table(length: usize, random: &mut Random) -> Vec<u32> {
+    let mut table = words(length, random);
+    let held = inner(&mut table);
+    match random.below(8) {
+        0 => held.fill(0),
+        1 => held.fill(u32::MAX),
+        2..=3 => held.iter_mut().for_each(|number| *number %= 32),
+        _ => {}
+    }
+    table
 }
 
 /// A buffer without its guards.
@@ -64,34 +91,35 @@ pub fn compare(
 ) -> Result<(), String> {
     let lent = Lent::new(case, &mut Random::new(seed));
     let mut got = lent.clone();
-    let number = engine.run(
-        case.c,
-        case.s,
-        inner(&mut got.journal),
-        inner(&mut got.work),
-        inner(&mut got.answers),
-        inner(&mut got.report),
-    );
-    let mut planner = Planner::new(&got.answers[GUARD..]);
+    let number = engine.run(got.call(case));
+    let mut planner = Planner::new(inner(&mut got.answers));
     let mut wanted = lent;
-    let wanted_number = second.run_watched(
-        case.c,
-        case.s,
-        inner(&mut wanted.journal),
-        inner(&mut wanted.work),
-        inner(&mut wanted.answers),
-        inner(&mut wanted.report),
-        &mut |accepted| planner.watch(&accepted),
-    );
+    let watch = &mut |accepted: Accepted| planner.watch(&accepted);
+    let wanted_number = second.run_watched(wanted.call(case), watch);
     let planned = planner.result();
     known_beforehand(case, wanted_number, &wanted)?;
     same_number(number, wanted_number)?;
     same_buffers(&got, &wanted)?;
-    let (commands, notices) = planned.map_err(|fault| format!("demand 3: {fault}"))?;
+    let read = planned.map_err(|fault| format!("demand 3: {fault}"))?;
+    all_read(&read, number, &got)?;
     tally.journals += 1;
-    tally.accepted += usize::from(number == 0);
-    tally.commands += commands;
-    tally.notices += notices;
+    tally.returned[number as usize] += 1;
+    tally.commands += read.commands;
+    tally.notices += read.notices;
+    Ok(())
+}
+
+/// The planner has read as many commands and bytes as the report counts; none, if the start
+/// refused the run and there is no report.
+fn all_read(read: &Read, number: u32, got: &Lent) -> Result<(), String> {
+    let report = &got.report[GUARD..];
+    let counted = if (1..=3).contains(&number) { [0, 0] } else { [report[2], report[3]] };
+    if [read.commands, read.bytes] != counted.map(|count| count as usize) {
+        return Err(format!(
+            "the planner reads {} answers of {} bytes, reported are {counted:?}",
+            read.commands, read.bytes
+        ));
+    }
     Ok(())
 }
 
@@ -101,7 +129,7 @@ fn known_beforehand(case: &Case, number: u32, wanted: &Lent) -> Result<(), Strin
         return Err(format!("second returns {number}, {:?} was known beforehand", case.returned));
     }
     if let Some((answers, report)) = &case.left {
-        let left = &wanted.answers[GUARD..][..case.answers];
+        let left = &wanted.answers[GUARD..][..answers.len()];
         if left != answers {
             return Err(format!("second answers {}, known is {}", hex(left), hex(answers)));
         }

@@ -4,7 +4,7 @@
 mod forest;
 mod naming;
 
-use crate::engine::{start_refusal, work_needed, Engine, REPORT_NUMBERS};
+use crate::engine::{Call, Engine, REPORT_NUMBERS};
 use forest::Forest;
 
 pub struct Incremental;
@@ -32,6 +32,16 @@ impl Out<'_> {
     fn field(&mut self, value: u32) {
         self.byte((value >> 8) as u8);
         self.byte(value as u8);
+    }
+
+    /// A first byte, the count of the items, and the items.
+    fn list(&mut self, first: u8, items: impl Iterator<Item = u32> + Clone) -> Result<(), u32> {
+        let count = items.clone().count();
+        self.need(3 + 2 * count)?;
+        self.byte(first);
+        self.field(count as u32);
+        items.for_each(|item| self.field(item));
+        Ok(())
     }
 }
 
@@ -166,27 +176,13 @@ impl Run<'_> {
     fn sole_spans(&mut self) -> Result<(), u32> {
         let (a, b) = self.two_of_one_district()?;
         self.forest.climb(a, b);
-        let count = self.forest.sole_spans().count();
-        self.out.need(3 + 2 * count)?;
-        self.out.byte(0x86);
-        self.out.field(count as u32);
-        for span in self.forest.sole_spans() {
-            self.out.field(span);
-        }
-        Ok(())
+        self.out.list(0x86, self.forest.sole_spans())
     }
 
     fn cut_cabinets(&mut self) -> Result<(), u32> {
         let (a, b) = self.two_of_one_district()?;
         self.forest.climb(a, b);
-        let cut = self.forest.cut_cabinets();
-        self.out.need(3 + 2 * cut.len())?;
-        self.out.byte(0x87);
-        self.out.field(cut.len() as u32);
-        for &cabinet in cut {
-            self.out.field(cabinet);
-        }
-        Ok(())
+        self.out.list(0x87, self.forest.cut_cabinets().iter().copied())
     }
 
     fn is_sole(&mut self) -> Result<(), u32> {
@@ -226,29 +222,19 @@ impl Engine for Incremental {
         "incremental"
     }
 
-    fn run(
-        &self,
-        c: u32,
-        s: u32,
-        journal: &[u8],
-        work: &mut [u32],
-        answers: &mut [u8],
-        report: &mut [u32],
-    ) -> u32 {
-        let number = start_refusal(c, s, journal.len(), work.len(), report.len());
+    fn run(&self, call: Call) -> u32 {
+        let number = call.start_refusal();
         if number != 0 {
             return number;
         }
         let mut run = Run {
-            capacities: (c, s),
-            journal,
+            capacities: (call.c, call.s),
+            journal: call.journal,
             place: 0,
-            out: Out { bytes: answers, written: 0 },
-            forest: Forest::with_room(c as usize, s as usize),
+            out: Out { bytes: call.answers, written: 0 },
+            forest: Forest::with_room(call.c as usize, call.s as usize),
         };
-        let numbers = run.all();
-        work[..work_needed(c, s)].fill(0);
-        report[..REPORT_NUMBERS].copy_from_slice(&numbers);
-        numbers[0]
+        let report = run.all();
+        call.ends(report)
     }
 }

@@ -1,8 +1,8 @@
 //! Journals by seed: layouts entered with questions between, damaged journals, and bare bytes.
 
 use crate::cases::Case;
-use crate::engine::{MOST_CABINETS, MOST_SPANS};
-use crate::layouts::{random_spans, Layout, MEDIUM, STYLES};
+use crate::engine::{work_needed, MOST_CABINETS, MOST_SPANS, REPORT_NUMBERS};
+use crate::layouts::{self, random_spans, Layout, MEDIUM, STYLES};
 use crate::random::Random;
 use crate::second::Second;
 
@@ -41,6 +41,14 @@ impl Writer {
         let (one, other) = (self.stands_for(a), self.stands_for(b));
         self.toward[one] = other;
         self.spans += 1;
+    }
+
+    /// A span, and before it the cabinets that it needs and that are not there yet.
+    fn span_with_cabinets(&mut self, a: usize, b: usize) {
+        while self.cabinets <= a.max(b) {
+            self.cabinet();
+        }
+        self.span(a, b);
     }
 
     fn stands_for(&mut self, cabinet: usize) -> usize {
@@ -85,6 +93,18 @@ impl Writer {
         }
     }
 
+    /// A command or question whose operands may be unknown, equal, or in two districts.
+    fn any(&mut self, random: &mut Random) {
+        let mut operands = [(); 2].map(|_| random.below(self.cabinets + 2));
+        if random.chance(20) {
+            operands[1] = operands[0];
+        }
+        match random.between(2, 8) as u8 {
+            byte @ (3 | 4 | 8) => self.command(byte, &operands[..1]),
+            byte => self.command(byte, &operands),
+        }
+    }
+
     /// Every question that is accepted.
     pub fn sweep(&mut self) {
         for a in 0..self.cabinets {
@@ -117,10 +137,7 @@ pub fn styled(random: &mut Random) -> (&'static str, Writer) {
         (0..layout.cabinets).for_each(|_| writer.cabinet());
     }
     for &(a, b) in &layout.spans {
-        while writer.cabinets <= a.max(b) {
-            writer.cabinet();
-        }
-        writer.span(a, b);
+        writer.span_with_cabinets(a, b);
         let count = questions / 100 + usize::from(random.chance(questions % 100));
         (0..count).for_each(|_| writer.question(random));
     }
@@ -160,11 +177,15 @@ fn bare_bytes(random: &mut Random) -> Vec<u8> {
     bytes
 }
 
-/// A journal that is nearly all accepted, a damaged one, or bare bytes, with capacities around
-/// what it takes and buffers of the least length or somewhat more.
+/// A journal that is all accepted but for its last command perhaps, a damaged one, or bare bytes,
+/// with capacities around what it takes and buffers of the least length or somewhat more; now and
+/// then with a capacity outside its range or a buffer that is too short.
 pub fn random_case(seed: u64) -> Case {
     let mut random = Random::new(seed);
-    let (style, writer) = styled(&mut random);
+    let (style, mut writer) = styled(&mut random);
+    if random.chance(20) {
+        writer.any(&mut random);
+    }
     let mut journal = writer.bytes;
     let mut label = style.to_string();
     match random.below(10) {
@@ -188,6 +209,13 @@ pub fn random_case(seed: u64) -> Case {
     let mut case = Case::with_room(&format!("{label}, seed {seed}"), c, s, journal, room);
     case.work += random.below(5);
     case.report += random.below(4);
+    match random.below(100) {
+        0 => case.c = *random.pick(&[0, MOST_CABINETS + 1, u32::MAX]),
+        1 => case.s = *random.pick(&[0, MOST_SPANS + 1, u32::MAX]),
+        2 => case.work = random.below(work_needed(c, s)),
+        3 => case.report = random.below(REPORT_NUMBERS),
+        _ => {}
+    }
     case
 }
 
@@ -213,17 +241,16 @@ pub fn every_list(cabinets: usize, spans: usize, each: &mut dyn FnMut(Case)) {
             }
         }
     }
-    for code in 0..pairs.len().pow(spans as u32) {
-        let mut layout = Layout::of(cabinets);
-        for i in 0..spans as u32 {
-            layout.spans.push(pairs[code / pairs.len().pow(i) % pairs.len()]);
-        }
+    let mut number = 0;
+    layouts::every_list(&pairs, spans, &mut |spans| {
+        let count = spans.len();
         let mut writer = Writer::new();
-        writer.enter(&layout);
+        writer.enter(&Layout { cabinets, spans });
         writer.sweep();
-        let label = format!("every list of {spans} spans, number {code}");
-        each(Case::new(&label, cabinets as u32, spans.max(1) as u32, writer.bytes).returns(0));
-    }
+        let label = format!("every list of {count} spans, number {number}");
+        each(Case::new(&label, cabinets as u32, count.max(1) as u32, writer.bytes).returns(0));
+        number += 1;
+    });
 }
 
 /// A small journal with every length of the answer buffer, from 0 to one more than it takes.
@@ -234,10 +261,7 @@ pub fn every_room(seed: u64, each: &mut dyn FnMut(Case)) {
     let layout = random_spans(&mut random, cabinets, count);
     let mut writer = Writer::new();
     for &(a, b) in &layout.spans {
-        while writer.cabinets <= a.max(b) {
-            writer.cabinet();
-        }
-        writer.span(a, b);
+        writer.span_with_cabinets(a, b);
         (0..random.below(3)).for_each(|_| writer.question(&mut random));
     }
     if random.chance(20) {

@@ -19,6 +19,26 @@ impl Layout {
         }
     }
 
+    /// A chain of so many cabinets from `first` on.
+    fn chain(&mut self, first: usize, size: usize) {
+        for cabinet in first + 1..first + size {
+            self.add(cabinet - 1, cabinet);
+        }
+    }
+
+    /// Enters the spans in another order in `percent` of a hundred cases, adds spans between any
+    /// two cabinets, from `least` to `most` of them, and gives the cabinets other numbers.
+    fn mixed(mut self, random: &mut Random, percent: usize, least: usize, most: usize) -> Layout {
+        if random.chance(percent) {
+            random.shuffle(&mut self.spans);
+        }
+        for _ in 0..random.between(least, most) {
+            self.add(random.below(self.cabinets), random.below(self.cabinets));
+        }
+        self.renumber(random);
+        self
+    }
+
     /// Gives the cabinets other numbers, and turns some spans round.
     fn renumber(&mut self, random: &mut Random) {
         let mut numbers: Vec<usize> = (0..self.cabinets).collect();
@@ -90,14 +110,7 @@ fn tree_like(random: &mut Random) -> Layout {
     for cabinet in 1..cabinets {
         layout.add(cabinet, cabinet - 1 - random.below(reach.min(cabinet)));
     }
-    if random.chance(60) {
-        random.shuffle(&mut layout.spans);
-    }
-    for _ in 0..random.below(6) {
-        layout.add(random.below(cabinets), random.below(cabinets));
-    }
-    layout.renumber(random);
-    layout
+    layout.mixed(random, 60, 0, 5)
 }
 
 fn doubled(random: &mut Random) -> Layout {
@@ -122,21 +135,12 @@ fn equal_sizes(random: &mut Random) -> Layout {
     let mut layout = Layout::of(cabinets);
     let closed = random.chance(60);
     for group in 0..groups {
-        for i in 1..size {
-            layout.add(group * size + i - 1, group * size + i);
-        }
+        layout.chain(group * size, size);
         if closed && size > 1 {
             layout.add(group * size + size - 1, group * size);
         }
     }
-    if random.chance(50) {
-        random.shuffle(&mut layout.spans);
-    }
-    for _ in 0..random.between(1, 2 * groups) {
-        layout.add(random.below(cabinets), random.below(cabinets));
-    }
-    layout.renumber(random);
-    layout
+    layout.mixed(random, 50, 1, 2 * groups)
 }
 
 fn pairwise(random: &mut Random) -> Layout {
@@ -180,14 +184,7 @@ fn cactus(random: &mut Random) -> Layout {
             layout.add(last, start);
         }
     }
-    if random.chance(50) {
-        random.shuffle(&mut layout.spans);
-    }
-    for _ in 0..random.below(4) {
-        layout.add(random.below(layout.cabinets), random.below(layout.cabinets));
-    }
-    layout.renumber(random);
-    layout
+    layout.mixed(random, 50, 0, 3)
 }
 
 fn chain_and_loops(random: &mut Random) -> Layout {
@@ -213,9 +210,7 @@ pub fn chain_then_loops(random: &mut Random, cabinets: usize, loops: usize) -> L
 
 pub fn chain(cabinets: usize) -> Layout {
     let mut layout = Layout::of(cabinets);
-    for cabinet in 1..cabinets {
-        layout.add(cabinet - 1, cabinet);
-    }
+    layout.chain(0, cabinets);
     layout
 }
 
@@ -241,9 +236,7 @@ fn loop_of_loops(random: &mut Random) -> Layout {
         let size = if equal { same } else { random.between(1, 5) };
         let first = layout.cabinets;
         layout.cabinets += size;
-        for i in 1..size {
-            layout.add(first + i - 1, first + i);
-        }
+        layout.chain(first, size);
         layout.add(first + size - 1, first);
         doors.push((first + random.below(size), first + random.below(size)));
     }
@@ -265,12 +258,16 @@ fn equal_loops(random: &mut Random) -> Layout {
             layout.add(first + j, first + (j + 1) % size);
         }
     }
-    if random.chance(50) {
-        random.shuffle(&mut layout.spans);
+    layout.mixed(random, 50, 1, 4)
+}
+
+/// Every list of `count` of these spans.
+pub fn every_list(
+    spans: &[(usize, usize)],
+    count: usize,
+    each: &mut dyn FnMut(Vec<(usize, usize)>),
+) {
+    for code in 0..spans.len().pow(count as u32) {
+        each((0..count as u32).map(|i| spans[code / spans.len().pow(i) % spans.len()]).collect());
     }
-    for _ in 0..random.between(1, 4) {
-        layout.add(random.below(layout.cabinets), random.below(layout.cabinets));
-    }
-    layout.renumber(random);
-    layout
 }

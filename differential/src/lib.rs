@@ -4,12 +4,14 @@
 //! - `literal`: the definitions word for word, for small networks; `second` is tested against it.
 //! - `incremental`: the method of the proved register, written by hand over ordinary arrays.
 //! - `register`: the proved register itself, behind the feature of that name.
+//! - `faults`: engines that are wrong on purpose.
 
 #![deny(unsafe_code)]
 
 pub mod cases;
 pub mod compare;
 pub mod engine;
+pub mod faults;
 pub mod histories;
 pub mod incremental;
 pub mod journals;

@@ -3,16 +3,14 @@
 //!     differential [--engine NAME] [--seed N]   all parts, once
 //!     differential --soak SECONDS               random journals for so long
 //!     differential --program PATH               the program at PATH
-//!     differential --seeded-bug                 a fault put in on purpose must be found
+//!     differential --seeded-bug                 faults put in on purpose must be found
 
 use differential::cases::Case;
 use differential::compare::{compare, Tally};
 use differential::engine::Engine;
 use differential::incremental::Incremental;
-use differential::kinds::KINDS;
-use differential::second::book::Ties;
 use differential::second::Second;
-use differential::{histories, journals, program, refusals};
+use differential::{faults, histories, journals, program, refusals};
 use std::process::ExitCode;
 use std::time::{Duration, Instant};
 
@@ -53,7 +51,7 @@ fn number(text: &str) -> Result<u64, String> {
 fn engine(name: Option<&str>) -> Result<Box<dyn Engine>, String> {
     match name {
         #[cfg(feature = "register")]
-        None | Some("register") => Ok(Box::new(differential::register::Register)),
+        None | Some("register") => Ok(Box::new(differential::register::Register::default())),
         #[cfg(not(feature = "register"))]
         None => Ok(Box::new(Incremental)),
         Some("incremental") => Ok(Box::new(Incremental)),
@@ -86,8 +84,13 @@ impl Test {
         });
     }
 
+    /// A case that does not come from a seed: each has other contents in its buffers.
+    fn given(&mut self, case: &Case, seed: u64) {
+        self.case(case, seed + self.tally.journals as u64);
+    }
+
     fn cases(&mut self, cases: &[Case], seed: u64) {
-        cases.iter().for_each(|case| self.case(case, seed));
+        cases.iter().for_each(|case| self.given(case, seed));
     }
 
     /// Random journals with the seeds from `first` on.
@@ -105,22 +108,34 @@ impl Test {
         self.cases(&histories::marked(), seed);
         self.cases(&histories::unmarked(), seed);
         self.cases(&refusals::all(), seed);
+        self.cases(&refusals::empty_buffers(), seed);
         for (cabinets, spans) in [(2, 0), (2, 3), (3, 3), (3, 4), (4, 3), (4, 4)] {
-            journals::every_list(cabinets, spans, &mut |case| self.case(&case, seed));
+            journals::every_list(cabinets, spans, &mut |case| self.given(&case, seed));
         }
         for small in seed..seed + SMALL_JOURNALS {
-            journals::every_room(small, &mut |case| self.case(&case, small));
+            journals::every_room(small, &mut |case| self.given(&case, small));
         }
         self.random(seed, RANDOM_JOURNALS);
         self.cases(&histories::largest(), seed);
+        self.every_number();
     }
 
     fn soak(&mut self, seed: u64, time: Duration) {
         let start = Instant::now();
         let mut next = seed;
-        while start.elapsed() < time && self.fault.is_none() {
+        loop {
             self.random(next, 100);
             next += 100;
+            if start.elapsed() >= time || self.fault.is_some() {
+                return;
+            }
+        }
+    }
+
+    /// Every number that the table knows must have been returned by some case.
+    fn every_number(&mut self) {
+        if let Some(missing) = self.tally.returned.iter().position(|&count| count == 0) {
+            self.fault.get_or_insert(format!("no case returned {missing}"));
         }
     }
 
@@ -128,40 +143,57 @@ impl Test {
         if let Some(fault) = &self.fault {
             return Err(fault.clone());
         }
-        let Tally { journals, accepted, commands, notices } = self.tally;
+        let Tally { journals, returned, commands, notices } = self.tally;
         Ok(format!(
-            "{} equals second, every byte: {journals} journals ({accepted} accepted to the end), \
-             {commands} commands, {notices} notices",
-            self.engine.name()
+            "{} equals second, every byte: {journals} journals ({} accepted to the end, refused by \
+             1 to 11: {:?}), {commands} commands, {notices} notices",
+            self.engine.name(),
+            returned[0],
+            &returned[1..]
         ))
     }
 }
 
-/// The empty buffers, where the register is linked.
+/// Empty buffers with null pointers, where the register is linked.
 #[cfg(feature = "register")]
-fn empty_buffers() -> Result<String, String> {
-    let count = differential::register::empty_buffers()?;
-    Ok(format!("; {count} calls with empty buffers, null and other pointers"))
+fn null_pointers(seed: u64) -> Result<String, String> {
+    let mut test = Test::new(Box::new(differential::register::Register { null_if_empty: true }));
+    test.cases(&refusals::empty_buffers(), seed);
+    test.result()?;
+    Ok(format!("; {} calls with null for empty buffers", test.tally.journals))
 }
 
 #[cfg(not(feature = "register"))]
-fn empty_buffers() -> Result<String, String> {
+fn null_pointers(_: u64) -> Result<String, String> {
     Ok(String::new())
 }
 
-/// Each kind's ties broken the other way must be found.
+/// Every fault put in on purpose must be found: an engine's by the comparison with the second
+/// implementation, and one that both have by demand 3.
 fn seeded_bugs(seed: u64) -> Result<String, String> {
-    let mut found = Vec::new();
-    for kind in KINDS {
-        let faulty = Second::with_ties(Ties::GreatestNameOf(kind));
-        let mut test = Test::new(Box::new(faulty));
-        test.random(seed, RANDOM_JOURNALS);
-        if test.fault.is_none() {
-            return Err(format!("ties of {kind:?} broken the other way were not found"));
-        }
-        found.push(format!("{kind:?} after {} journals", test.tally.journals + 1));
+    let mut found = 0;
+    for (name, engine) in faults::engines() {
+        let mut test = Test::new(engine);
+        test.cases(&refusals::all(), seed);
+        found_by("differs: ", &name, test, seed)?;
+        found += 1;
     }
-    Ok(format!("ties broken the other way are found: {}", found.join(", ")))
+    for (fault, said) in faults::against_demand_3() {
+        let mut test = Test::new(Box::new(Second::with_fault(fault)));
+        test.second = Second::with_fault(fault);
+        found_by(said, &format!("{fault:?} in both"), test, seed)?;
+        found += 1;
+    }
+    Ok(format!("{found} faults put in on purpose, ties broken the other way among them, are found"))
+}
+
+/// Random journals until the fault is found; what is said of it must hold these words.
+fn found_by(said: &str, name: &str, mut test: Test, seed: u64) -> Result<(), String> {
+    test.random(seed, RANDOM_JOURNALS);
+    match test.fault {
+        Some(fault) if fault.contains(said) => Ok(()),
+        _ => Err(format!("not found: {name}")),
+    }
 }
 
 fn run(wish: Wish) -> Result<String, String> {
@@ -178,7 +210,7 @@ fn run(wish: Wish) -> Result<String, String> {
         None => test.all(wish.seed),
     }
     let line = test.result()?;
-    Ok(format!("{line}{}", empty_buffers()?))
+    Ok(format!("{line}{}", null_pointers(wish.seed)?))
 }
 
 fn main() -> ExitCode {

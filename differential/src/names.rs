@@ -89,9 +89,17 @@ fn append(names: &mut Vec<usize>, number: usize, name: usize) -> Result<(), Stri
     Ok(())
 }
 
+/// What a planner has read: commands answered, notices, and bytes.
+pub struct Read {
+    pub commands: usize,
+    pub notices: usize,
+    pub bytes: usize,
+}
+
 /// The planner beside a run: it reads the answer buffer, command by command.
 pub struct Planner<'a> {
     answers: &'a [u8],
+    read: usize,
     list: NameList,
     sent: ByKind<usize>,
     commands: usize,
@@ -102,6 +110,7 @@ impl<'a> Planner<'a> {
     pub fn new(answers: &'a [u8]) -> Planner<'a> {
         Planner {
             answers,
+            read: 0,
             list: NameList::default(),
             sent: ByKind::default(),
             commands: 0,
@@ -120,17 +129,19 @@ impl<'a> Planner<'a> {
         }
     }
 
-    /// The number of commands and of notices, or what demand 3 does not bear.
-    pub fn result(self) -> Result<(usize, usize), String> {
-        match self.fault {
-            Some(fault) => Err(fault),
-            None => Ok((self.commands, KINDS.iter().map(|&kind| self.sent[kind]).sum())),
+    /// What was read, or what demand 3 does not bear.
+    pub fn result(self) -> Result<Read, String> {
+        if let Some(fault) = self.fault {
+            return Err(fault);
         }
+        let notices = KINDS.iter().map(|&kind| self.sent[kind]).sum();
+        Ok(Read { commands: self.commands, notices, bytes: self.read })
     }
 
     fn check(&mut self, accepted: &Accepted) -> Result<(), String> {
-        let (answer, length) = decode(self.answers).ok_or("the bytes are no answer")?;
-        self.answers = &self.answers[length..];
+        let (answer, length) =
+            decode(&self.answers[self.read..]).ok_or("the bytes are no answer")?;
+        self.read += length;
         self.list.feed(&answer)?;
         if let Answer::Span { notices, .. } = &answer {
             self.check_doubling(accepted, notices)?;

@@ -5,8 +5,9 @@ use crate::histories::{marked, TRIANGLE, TRIANGLE_ANSWERS};
 use crate::journals::{random_case, Writer};
 use crate::second::command::Capacities;
 use crate::second::Second;
-use std::io::{Read, Write};
-use std::process::{Command, Stdio};
+use std::fs::File;
+use std::io::Write;
+use std::process::{Command, Output, Stdio};
 
 const CABINETS: usize = 256;
 const SPANS: usize = 512;
@@ -30,20 +31,44 @@ pub fn wanted(input: &[u8]) -> Vec<u8> {
     output
 }
 
-/// What the program at `path` writes for an input.
-fn written(path: &str, input: &[u8]) -> std::io::Result<Vec<u8>> {
-    let mut child = Command::new(path).stdin(Stdio::piped()).stdout(Stdio::piped()).spawn()?;
+/// What the program at `path` writes, its input fed in pieces of so many bytes.
+fn written(path: &str, input: &[u8], piece: usize) -> Result<Vec<u8>, String> {
+    let mut child = Command::new(path)
+        .stdin(Stdio::piped())
+        .stdout(Stdio::piped())
+        .stderr(Stdio::piped())
+        .spawn()
+        .map_err(|fault| format!("{path}: {fault}"))?;
     let mut to_child = child.stdin.take().expect("the input is a pipe");
-    let mut from_child = child.stdout.take().expect("the output is a pipe");
     let input = input.to_vec();
     // The program may end before it has read a journal that is too long: a write that fails is
     // no fault of the program.
-    let feeding = std::thread::spawn(move || drop(to_child.write_all(&input)));
-    let mut output = Vec::new();
-    from_child.read_to_end(&mut output)?;
+    let feeding = std::thread::spawn(move || {
+        input.chunks(piece).try_for_each(|bytes| to_child.write_all(bytes)).ok()
+    });
+    let output = child.wait_with_output();
     feeding.join().expect("the feeding thread does not panic");
-    child.wait()?;
-    Ok(output)
+    output_of(path, output)
+}
+
+/// The standard output of a program that ended well and wrote nothing to standard error.
+fn output_of(path: &str, output: std::io::Result<Output>) -> Result<Vec<u8>, String> {
+    let output = output.map_err(|fault| format!("{path}: {fault}"))?;
+    if !output.status.success() || !output.stderr.is_empty() {
+        let said = String::from_utf8_lossy(&output.stderr);
+        return Err(format!("{path}: ended with {}, standard error: {said}", output.status));
+    }
+    Ok(output.stdout)
+}
+
+/// Where its input cannot be read, as a folder cannot, the program writes nothing.
+fn nothing_without_input(path: &str) -> Result<(), String> {
+    let folder = File::open(".").map_err(|fault| format!("the working folder: {fault}"))?;
+    let output = output_of(path, Command::new(path).stdin(folder).output())?;
+    if !output.is_empty() {
+        return Err(format!("written where the input cannot be read: {}", hex(&output)));
+    }
+    Ok(())
 }
 
 /// Drives the program on some hundred inputs; gives their number, or the first difference.
@@ -52,9 +77,11 @@ pub fn drive(path: &str, seed: u64) -> Result<usize, String> {
     if wanted(&unhex(TRIANGLE)) != triangle {
         return Err("second does not write the triangle as document 01 has it".to_string());
     }
+    nothing_without_input(path)?;
     let inputs = inputs(seed);
-    for input in &inputs {
-        let output = written(path, input).map_err(|fault| format!("{path}: {fault}"))?;
+    for (number, input) in inputs.iter().enumerate() {
+        let piece = if number % 2 == 0 { 4096 } else { 1 + number % 7 };
+        let output = written(path, input, piece)?;
         let wanted = wanted(input);
         if output != wanted {
             return Err(format!(

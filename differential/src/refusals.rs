@@ -1,6 +1,6 @@
 //! Every refusal from 1 to 11, by every way to it, and the order of the lines where two apply.
 
-use crate::cases::Case;
+use crate::cases::{unhex, Case};
 use crate::engine::{work_needed, LONGEST_JOURNAL};
 use crate::journals::Writer;
 
@@ -22,28 +22,78 @@ pub fn all() -> Vec<Case> {
     parts.into_iter().flatten().collect()
 }
 
-/// Three cabinets, of which 0 and 1 are joined by span 0; S is 1 and C is 3, so both are full.
-fn small() -> Writer {
-    let mut writer = Writer::new();
-    for _ in 0..3 {
-        writer.cabinet();
+/// The beginning of a journal, all of it accepted, with its answers and the capacities of the run.
+struct Beginning {
+    c: u32,
+    s: u32,
+    journal: &'static str,
+    answers: &'static str,
+    commands: u32,
+    cabinets: u32,
+    spans: u32,
+}
+
+const NOTHING: Beginning =
+    Beginning { c: 1, s: 1, journal: "", answers: "", commands: 0, cabinets: 0, spans: 0 };
+
+/// C is full.
+const ONE_CABINET: Beginning =
+    Beginning { journal: "01", answers: "81 0000", commands: 1, cabinets: 1, ..NOTHING };
+
+const TWO_CABINETS: Beginning = Beginning {
+    c: 2,
+    journal: "01 01",
+    answers: "81 0000 81 0001",
+    commands: 2,
+    cabinets: 2,
+    ..NOTHING
+};
+
+/// Three cabinets, of which 0 and 1 are joined by span 0. C and S are full.
+const SMALL: Beginning = Beginning {
+    c: 3,
+    s: 1,
+    journal: "01 01 01 02 0000 0001",
+    answers: "81 0000 81 0001 81 0002 82 0000 0000 0001 01 0001 0000",
+    commands: 4,
+    cabinets: 3,
+    spans: 1,
+};
+
+/// The same with a cabinet and a span to spare.
+const SMALL_TO_SPARE: Beginning = Beginning { c: 4, s: 2, ..SMALL };
+
+impl Beginning {
+    /// With these bytes behind it, whose first command is refused with this number. No room is
+    /// left for an answer, so each number comes before 11.
+    fn stopped(&self, label: &str, bytes: &[u8], number: u32) -> Case {
+        let mut journal = unhex(self.journal);
+        let answers = unhex(self.answers);
+        let (place, written) = (journal.len() as u32, answers.len() as u32);
+        let report = [number, place, self.commands, written, self.cabinets, self.spans];
+        journal.extend(bytes);
+        Case::with_room(label, self.c, self.s, journal, 0).leaves(answers, report)
     }
-    writer.span(0, 1);
-    writer
-}
 
-/// The small journal with more bytes behind it, at full capacities.
-fn after_small(label: &str, more: &[u8]) -> Case {
-    let mut writer = small();
-    writer.bytes.extend(more);
-    Case::new(label, 3, 1, writer.bytes)
-}
+    /// With a command behind it that is refused with this number.
+    fn stopped_at(&self, label: &str, byte: u8, operands: &[usize], number: u32) -> Case {
+        let mut writer = Writer::new();
+        writer.command(byte, operands);
+        self.stopped(label, &writer.bytes, number)
+    }
 
-/// A command behind the small journal.
-fn command_after(label: &str, byte: u8, operands: &[usize]) -> Case {
-    let mut writer = Writer::new();
-    writer.command(byte, operands);
-    after_small(label, &writer.bytes)
+    /// With a command behind it that is accepted with this answer, which fits to the byte.
+    fn goes_on(&self, label: &str, byte: u8, operands: &[usize], answer: Vec<u8>) -> Case {
+        let mut writer = Writer::new();
+        writer.command(byte, operands);
+        let journal = [unhex(self.journal), writer.bytes].concat();
+        let answers = [unhex(self.answers), answer].concat();
+        let (place, written) = (journal.len() as u32, answers.len() as u32);
+        let cabinets = self.cabinets + u32::from(byte == 1);
+        let spans = self.spans + u32::from(byte == 2);
+        let report = [0, place, self.commands + 1, written, cabinets, spans];
+        Case::with_room(label, self.c, self.s, journal, 0).leaves(answers, report)
+    }
 }
 
 fn capacities() -> Vec<Case> {
@@ -106,11 +156,11 @@ fn long_journals() -> Vec<Case> {
 fn command_bytes() -> Vec<Case> {
     let mut cases = Vec::new();
     for byte in (0x00..=0xFF).filter(|byte| !(0x01..=0x08).contains(byte)) {
-        cases.push(Case::new("unknown byte alone", 1, 1, vec![byte]));
-        cases.push(after_small("unknown last byte", &[byte]));
-        cases.push(after_small("unknown byte and more", &[byte, 0, 0, 0, 1, 0x01]));
+        cases.push(NOTHING.stopped("unknown byte alone", &[byte], 4));
+        cases.push(SMALL.stopped("unknown last byte", &[byte], 4));
+        cases.push(SMALL.stopped("unknown byte and more", &[byte, 0, 0, 0, 1, 0x01], 4));
     }
-    cases.into_iter().map(|case| case.returns(4)).collect()
+    cases
 }
 
 fn cut_off() -> Vec<Case> {
@@ -121,107 +171,126 @@ fn cut_off() -> Vec<Case> {
             for filler in [0x00, 0x01, 0xFF] {
                 let mut bytes = vec![byte];
                 bytes.extend(vec![filler; kept]);
-                cases.push(Case::new("cut off, alone", 1, 1, bytes.clone()));
-                cases.push(after_small("cut off", &bytes));
+                cases.push(NOTHING.stopped("cut off, alone", &bytes, 5));
+                cases.push(SMALL.stopped("cut off", &bytes, 5));
             }
         }
     }
-    cases.into_iter().map(|case| case.returns(5)).collect()
+    cases
 }
 
 fn unknown_cabinets() -> Vec<Case> {
     let mut cases = Vec::new();
     for unknown in [3, 4, 255, 256, 4096, 0xFFFF] {
         for byte in [3, 4] {
-            cases.push(command_after("cabinet unknown", byte, &[unknown]));
+            cases.push(SMALL.stopped_at("cabinet unknown", byte, &[unknown], 6));
         }
         for byte in [2, 5, 6, 7] {
-            cases.push(command_after("first unknown", byte, &[unknown, 0]));
-            cases.push(command_after("second unknown", byte, &[1, unknown]));
-            cases.push(command_after("equal and unknown: 6 before 8", byte, &[unknown, unknown]));
+            cases.push(SMALL.stopped_at("first unknown", byte, &[unknown, 0], 6));
+            cases.push(SMALL.stopped_at("second unknown", byte, &[1, unknown], 6));
+            cases.push(SMALL.stopped_at("equal and unknown", byte, &[unknown, unknown], 6));
         }
     }
     for byte in [2, 5, 6, 7] {
-        cases.push(Case::new("none at all", 1, 1, vec![byte, 0, 0, 0, 0]));
+        cases.push(NOTHING.stopped_at("none at all", byte, &[0, 0], 6));
     }
     for byte in [3, 4] {
-        cases.push(Case::new("none at all", 1, 1, vec![byte, 0, 0]));
+        cases.push(NOTHING.stopped_at("none at all", byte, &[0], 6));
     }
-    let far = [0x01, 0x02, 0, 5, 0, 5];
-    cases.push(Case::new("02 5 5 with one cabinet", 1, 1, far.to_vec()));
-    cases.into_iter().map(|case| case.returns(6)).collect()
+    cases.push(ONE_CABINET.stopped_at("02 5 5 with one cabinet", 2, &[5, 5], 6));
+    cases
 }
 
 fn unknown_spans() -> Vec<Case> {
     let mut cases = vec![
-        Case::new("no span at all", 1, 1, vec![8, 0, 0]),
-        Case::new("a cabinet is no span", 1, 1, vec![1, 8, 0, 0]),
+        NOTHING.stopped_at("no span at all", 8, &[0], 7),
+        ONE_CABINET.stopped_at("a cabinet is no span", 8, &[0], 7),
     ];
     for unknown in [1, 2, 255, 256, 8192, 0xFFFF] {
-        cases.push(command_after("span unknown", 8, &[unknown]));
+        cases.push(SMALL.stopped_at("span unknown", 8, &[unknown], 7));
     }
-    cases.into_iter().map(|case| case.returns(7)).collect()
+    cases
 }
 
 fn equal_cabinets() -> Vec<Case> {
     let mut cases = Vec::new();
-    for cabinet in 0..3 {
-        cases.push(command_after("02 equal, 8 before 9", 2, &[cabinet, cabinet]));
-        cases.push(command_after("05 equal", 5, &[cabinet, cabinet]));
+    for byte in [2, 5] {
+        for cabinet in 0..3 {
+            cases.push(SMALL.stopped_at("equal, 8 before 9", byte, &[cabinet, cabinet], 8));
+            cases.push(SMALL_TO_SPARE.stopped_at("equal", byte, &[cabinet, cabinet], 8));
+        }
+        cases.push(ONE_CABINET.stopped_at("one cabinet", byte, &[0, 0], 8));
     }
-    cases.push(Case::new("one cabinet, 02", 1, 1, vec![1, 2, 0, 0, 0, 0]));
-    cases.push(Case::new("one cabinet, 05", 1, 1, vec![1, 5, 0, 0, 0, 0]));
-    cases.into_iter().map(|case| case.returns(8)).collect()
+    cases
 }
 
 fn no_capacity() -> Vec<Case> {
-    let cases = [
-        Case::new("second cabinet of one", 1, 1, vec![1, 1]),
-        Case::with_room("second cabinet of one, 9 before 11", 1, 1, vec![1, 1], 3),
-        command_after("01 with C cabinets", 1, &[]),
-        command_after("02 with S spans, across districts", 2, &[0, 2]),
-        command_after("02 with S spans, in one district", 2, &[1, 0]),
-    ];
-    cases.into_iter().map(|case| case.returns(9)).collect()
+    vec![
+        ONE_CABINET.stopped_at("second cabinet of one", 1, &[], 9),
+        SMALL.stopped_at("01 with C cabinets", 1, &[], 9),
+        SMALL.stopped_at("02 with S spans, across districts", 2, &[0, 2], 9),
+        SMALL.stopped_at("02 with S spans, in one district", 2, &[1, 0], 9),
+    ]
 }
 
 fn across_districts() -> Vec<Case> {
     let mut cases = Vec::new();
     for byte in [6, 7] {
         for pair in [[0, 2], [2, 0], [1, 2], [2, 1]] {
-            cases.push(command_after("across districts, 10 before 11", byte, &pair));
+            cases.push(SMALL.stopped_at("across districts", byte, &pair, 10));
         }
-        cases.push(Case::new("two cabinets", 2, 1, vec![1, 1, byte, 0, 0, 0, 1]));
+        cases.push(TWO_CABINETS.stopped_at("two cabinets", byte, &[0, 1], 10));
     }
-    cases.into_iter().map(|case| case.returns(10)).collect()
+    cases
 }
 
-/// Each command with every room that is too small for its answer.
+/// Each command with every room that is too small for its answer, and with just enough.
 fn no_room() -> Vec<Case> {
     let mut cases = Vec::new();
-    let commands: [(u8, &[usize], usize); 12] = [
-        (1, &[], 3),
-        (2, &[0, 2], 12),
-        (2, &[0, 1], 12),
-        (3, &[0], 3),
-        (4, &[1], 3),
-        (5, &[0, 1], 4),
-        (5, &[0, 2], 4),
-        (6, &[0, 1], 5),
-        (6, &[0, 0], 3),
-        (7, &[0, 1], 3),
-        (7, &[2, 2], 3),
-        (8, &[0], 2),
+    let commands: [(u8, &[usize], &str); 12] = [
+        (1, &[], "81 0003"),
+        (2, &[0, 2], "82 0001 0001 0001 01 0002 0000"),
+        (2, &[0, 1], "82 0001 0000 0001 02 0001 0000"),
+        (3, &[0], "83 0000"),
+        (4, &[1], "84 0001"),
+        (5, &[0, 1], "85 01 0000"),
+        (5, &[0, 2], "85 00 0000"),
+        (6, &[0, 1], "86 0001 0000"),
+        (6, &[0, 0], "86 0000"),
+        (7, &[0, 1], "87 0000"),
+        (7, &[2, 2], "87 0000"),
+        (8, &[0], "88 01"),
     ];
-    for (byte, operands, length) in commands {
-        for room in 0..=length {
-            let mut writer = small();
-            writer.command(byte, operands);
-            // The small journal's own answers: three cabinets, and a span with one notice.
-            let before = 3 * 3 + 12;
-            let label = format!("command {byte:02x} {operands:?} with room {room} of {length}");
-            let case = Case::with_room(&label, 4, 2, writer.bytes, before + room);
-            cases.push(case.returns(if room < length { 11 } else { 0 }));
+    for (byte, operands, answer) in commands {
+        let answer = unhex(answer);
+        for room in 0..answer.len() {
+            let label = format!("command {byte:02x} {operands:?} with room {room}");
+            let mut case = SMALL_TO_SPARE.stopped_at(&label, byte, operands, 11);
+            case.answers += room;
+            cases.push(case);
+        }
+        let label = format!("command {byte:02x} {operands:?} with just enough room");
+        cases.push(SMALL_TO_SPARE.goes_on(&label, byte, operands, answer));
+    }
+    cases
+}
+
+/// Every choice of buffers that are empty, with capacities inside and outside their ranges.
+pub fn empty_buffers() -> Vec<Case> {
+    let mut cases = Vec::new();
+    for (c, s) in [(0, 1), (1, 1), (3, 2), (4096, 8192), (u32::MAX, u32::MAX)] {
+        for choice in 0..16 {
+            let filled = |bit: u32| choice & bit != 0;
+            let journal = if filled(1) { vec![1, 1, 2, 0, 0, 0, 1] } else { Vec::new() };
+            let room = if filled(2) { 18 } else { 0 };
+            let mut case = Case::with_room("empty buffers", c, s, journal, room);
+            if !filled(4) {
+                case.work = 0;
+            }
+            if !filled(8) {
+                case.report = 0;
+            }
+            cases.push(case);
         }
     }
     cases

@@ -5,12 +5,13 @@ pub mod book;
 pub mod command;
 pub mod groups;
 
-use crate::engine::{start_refusal, work_needed, Engine, REPORT_NUMBERS};
-use book::{Book, Ties};
+use crate::engine::{Call, Engine, REPORT_NUMBERS};
+use book::{Book, Fault};
 use command::{answer, feed, read, refusal, Capacities, Command};
 
+#[derive(Default)]
 pub struct Second {
-    ties: Ties,
+    fault: Option<Fault>,
 }
 
 /// What a run that was not refused at the start comes to.
@@ -35,12 +36,12 @@ pub struct Accepted<'a> {
 
 impl Second {
     pub fn new() -> Second {
-        Second { ties: Ties::LeastName }
+        Second::default()
     }
 
     /// The same with a fault.
-    pub fn with_ties(ties: Ties) -> Second {
-        Second { ties }
+    pub fn with_fault(fault: Fault) -> Second {
+        Second { fault: Some(fault) }
     }
 
     /// Runs a journal from an empty network. Each accepted command is shown to `watch`.
@@ -51,7 +52,7 @@ impl Second {
         room: usize,
         watch: &mut dyn FnMut(Accepted),
     ) -> Run {
-        let mut book = Book::empty(self.ties);
+        let mut book = Book::empty(self.fault);
         let mut run = Run::default();
         while run.place < journal.len() {
             let left = room - run.answers.len();
@@ -78,38 +79,19 @@ impl Second {
 
     /// The bytes that the answers of this journal take with ample room.
     pub fn answer_bytes(&self, c: u32, s: u32, journal: &[u8]) -> usize {
-        let capacities = Capacities { cabinets: c as usize, spans: s as usize };
-        self.walk(capacities, journal, usize::MAX, &mut |_| ()).answers.len()
+        self.walk(Capacities::new(c, s), journal, usize::MAX, &mut |_| ()).answers.len()
     }
 
     /// The run of document 01 with all its buffers; each accepted command is shown to `watch`.
-    #[allow(clippy::too_many_arguments)]
-    pub fn run_watched(
-        &self,
-        c: u32,
-        s: u32,
-        journal: &[u8],
-        work: &mut [u32],
-        answers: &mut [u8],
-        report: &mut [u32],
-        watch: &mut dyn FnMut(Accepted),
-    ) -> u32 {
-        let number = start_refusal(c, s, journal.len(), work.len(), report.len());
+    pub fn run_watched(&self, call: Call, watch: &mut dyn FnMut(Accepted)) -> u32 {
+        let number = call.start_refusal();
         if number != 0 {
             return number;
         }
-        let capacities = Capacities { cabinets: c as usize, spans: s as usize };
-        let run = self.walk(capacities, journal, answers.len(), watch);
-        work[..work_needed(c, s)].fill(0);
-        answers[..run.answers.len()].copy_from_slice(&run.answers);
-        report[..REPORT_NUMBERS].copy_from_slice(&report_of(&run));
-        run.refusal
-    }
-}
-
-impl Default for Second {
-    fn default() -> Second {
-        Second::new()
+        let capacities = Capacities::new(call.c, call.s);
+        let run = self.walk(capacities, call.journal, call.answers.len(), watch);
+        call.answers[..run.answers.len()].copy_from_slice(&run.answers);
+        call.ends(report_of(&run))
     }
 }
 
@@ -150,15 +132,7 @@ impl Engine for Second {
         "second"
     }
 
-    fn run(
-        &self,
-        c: u32,
-        s: u32,
-        journal: &[u8],
-        work: &mut [u32],
-        answers: &mut [u8],
-        report: &mut [u32],
-    ) -> u32 {
-        self.run_watched(c, s, journal, work, answers, report, &mut |_| ())
+    fn run(&self, call: Call) -> u32 {
+        self.run_watched(call, &mut |_| ())
     }
 }

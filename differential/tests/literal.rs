@@ -1,8 +1,9 @@
 //! The fast parts of the second implementation against the definitions word for word.
 
+use differential::layouts;
 use differential::literal;
 use differential::random::Random;
-use differential::second::book::{Book, Ties};
+use differential::second::book::Book;
 use differential::second::groups::{
     cut_cabinets, groups, is_sole, route, shared_mesh, sole_spans, Network,
 };
@@ -61,7 +62,7 @@ fn check_shared_mesh(network: &Network, a: usize, b: usize) {
 
 /// The book's names for the spans of a network, entered one after the other.
 fn check_names(network: &Network) {
-    let mut book = Book::empty(Ties::LeastName);
+    let mut book = Book::empty(None);
     for _ in 0..network.cabinets {
         book = book.with_cabinet();
     }
@@ -111,10 +112,7 @@ fn every_list(cabinets: usize, count: usize, each: &mut dyn FnMut(&Network)) {
             pairs.push((a, b));
         }
     }
-    for code in 0..pairs.len().pow(count as u32) {
-        let spans = (0..count).map(|i| pairs[code / pairs.len().pow(i as u32) % pairs.len()]);
-        each(&Network { cabinets, spans: spans.collect() });
-    }
+    layouts::every_list(&pairs, count, &mut |spans| each(&Network { cabinets, spans }));
 }
 
 #[test]
@@ -136,13 +134,7 @@ fn random_networks() {
     for _ in 0..2000 {
         let cabinets = random.between(2, 8);
         let count = random.between(1, cabinets + 3);
-        let mut network = Network { cabinets, spans: Vec::new() };
-        while network.spans.len() < count {
-            let (a, b) = (random.below(cabinets), random.below(cabinets));
-            if a != b {
-                network.spans.push((a, b));
-            }
-        }
-        check(&network);
+        let spans = layouts::random_spans(&mut random, cabinets, count).spans;
+        check(&Network { cabinets, spans });
     }
 }

@@ -6,24 +6,24 @@ use mathlib.Core.Path.{_≡_, refl, sym, _∙_, ap}
 use Prim.Native.Nat.{ℕ, suc, _+_, _*_, _%_, _≤_, _<_}
 use native.Mathlib.Omega.{arith}
 use lib.Dec.{eqb}
-use lib.ListN.{length}
 use Rattle.graph.specs.Below.{listed, tabulate}
 use Rattle.graph.specs.Groups.{component}
 use Rattle.graph.proofs.Truth.{true-or-false, eq-eqb}
 use Rattle.graph.proofs.Below.{listed-same}
 use Rattle.graph.proofs.Members.{listed-none}
-use Rattle.naming.specs.Rename.{nameOf}
-use Rattle.forest.specs.declared.table.Capacities.{Capacities}
-use Rattle.forest.specs.declared.table.Area.{Area}
+use Rattle.naming.specs.Rename.{nameOf, changedItems}
+use Rattle.table.specs.declared.words.Capacities.{Capacities}
+use Rattle.table.specs.declared.words.Area.{Area}
+use Rattle.table.specs.Layout.{put, vertexArea, bridgeBlockArea, edgeArea}
+use Rattle.table.specs.Merge.{nameIn}
+use Rattle.table.specs.KindValid.{namesIn}
+use Rattle.table.proofs.Cells.{cell-vertex-after-edge}
+use Rattle.table.proofs.MergeBest.{name-in-list, length-names}
 use Rattle.forest.specs.declared.tree.Growth.{Growth}
-use Rattle.forest.specs.Layout.{put, vertexArea, bridgeBlockArea, edgeArea}
-use Rattle.forest.specs.Merge.{nameIn}
 use Rattle.forest.specs.Tree.{Grown, endsTable, linkGrown, condenseGrown, edgeGrown}
-use Rattle.forest.specs.Post.{GrowsTo}
-use Rattle.forest.specs.Valid.{Valid, networkOf, namesIn, bookOf}
-use Rattle.forest.specs.Promise.{EdgeAdded, changedItems, componentsChanged, bridgeBlocksChanged, blocksChanged}
-use Rattle.forest.proofs.Cells.{cell-vertex-after-edge}
-use Rattle.forest.proofs.MergeBest.{name-in-list, length-names}
+use Rattle.forest.specs.Tree.{GrowsTo}
+use Rattle.forest.specs.Valid.{Valid, networkOf, bookOf}
+use Rattle.forest.specs.Promise.{EdgeAdded, componentsChanged, bridgeBlocksChanged, blocksChanged}
 use Rattle.forest.proofs.Beyond.{same-beyond}
 use Rattle.forest.proofs.QueryNames.{component-by-name}
 use Rattle.forest.proofs.Link.{LinkGrows, link-grows}

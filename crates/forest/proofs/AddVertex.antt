@@ -9,8 +9,7 @@ use native.Mathlib.Omega.{arith}
 use lib.ListN.{length, getD}
 use Rattle.graph.specs.Network.{Network, addVertex, edge, edgeCount, touches, without, joined}
 use Rattle.graph.specs.Groups.{component, bridgeBlock}
-use Rattle.graph.specs.Block.{block, links, link, linkAt}
-use Rattle.graph.specs.BlockPath.{onBlock}
+use Rattle.graph.specs.Block.{block, links, link, linkAt, onBlock}
 use Rattle.graph.proofs.Truth.{ne-eqb}
 use Rattle.graph.proofs.Below.{below-or-last}
 use Rattle.graph.proofs.Mates.{component-swap}
@@ -19,12 +18,13 @@ use Rattle.graph.proofs.VertexMore.{component-vertex-more, bridge-block-vertex-
 use Rattle.naming.specs.Rename.{size}
 use Rattle.naming.specs.Book.{enterVertex}
 use Rattle.naming.proofs.Equivalent.{size-agree, size-others, size-positive}
-use Rattle.forest.specs.declared.table.Capacities.{Capacities}
-use Rattle.forest.specs.Layout.{cell, put, vertexArea, bridgeBlockArea, edgeArea}
+use Rattle.table.specs.declared.words.Capacities.{Capacities}
+use Rattle.table.specs.Layout.{cell, put, vertexArea, bridgeBlockArea, edgeArea}
+use Rattle.table.specs.KindValid.{namesIn, KindValid}
+use Rattle.table.proofs.Cells.{HasColumns, length-put, cell-put-same, cell-put-other-column}
 use Rattle.forest.specs.Climb.{upOf, depthOf, aboveEdge}
 use Rattle.forest.specs.Tree.{newGroup, vertexTable}
-use Rattle.forest.specs.Valid.{networkOf, namesIn, bookOf, KindValid, HangsBelow, ForestValid, Valid}
-use Rattle.forest.proofs.Cells.{HasColumns, length-put, cell-put-same, cell-put-other-column}
+use Rattle.forest.specs.Valid.{networkOf, bookOf, HangsBelow, ForestValid, Valid}
 use Rattle.forest.proofs.KindWords.{SameWords, name-known, names-same, kind-same, kind-agree, kind-new, names-new, cell-put-elsewhere}
 use Rattle.forest.proofs.Networks.{component-groups, bridge-block-groups, edge-count, vertex-count, ends-same, book-is}
 use Rattle.forest.proofs.Frames.{among, Frame, _then_, frame-vertex, frame-component, frame-bridge-block, same-components, same-bridge-blocks, same-blocks, same-above}
@@ -157,8 +157,8 @@ module _ (caps : Capacities) (n m : ℕ) (t : List ℕ) (valid : Valid caps n m 
       (bridge-block-groups (addVertex g))
       (kind-same before-bridge-blocks (valid .bridge-blocks))
 
-  rings : KindValid t′ (bridgeBlockArea caps) (suc n) (bridgeBlock (addVertex g))
-  rings =
+  bridge-blocks-named : KindValid t′ (bridgeBlockArea caps) (suc n) (bridgeBlock (addVertex g))
+  bridge-blocks-named =
       kind-same
       after-bridge-blocks
       bridge-block-first
@@ -281,7 +281,7 @@ module _ (caps : Capacities) (n m : ℕ) (t : List ℕ) (valid : Valid caps n m 
               edges-fit = valid .edges-fit;
               proper = rw network-more (proper-vertex-more g (valid .proper));
               components = rw network-more components;
-              bridge-blocks = rw network-more rings;
+              bridge-blocks = rw network-more bridge-blocks-named;
               blocks = rw network-more blocks;
               forest = rw network-more forest;
             };

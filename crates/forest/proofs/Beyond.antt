@@ -5,7 +5,7 @@ use Prim.Native.Nat.{ℕ, _+_, _*_, _-_, _≤_}
 use native.Mathlib.Omega.{arith}
 use lib.ListN.{length, getD, drop, length-drop}
 use lib.Seq.{ext-getD, getD-drop}
-use Rattle.forest.specs.declared.table.Capacities.{Capacities}
+use Rattle.table.specs.declared.words.Capacities.{Capacities}
 use Rattle.forest.specs.Promise.{SameBeyond}
 use Rattle.forest.proofs.Frames.{Frame}
 

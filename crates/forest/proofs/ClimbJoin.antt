@@ -13,11 +13,11 @@ use Rattle.graph.specs.Cycle.{Step}
 use Rattle.graph.specs.Block.{block}
 use Rattle.graph.specs.BlockPath.{BlockPath}
 use Rattle.graph.proofs.Truth.{true-or-false, ne-eqb}
-use Rattle.forest.specs.declared.table.Capacities.{Capacities}
-use Rattle.forest.specs.Layout.{vertexArea}
+use Rattle.table.specs.declared.words.Capacities.{Capacities}
+use Rattle.table.specs.Layout.{vertexArea}
+use Rattle.table.proofs.Cells.{HasColumns}
 use Rattle.forest.specs.Climb.{blockOf, pathVertex, pathEdge, rightVertex, rightEdge, joinOne, joinFrom}
 use Rattle.forest.specs.Route.{stepAt, stepsOf}
-use Rattle.forest.proofs.Cells.{HasColumns}
 use Rattle.forest.proofs.Frames.{frame-none, _then_}
 use Rattle.forest.proofs.Roots.{BlockForest}
 use Rattle.forest.proofs.ClimbLists.{Each, each-append, each-first, Fresh, Apart}

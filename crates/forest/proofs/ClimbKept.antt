@@ -5,13 +5,12 @@ use mathlib.Core.Path.{_≡_, refl, sym, _∙_}
 use Prim.Native.Nat.{ℕ, suc, _<_}
 use native.Mathlib.Omega.{arith}
 use Rattle.graph.specs.Network.{Network}
-use Rattle.forest.specs.declared.table.Capacities.{Capacities}
-use Rattle.forest.specs.Layout.{vertexArea, bridgeBlockArea, edgeArea}
+use Rattle.table.specs.declared.words.Capacities.{Capacities}
 use Rattle.forest.specs.Climb.{upOf, depthOf, aboveEdge}
-use Rattle.forest.specs.Valid.{Valid, ForestValid, HangsBelow, networkOf, bookOf}
-use Rattle.forest.proofs.KindWords.{kind-same, names-same}
+use Rattle.forest.specs.Valid.{Valid, ForestValid, HangsBelow, networkOf}
+use Rattle.forest.proofs.KindWords.{kind-same}
 use Rattle.forest.proofs.Frames.{same-components, same-bridge-blocks, same-blocks, same-above}
-use Rattle.forest.proofs.Networks.{network-same, book-is}
+use Rattle.forest.proofs.Networks.{network-same}
 use Rattle.forest.proofs.Roots.{BlockForest, block-forest}
 use Rattle.forest.proofs.ClimbTable.{Scratched, up-kept, depth-kept}
 
@@ -50,15 +49,6 @@ module _ (caps : Capacities) (n m : ℕ) (t t′ : List ℕ) (w : Valid caps n m
   -- the network stays
   pub network-kept : networkOf caps n m t′ ≡ networkOf caps n m t
   network-kept = network-same caps n m t t′ (λ s h. f .edge-word 4 s (omega arith) (omega (arith, w .edges-fit)) refl)
-
-  -- the naming book stays
-  pub book-kept : bookOf caps n m t′ ≡ bookOf caps n m t
-  unfolding bookOf
-  book-kept =
-      book-is network-kept
-      (names-same t t′ (vertexArea caps) n (same-components f n (w .vertices-fit) refl refl refl))
-      (names-same t t′ (bridgeBlockArea caps) n (same-bridge-blocks f n (w .vertices-fit) refl refl refl))
-      (names-same t t′ (edgeArea caps) m (same-blocks f m (w .edges-fit) refl refl refl))
 
   -- the table stays valid
   pub valid-kept : Valid caps n m t′

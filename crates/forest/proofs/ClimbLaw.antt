@@ -7,23 +7,23 @@ use Prim.Native.Nat.{ℕ, zero, suc, _+_, _-_, _≤_, _<_}
 use native.Mathlib.Nat.{not-suc-le-zero}
 use native.Mathlib.Omega.{arith}
 use lib.ListN.{length}
-use Rattle.naming.proofs.Listed.{length-tabulate}
 use Rattle.graph.specs.Below.{tabulate}
 use Rattle.graph.specs.Network.{Network}
 use Rattle.graph.specs.Groups.{component}
 use Rattle.graph.specs.Cycle.{Step}
-use Rattle.graph.specs.Block.{block}
-use Rattle.graph.specs.BlockPath.{BlockPath, onBlock, blocksLead}
+use Rattle.graph.specs.Block.{block, onBlock}
+use Rattle.graph.specs.BlockPath.{BlockPath, blocksLead}
 use Rattle.graph.proofs.Truth.{eqb-eq}
 use Rattle.graph.proofs.Below.{below-or-last}
-use Rattle.forest.specs.declared.table.Capacities.{Capacities}
+use Rattle.naming.proofs.Listed.{length-tabulate}
+use Rattle.table.specs.declared.words.Capacities.{Capacities}
+use Rattle.table.specs.Layout.{vertexArea}
+use Rattle.table.proofs.Cells.{HasColumns}
 use Rattle.forest.specs.declared.climb.Route.{Route}
-use Rattle.forest.specs.Layout.{vertexArea}
 use Rattle.forest.specs.Climb.{Climbed, depthOf, aboveEdge, pathVertex, pathEdge, sameLast, keptLeft, climbBoth, joinFrom}
 use Rattle.forest.specs.Climb.{climbTable, climbRoute}
 use Rattle.forest.specs.Route.{stepAt, stepsOf}
 use Rattle.forest.specs.Valid.{Valid, HangsBelow, networkOf}
-use Rattle.forest.proofs.Cells.{HasColumns}
 use Rattle.forest.proofs.Frames.{_then_}
 use Rattle.forest.proofs.Roots.{BlockForest, block-forest}
 use Rattle.forest.proofs.ClimbLists.{Each, each-first, each-second}

@@ -10,8 +10,8 @@ use lib.ListN.{length}
 use Rattle.graph.specs.Below.{count}
 use Rattle.graph.specs.Network.{Network, edgeCount}
 use Rattle.graph.specs.Cycle.{Step, anyStep}
-use Rattle.graph.specs.Block.{block}
-use Rattle.graph.specs.BlockPath.{BlockPath, onBlock, blocksLead, fresh, blocksDiffer}
+use Rattle.graph.specs.Block.{block, onBlock}
+use Rattle.graph.specs.BlockPath.{BlockPath, blocksLead, fresh, blocksDiffer}
 use Rattle.graph.proofs.Truth.{and-both, or-neither, or-cases, or-left, or-right, eq-eqb, eqb-eq, eqb-same, ne-eqb, lt-ltb, not-of-false}
 use Rattle.naming.proofs.Count.{count-at-most, count-positive, count-disjoint}
 

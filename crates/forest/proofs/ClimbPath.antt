@@ -11,7 +11,7 @@ use Rattle.graph.specs.BlockPath.{BlockPath}
 use Rattle.graph.proofs.Truth.{false-of-not, not-both}
 use Rattle.graph.proofs.Block.{block-sym, block-trans, block-swap}
 use Rattle.graph.proofs.BlockVertices.{on-same-block}
-use Rattle.forest.specs.declared.table.Capacities.{Capacities}
+use Rattle.table.specs.declared.words.Capacities.{Capacities}
 use Rattle.forest.specs.Climb.{depthOf}
 use Rattle.forest.proofs.Roots.{BlockForest, above-same}
 use Rattle.forest.proofs.ClimbLists.{Each, Fresh, fresh-less, Within, Leads, leads-append, Differ, Apart, differ-append, block-path}

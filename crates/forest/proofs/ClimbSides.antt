@@ -7,12 +7,12 @@ use lib.ListN.{length, length-append}
 use Rattle.graph.specs.Below.{tabulate}
 use Rattle.graph.specs.Network.{Network}
 use Rattle.graph.specs.Cycle.{Step}
-use Rattle.forest.specs.declared.table.Capacities.{Capacities}
+use Rattle.table.specs.declared.words.Capacities.{Capacities}
+use Rattle.table.specs.Layout.{put, vertexArea}
+use Rattle.table.proofs.Cells.{HasColumns, cell-put-same}
 use Rattle.forest.specs.declared.climb.Trail.{Trail}
-use Rattle.forest.specs.Layout.{put, vertexArea}
 use Rattle.forest.specs.Climb.{Climbed, pathVertex, reach, climbFrom, climbBoth}
 use Rattle.forest.specs.Route.{stepsOf}
-use Rattle.forest.proofs.Cells.{HasColumns, cell-put-same}
 use Rattle.forest.proofs.Frames.{frame-vertex, _then_}
 use Rattle.forest.proofs.Roots.{BlockForest}
 use Rattle.forest.proofs.ClimbLists.{Each, each-map, each-append, Fresh, fresh-short}

@@ -2,15 +2,14 @@
 -- are kept, and how the right side's steps are put behind them.
 use mathlib.Core.Bool.{Bool, true, false, cond, _&&_, not}
 use mathlib.Core.List.{List}
-use mathlib.Core.Logic.{_≢_}
-use mathlib.Core.Path.{_≡_, refl}
-use Prim.Native.Nat.{ℕ, zero, suc, _+_, _-_, _≤_}
+use mathlib.Core.Logic.{_≢_, _⊎_, inl, inr}
+use mathlib.Core.Path.{_≡_, refl, sym, ap}
+use Prim.Native.Nat.{ℕ, zero, suc, _+_, _-_, _≤_, _<_}
 use native.Mathlib.Omega.{arith}
 use native.Mathlib.Numerals.{sub-one}
-use lib.Dec.{eqb}
-use Rattle.graph.proofs.Truth.{eq-eqb, ne-eqb}
-use Rattle.forest.specs.declared.table.Capacities.{Capacities}
-use Rattle.forest.specs.declared.table.Vertex.{Vertex}
+use lib.Dec.{eqb, ltb}
+use Rattle.graph.proofs.Truth.{true-or-false, true-of-not-false, and-left, eq-eqb, eqb-eq, ne-eqb, eqb-ne, ltb-lt, lt-ltb}
+use Rattle.table.specs.declared.words.Capacities.{Capacities}
 use Rattle.forest.specs.declared.climb.Trail.{Trail}
 use Rattle.forest.specs.Climb.{upOf, blockOf, pathEdge, rightEdge, aboveEdge, rightDeeper, climbing, recordTable, recordTrail}
 use Rattle.forest.specs.Climb.{Climbed, climbFrom, blockTable, blockTrail, sameLast, keptLeft, joinOne, joinFrom, reach}
@@ -18,10 +17,6 @@ use Rattle.forest.specs.Climb.{Climbed, climbFrom, blockTable, blockTrai
 cond-same : (b : Bool) (x : Climbed) → cond b x x ≡ x
 cond-same true x = refl
 cond-same false x = refl
-
-cond-number : (b : Bool) (x y : Vertex) → cond b x y .0 ≡ cond b (x .0) (y .0)
-cond-number true x y = refl
-cond-number false x y = refl
 
 -- writing down a step makes the two sides one step longer
 pub recorded-steps : (r next : Trail) (v : ℕ) (right : Bool) → next ≡ recordTrail r v right → next .left + next .right ≡ r .left + r .right + 1
@@ -48,10 +43,10 @@ module _ (t : List ℕ) (caps : Capacities) (r : Trail) where
   climb-root (suc k) e = rw (eq-eqb (upOf t caps (climbing t caps r)) 0 e) (cond-same (eqb (r .a .0) (r .b .0)) _)
 
   -- what stands above the vertex on the deeper side
-  pub climber-up : (right : Bool) (v : Vertex) (up : ℕ) → right ≡ rightDeeper t caps r → v ≡ cond right (r .b) (r .a) → up ≡ upOf t caps (v .0) →
+  pub climber-up : (right : Bool) (up : ℕ) → right ≡ rightDeeper t caps r → up ≡ upOf t caps (cond right (r .b .0) (r .a .0)) →
       up ≡ upOf t caps (climbing t caps r)
   unfolding climbing
-  climber-up right v up d e h = rw (← d, ← cond-number right (r .b) (r .a), ← e) h
+  climber-up right up d h = rw (← d) h
 
   -- any other climb goes on with one step written down, along the edge above the vertex to climb from
   climb-suc : (k : ℕ) → r .a .0 ≢ r .b .0 → upOf t caps (climbing t caps r) ≢ 0 →
@@ -103,6 +98,44 @@ module _ (t : List ℕ) (caps : Capacities) (r : Trail) where
       go : (b : Bool) → cond b (r .left - 1) (r .left) ≤ r .left
       go true = omega arith
       go false = omega arith
+
+-- a climb of j + k steps is a climb of j steps and, from where that came, one of k
+pub climb-add : (j k n : ℕ) (t : List ℕ) (caps : Capacities) (r : Trail) → n ≡ j + k →
+    climbFrom n t caps r ≡ climbFrom k (climbFrom j t caps r .table) caps (climbFrom j t caps r .trail)
+climb-add zero k n t caps r h =
+    let same : n ≡ k = omega arith in
+    rw same (ap (λ (c : Climbed). climbFrom k (c .table) caps (c .trail)) (sym (climb-none t caps r 0 refl)))
+climb-add (suc j) k n t caps r h =
+    let more : n ≡ suc (j + k) = omega arith in
+    rw more (go (true-or-false (eqb (r .a .0) (r .b .0))) (true-or-false (eqb above 0)) (λ t₁ r₁. climb-add j k (j + k) t₁ caps r₁ refl))
+  where
+    above : ℕ
+    above = upOf t caps (climbing t caps r)
+
+    Goal : Type 0
+    Goal = climbFrom (suc (j + k)) t caps r ≡ climbFrom k (climbFrom (suc j) t caps r .table) caps (climbFrom (suc j) t caps r .trail)
+
+    stays : ((i : ℕ) → climbFrom i t caps r ≡ record { table = t; trail = r }) → Goal
+    stays stay = rw (stay (suc (j + k)), stay (suc j)) (sym (stay k))
+
+    go : (eqb (r .a .0) (r .b .0) ≡ true) ⊎ (eqb (r .a .0) (r .b .0) ≡ false) → (eqb above 0 ≡ true) ⊎ (eqb above 0 ≡ false) →
+        ((t₁ : List ℕ) (r₁ : Trail) → climbFrom (j + k) t₁ caps r₁ ≡ climbFrom k (climbFrom j t₁ caps r₁ .table) caps (climbFrom j t₁ caps r₁ .trail)) →
+        Goal
+    go (inl e) root fewer = stays (λ i. climb-met t caps r i (eqb-eq _ _ e))
+    go (inr d) (inl z) fewer = stays (λ i. climb-root t caps r i (eqb-eq _ _ z))
+    go (inr d) (inr z) fewer =
+        rw (climb-suc t caps r (j + k) (eqb-ne _ _ d) (eqb-ne _ _ z), climb-suc t caps r j (eqb-ne _ _ d) (eqb-ne _ _ z))
+        (fewer _ _)
+
+-- a climb that does not go on has no steps left, or its sides have met, and stays
+pub climb-stays : (k : ℕ) (t : List ℕ) (caps : Capacities) (r : Trail) → (ltb 0 k && not (eqb (r .a .0) (r .b .0))) ≡ false →
+    climbFrom k t caps r ≡ record { table = t; trail = r }
+climb-stays zero t caps r e = climb-none t caps r 0 refl
+climb-stays (suc k) t caps r e = climb-met t caps r (suc k) (eqb-eq _ _ (true-of-not-false _ (rw (lt-ltb 0 (suc k) (omega arith)) at e)))
+
+-- a climb that goes on has steps left
+pub steps-left : (k : ℕ) (b : Bool) → (ltb 0 k && b) ≡ true → 0 < k
+steps-left k b e = ltb-lt 0 k (and-left _ _ e)
 
 -- joining the right side's steps begins with the last of them
 pub join-step : (k : ℕ) (t : List ℕ) (caps : Capacities) (at : ℕ) → k ≢ 0 →

@@ -8,11 +8,11 @@ use native.Mathlib.Omega.{arith}
 use Rattle.graph.specs.Below.{tabulate}
 use Rattle.graph.specs.Cycle.{Step}
 use Rattle.naming.proofs.Listed.{tabulate-same}
-use Rattle.forest.specs.declared.table.Capacities.{Capacities}
-use Rattle.forest.specs.Layout.{cell, put, vertexArea}
+use Rattle.table.specs.declared.words.Capacities.{Capacities}
+use Rattle.table.specs.Layout.{cell, put, vertexArea}
+use Rattle.table.proofs.Cells.{HasColumns, length-put, cell-put-same, cell-put-other-column, cell-put-other-item}
 use Rattle.forest.specs.Climb.{pathVertex, pathEdge, rightVertex, rightEdge}
 use Rattle.forest.specs.Route.{stepAt, stepsOf}
-use Rattle.forest.proofs.Cells.{HasColumns, length-put, cell-put-same, cell-put-other-column, cell-put-other-item}
 
 -- The first k steps of the right side, turned round: the last of them first, each to the vertex that it left.
 unfoldable pub turnedSteps : List ℕ → Capacities → ℕ → List Step

@@ -9,13 +9,13 @@ use lib.ListN.{length, length-append}
 use Rattle.graph.specs.Network.{Network}
 use Rattle.graph.specs.Cycle.{Step}
 use Rattle.graph.proofs.Truth.{eq-eqb, ne-eqb, lt-ltb, ge-ltb}
-use Rattle.forest.specs.declared.table.Capacities.{Capacities}
+use Rattle.table.specs.declared.words.Capacities.{Capacities}
+use Rattle.table.specs.Layout.{vertexArea}
+use Rattle.table.proofs.Cells.{HasColumns}
 use Rattle.forest.specs.declared.climb.Trail.{Trail}
-use Rattle.forest.specs.Layout.{vertexArea}
 use Rattle.forest.specs.Climb.{upOf, depthOf, aboveEdge, pathVertex, rightDeeper, climbing, recordTable, recordTrail}
 use Rattle.forest.specs.Climb.{Climbed, climbFrom}
 use Rattle.forest.specs.Route.{stepsOf}
-use Rattle.forest.proofs.Cells.{HasColumns}
 use Rattle.forest.proofs.Frames.{Frame, frame-none, frame-vertex, _then_, same-above}
 use Rattle.forest.proofs.Roots.{BlockForest}
 use Rattle.forest.proofs.ClimbWays.{Climb, met, left, right, Hung, upSteps, downSteps, hung-above, hung-edge}

@@ -9,7 +9,7 @@ use Rattle.graph.specs.Network.{Network}
 use Rattle.graph.specs.Cycle.{Step}
 use Rattle.graph.specs.Block.{block}
 use Rattle.graph.proofs.Block.{block-refl, block-sym}
-use Rattle.forest.specs.declared.table.Capacities.{Capacities}
+use Rattle.table.specs.declared.words.Capacities.{Capacities}
 use Rattle.forest.specs.Climb.{upOf, depthOf, aboveEdge}
 use Rattle.forest.proofs.Roots.{BlockForest}
 use Rattle.forest.proofs.ClimbLists.{Each, each-append, each-first}

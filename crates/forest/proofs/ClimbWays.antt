@@ -10,11 +10,11 @@ use lib.ListN.{length}
 use Rattle.graph.specs.Network.{Network, nothing}
 use Rattle.graph.specs.Groups.{component}
 use Rattle.graph.specs.Cycle.{Step}
-use Rattle.graph.specs.BlockPath.{onBlock}
+use Rattle.graph.specs.Block.{onBlock}
 use Rattle.graph.proofs.Truth.{true-or-false, eqb-eq, eqb-ne, ltb-lt, ltb-ge}
 use Rattle.graph.proofs.Joined.{joined-sym, joined-trans, joined-less-lost}
 use Rattle.graph.proofs.BlockVertices.{block-vertices-joined-within}
-use Rattle.forest.specs.declared.table.Capacities.{Capacities}
+use Rattle.table.specs.declared.words.Capacities.{Capacities}
 use Rattle.forest.specs.Climb.{upOf, depthOf, aboveEdge}
 use Rattle.forest.proofs.Roots.{BlockForest, above-known, root-least}
 use Rattle.forest.proofs.ClimbLists.{Each, each-map, each-append, Fresh, fresh-last}

@@ -18,18 +18,19 @@ use Rattle.graph.proofs.EdgeMore.{component-edge-within}
 use Rattle.naming.specs.Rename.{rename}
 use Rattle.naming.specs.Book.{enterEdge}
 use Rattle.naming.proofs.Listed.{tabulate-same}
-use Rattle.forest.specs.declared.table.Capacities.{Capacities}
-use Rattle.forest.specs.Layout.{cell, vertexArea, bridgeBlockArea, edgeArea}
-use Rattle.forest.specs.Merge.{nameIn}
+use Rattle.table.specs.declared.words.Capacities.{Capacities}
+use Rattle.table.specs.Layout.{cell, vertexArea, bridgeBlockArea, edgeArea}
+use Rattle.table.specs.Merge.{nameIn}
+use Rattle.table.specs.KindValid.{namesIn, KindValid}
+use Rattle.table.proofs.Cells.{cell-bridge-block}
 use Rattle.forest.specs.Tree.{Grown, condenseGrown, endsTable}
-use Rattle.forest.specs.Valid.{networkOf, namesIn, bookOf, KindValid, ForestValid, Valid}
-use Rattle.forest.proofs.Cells.{cell-bridge-block}
+use Rattle.forest.specs.Valid.{networkOf, bookOf, ForestValid, Valid}
 use Rattle.forest.proofs.KindWords.{SameWords, names-same, kind-same, kind-agree}
 use Rattle.forest.proofs.Networks.{network-same, edge-count, vertex-count, book-is}
 use Rattle.forest.proofs.NamesStay.{rename-stays}
 use Rattle.forest.proofs.Frames.{Frame, same-components, same-bridge-blocks}
 use Rattle.forest.proofs.LinkTable.{network-linked}
-use Rattle.forest.proofs.CondenseTables.{rings-law, blocks-law, block-words, ring-words, behind-rings, behind-ends, whole}
+use Rattle.forest.proofs.CondenseTables.{bridge-blocks-law, blocks-law, block-words, bridge-block-words, behind-bridge-blocks, behind-ends, whole}
 use Rattle.forest.proofs.CondenseTables.{enter-step, new-name, old-name, names-with-new, valid-with-new, forest-after}
 
 -- What one edge more between a and b leaves, of one component.
@@ -98,46 +99,46 @@ module _ (caps : Capacities) (n m : ℕ) (t : List ℕ) (valid : Valid caps n m 
   -- bridge-blocks
   module _ (t₂ t₃ : List ℕ) (count : ℕ) (few : count ≤ n) (before : SameWords t t₂ (bridgeBlockArea caps) n)
       (behind : Frame caps [] (0 ∷ 1 ∷ 2 ∷ 3 ∷ 5 ∷ []) t₃ t′) where
-    ring-word : (c x : ℕ) → c < 4 → x < n → cell t′ (bridgeBlockArea caps) c x ≡ cell t₃ (bridgeBlockArea caps) c x
-    ring-word c x h l =
+    bridge-block-word : (c x : ℕ) → c < 4 → x < n → cell t′ (bridgeBlockArea caps) c x ≡ cell t₃ (bridgeBlockArea caps) c x
+    bridge-block-word c x h l =
         cell-bridge-block caps t′ c x
         ∙ behind .vertex-word (4 + c) x (omega arith) (omega (arith, valid .vertices-fit)) refl
         ∙ sym (cell-bridge-block caps t₃ c x)
 
-    rings-written : tabulate count (cell t₃ (bridgeBlockArea caps) 3)
+    bridge-blocks-written : tabulate count (cell t₃ (bridgeBlockArea caps) 3)
         ≡ listed n (λ x. not (eqb (nameIn t₂ (bridgeBlockArea caps) x) (nameIn t₃ (bridgeBlockArea caps) x)))
         → tabulate count (cell t′ (bridgeBlockArea caps) 3)
         ≡ listed n (λ x. not (eqb (nameIn t (bridgeBlockArea caps) x) (nameIn t′ (bridgeBlockArea caps) x)))
-    rings-written q =
-        tabulate-same count _ _ (λ i h. ring-word 3 i (omega arith) (omega arith))
+    bridge-blocks-written q =
+        tabulate-same count _ _ (λ i h. bridge-block-word 3 i (omega arith) (omega arith))
         ∙ q
         ∙ listed-same n _ _
-        (λ x h. ap₂ (λ i j. not (eqb i j)) (before 0 x (omega arith) h) (sym (ring-word 0 x (omega arith) h)))
+        (λ x h. ap₂ (λ i j. not (eqb i j)) (before 0 x (omega arith) h) (sym (bridge-block-word 0 x (omega arith) h)))
 
   bridge-blocks : KindValid t′ (bridgeBlockArea caps) n (bridgeBlock (addEdge g e))
   unfolding condenseGrown
   bridge-blocks =
       kind-same
-      (same-bridge-blocks (behind-rings caps n m t valid room a b ha hb differ within) n (valid .vertices-fit) refl refl refl)
-      (rings-law caps n m t valid room a b ha hb differ within .valid)
+      (same-bridge-blocks (behind-bridge-blocks caps n m t valid room a b ha hb differ within) n (valid .vertices-fit) refl refl refl)
+      (bridge-blocks-law caps n m t valid room a b ha hb differ within .valid)
 
   bridge-block-names : namesIn t′ (bridgeBlockArea caps) n ≡ rename (bridgeBlock g) (bridgeBlock (addEdge g e)) (namesIn t (bridgeBlockArea caps) n)
   unfolding condenseGrown
   bridge-block-names =
       names-same _ t′ (bridgeBlockArea caps) n
-      (same-bridge-blocks (behind-rings caps n m t valid room a b ha hb differ within) n (valid .vertices-fit) refl refl refl)
-      ∙ rings-law caps n m t valid room a b ha hb differ within .names
+      (same-bridge-blocks (behind-bridge-blocks caps n m t valid room a b ha hb differ within) n (valid .vertices-fit) refl refl refl)
+      ∙ bridge-blocks-law caps n m t valid room a b ha hb differ within .names
       ∙ ap (rename (bridgeBlock g) (bridgeBlock (addEdge g e)))
-      (names-same t _ (bridgeBlockArea caps) n (ring-words caps n m t valid room a b ha hb differ within))
+      (names-same t _ (bridgeBlockArea caps) n (bridge-block-words caps n m t valid room a b ha hb differ within))
 
   bridge-blocks-changed : tabulate (grown .bridgeBlocks) (cell t′ (bridgeBlockArea caps) 3)
       ≡ listed n (λ x. not (eqb (nameIn t (bridgeBlockArea caps) x) (nameIn t′ (bridgeBlockArea caps) x)))
   unfolding condenseGrown
   bridge-blocks-changed =
-      rings-written _ _ (grown .bridgeBlocks) (rings-law caps n m t valid room a b ha hb differ within .few)
-      (ring-words caps n m t valid room a b ha hb differ within)
-      (behind-rings caps n m t valid room a b ha hb differ within)
-      (rings-law caps n m t valid room a b ha hb differ within .changed)
+      bridge-blocks-written _ _ (grown .bridgeBlocks) (bridge-blocks-law caps n m t valid room a b ha hb differ within .few)
+      (bridge-block-words caps n m t valid room a b ha hb differ within)
+      (behind-bridge-blocks caps n m t valid room a b ha hb differ within)
+      (bridge-blocks-law caps n m t valid room a b ha hb differ within .changed)
 
   -- blocks
   blocks-changed : tabulate (grown .blocks) (cell t′ (edgeArea caps) 3)

@@ -18,21 +18,21 @@ use Rattle.graph.proofs.Grows.{block-next}
 use Rattle.naming.specs.Rename.{nameOf, candidate, bestOf, rename}
 use Rattle.naming.proofs.Rename.{length-rename}
 use Rattle.naming.proofs.Merge.{inMerged, Merges}
-use Rattle.forest.specs.declared.table.Area.{Area}
-use Rattle.forest.specs.declared.table.Capacities.{Capacities}
-use Rattle.forest.specs.declared.merge.Listing.{Listing}
-use Rattle.forest.specs.Layout.{place, edgeArea}
-use Rattle.forest.specs.Merge.{nameIn, itemOf, bestListed, mergeListed}
+use Rattle.table.specs.declared.words.Area.{Area}
+use Rattle.table.specs.declared.words.Capacities.{Capacities}
+use Rattle.table.specs.declared.merge.Listing.{Listing}
+use Rattle.table.specs.Layout.{place, edgeArea}
+use Rattle.table.specs.Merge.{nameIn, itemOf, bestListed, mergeListed}
+use Rattle.table.specs.KindValid.{namesIn, KindValid}
+use Rattle.table.proofs.Cells.{HasColumns}
+use Rattle.table.proofs.MergeKept.{ListedOutside}
+use Rattle.table.proofs.MergeBest.{name-in-list, length-names, best-listed}
+use Rattle.table.proofs.MergeLaw.{MergedTo}
 use Rattle.forest.specs.Climb.{pathVertex, pathEdge}
 use Rattle.forest.specs.Route.{stepsOf}
 use Rattle.forest.specs.Tree.{pathEdges, enterBlock}
-use Rattle.forest.specs.Valid.{namesIn, KindValid}
-use Rattle.forest.proofs.Cells.{HasColumns}
 use Rattle.forest.proofs.KindWords.{one-name, one-group}
 use Rattle.forest.proofs.Networks.{block-groups}
-use Rattle.forest.proofs.MergeKept.{ListedOutside}
-use Rattle.forest.proofs.MergeBest.{name-in-list, length-names, best-listed}
-use Rattle.forest.proofs.MergeLaw.{MergedTo}
 use Rattle.forest.proofs.CondenseLists.{entry}
 use Rattle.forest.proofs.CondenseMerge.{listedItems, laterItems, items-first, items-are, merge-listed, joined-best, joined-stays, joined-named}
 use Rattle.forest.proofs.CondensePath.{edgesOf, blocks-merge, merged-old}

@@ -15,14 +15,14 @@ use Rattle.naming.specs.Rename.{Grouping, size}
 use Rattle.naming.specs.Naming.{Naming}
 use Rattle.naming.proofs.Count.{count-last-in}
 use Rattle.naming.proofs.Equivalent.{Equivalent, group-swap, size-same, size-others, size-at-most}
-use Rattle.forest.specs.declared.table.Area.{Area}
-use Rattle.forest.specs.declared.table.Capacities.{Capacities}
-use Rattle.forest.specs.Layout.{put, edgeArea}
-use Rattle.forest.specs.Merge.{nameIn, sizeIn, rangeIn, leastOf, greatestOf}
+use Rattle.table.specs.declared.words.Area.{Area}
+use Rattle.table.specs.declared.words.Capacities.{Capacities}
+use Rattle.table.specs.Layout.{put, edgeArea}
+use Rattle.table.specs.Merge.{nameIn, sizeIn, rangeIn, leastOf, greatestOf}
+use Rattle.table.specs.KindValid.{namesIn, KindValid}
+use Rattle.table.proofs.Cells.{HasColumns, length-put, cell-put-same, cell-put-other-column, cell-put-other-item}
 use Rattle.forest.specs.Climb.{topOf}
 use Rattle.forest.specs.Tree.{enterBlock}
-use Rattle.forest.specs.Valid.{namesIn, KindValid}
-use Rattle.forest.proofs.Cells.{HasColumns, length-put, cell-put-same, cell-put-other-column, cell-put-other-item}
 use Rattle.forest.proofs.KindWords.{name-known}
 use Rattle.forest.proofs.Frames.{Frame, _then_, frame-edge}
 

@@ -7,8 +7,7 @@ use Prim.Native.Nat.{ℕ, suc, _≤_, _<_}
 use native.Mathlib.Omega.{arith}
 use Rattle.graph.specs.Network.{Network, Edge, Proper, edge, edgeCount, touches, addEdge}
 use Rattle.graph.specs.Groups.{component}
-use Rattle.graph.specs.Block.{block}
-use Rattle.graph.specs.BlockPath.{onBlock}
+use Rattle.graph.specs.Block.{block, onBlock}
 use Rattle.graph.proofs.Truth.{true-or-false}
 use Rattle.graph.proofs.Below.{below-or-last}
 use Rattle.graph.proofs.Joined.{edge-old, edge-new}
@@ -20,7 +19,7 @@ use Rattle.graph.proofs.Grows.{block-grows}
 use Rattle.graph.proofs.Grows.{on-block-grows}
 use Rattle.naming.specs.Rename.{size}
 use Rattle.naming.proofs.Equivalent.{size-agree}
-use Rattle.forest.specs.declared.table.Capacities.{Capacities}
+use Rattle.table.specs.declared.words.Capacities.{Capacities}
 use Rattle.forest.specs.Climb.{upOf, depthOf, aboveEdge}
 use Rattle.forest.specs.Valid.{HangsBelow, ForestValid}
 

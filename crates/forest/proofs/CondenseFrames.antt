@@ -11,12 +11,12 @@ use lib.Dec.{ltb}
 use Rattle.graph.specs.Network.{Network}
 use Rattle.graph.proofs.Truth.{true-or-false, not-both, or-neither, and-left, and-right, ne-eqb, ltb-lt, ltb-ge}
 use Rattle.graph.proofs.Ends.{touched-known}
-use Rattle.forest.specs.declared.table.Capacities.{Capacities}
-use Rattle.forest.specs.Layout.{place, cell, bridgeBlockArea, edgeArea}
+use Rattle.table.specs.declared.words.Capacities.{Capacities}
+use Rattle.table.specs.Layout.{place, cell, bridgeBlockArea, edgeArea}
+use Rattle.table.proofs.MergeKept.{Outside, Kept}
 use Rattle.forest.specs.Climb.{upOf, depthOf, aboveEdge}
 use Rattle.forest.specs.Valid.{networkOf, HangsBelow, ForestValid, Valid}
 use Rattle.forest.proofs.KindWords.{name-known, kind-same}
-use Rattle.forest.proofs.MergeKept.{Outside, Kept}
 use Rattle.forest.proofs.Networks.{network-same, edge-count}
 use Rattle.forest.proofs.Frames.{among, Frame, same-components, same-bridge-blocks, same-blocks, same-above}
 
@@ -55,9 +55,9 @@ place-behind : (size c k x : ℕ) → k ≤ c → k * size ≤ 0 + c * size + x
 place-behind size c k x h = omega (arith, mul-le-mul-right size h)
 
 -- merging bridge-blocks stores in their columns
-pub frame-merge-rings : (caps : Capacities) {t t′ : List ℕ} → Kept (bridgeBlockArea caps) t t′ → Frame caps (4 ∷ 5 ∷ 6 ∷ 7 ∷ []) [] t t′
+pub frame-merge-bridge-blocks : (caps : Capacities) {t t′ : List ℕ} → Kept (bridgeBlockArea caps) t t′ → Frame caps (4 ∷ 5 ∷ 6 ∷ 7 ∷ []) [] t t′
 unfolding cell place
-frame-merge-rings caps k =
+frame-merge-bridge-blocks caps k =
     record {
       same-length = k .same-length;
       vertex-word = λ c x h l o. k .outside _ (apart c x l o (true-or-false (ltb c 4)));

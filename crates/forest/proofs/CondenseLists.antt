@@ -12,8 +12,8 @@ use Rattle.graph.proofs.Below.{below-or-last}
 use Rattle.naming.specs.Rename.{Grouping}
 use Rattle.naming.proofs.Listed.{tabulate-same}
 use Rattle.naming.proofs.Merge.{inMerged}
-use Rattle.forest.specs.declared.merge.Listing.{Listing}
-use Rattle.forest.specs.Merge.{itemOf, itemsFrom}
+use Rattle.table.specs.declared.merge.Listing.{Listing}
+use Rattle.table.specs.Merge.{itemOf, itemsFrom}
 
 -- the first entry of a list of values, and the others
 pub tabulate-first {ℓ} : {A : Type ℓ} (k : ℕ) (f : ℕ → A) → tabulate (suc k) f ≡ f 0 ∷ tabulate k (λ i. f (suc i))

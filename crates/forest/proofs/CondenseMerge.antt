@@ -13,13 +13,13 @@ use Rattle.naming.proofs.Listed.{tabulate-same}
 use Rattle.naming.proofs.Naming.{naming-new-item, nameOf-old}
 use Rattle.naming.proofs.Merge.{inMerged, Merges, merge-best, merge-stays}
 use Rattle.naming.proofs.Single.{new-item-never-wins}
-use Rattle.forest.specs.declared.table.Area.{Area}
-use Rattle.forest.specs.declared.merge.Listing.{Listing}
-use Rattle.forest.specs.Merge.{itemOf, itemsFrom, bestListed, mergeListed}
-use Rattle.forest.specs.Valid.{KindValid}
-use Rattle.forest.proofs.Cells.{HasColumns}
-use Rattle.forest.proofs.MergeKept.{ListedOutside}
-use Rattle.forest.proofs.MergeLaw.{MergedTo, merge-law, naming-merged}
+use Rattle.table.specs.declared.words.Area.{Area}
+use Rattle.table.specs.declared.merge.Listing.{Listing}
+use Rattle.table.specs.Merge.{itemOf, itemsFrom, bestListed, mergeListed}
+use Rattle.table.specs.KindValid.{KindValid}
+use Rattle.table.proofs.Cells.{HasColumns}
+use Rattle.table.proofs.MergeKept.{ListedOutside}
+use Rattle.table.proofs.MergeLaw.{MergedTo, merge-law, naming-merged}
 use Rattle.forest.proofs.CondenseLists.{tabulate-first, items-tabulate}
 
 -- The items of a listing, as a list of values.

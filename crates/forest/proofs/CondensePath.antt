@@ -13,10 +13,10 @@ use Rattle.graph.specs.BlockPath.{BlockPath}
 use Rattle.graph.proofs.Truth.{ne-eqb, eqb-swap}
 use Rattle.graph.proofs.Grows.{block-next}
 use Rattle.graph.proofs.EdgeMoreBlocks.{onPath, joinsPath, block-edge-within}
-use Rattle.graph.proofs.EdgeMoreRings.{onRings}
+use Rattle.graph.proofs.EdgeMoreBridgeBlocks.{onBridgeBlocks}
 use Rattle.graph.proofs.BaseRule.{bridge-block-edge-within-never}
 use Rattle.naming.proofs.Merge.{inMerged}
-use Rattle.forest.specs.declared.table.Capacities.{Capacities}
+use Rattle.table.specs.declared.words.Capacities.{Capacities}
 use Rattle.forest.specs.Climb.{pathVertex, pathEdge}
 use Rattle.forest.specs.Route.{stepAt, stepsOf}
 use Rattle.forest.proofs.CondenseLists.{tabulate-first, map-tabulate, in-merged-steps}
@@ -49,9 +49,9 @@ module _ (g : Network) (a b : ℕ) (caps : Capacities) (t : List ℕ) (k : ℕ)
   on-path-merged s = sym (in-merged-steps (block g) (λ p. p .along) steps s) ∙ ap (λ (l : List ℕ). inMerged (block g) l s) edges-are
 
   -- a vertex is in the bridge-block of a vertex of the path
-  on-rings-merged : (x : ℕ) → onRings g a steps x ≡ inMerged (bridgeBlock g) (verticesOf t caps (suc k)) x
-  unfolding onRings inMerged
-  on-rings-merged x =
+  on-bridge-blocks-merged : (x : ℕ) → onBridgeBlocks g a steps x ≡ inMerged (bridgeBlock g) (verticesOf t caps (suc k)) x
+  unfolding onBridgeBlocks inMerged
+  on-bridge-blocks-merged x =
       ap (λ (c : Bool). bridgeBlock g a x || c) (sym (in-merged-steps (bridgeBlock g) (λ p. p .to) steps x))
       ∙ ap (λ (l : List ℕ). inMerged (bridgeBlock g) l x) vertices-are
 
@@ -60,13 +60,13 @@ module _ (g : Network) (a b : ℕ) (caps : Capacities) (t : List ℕ) (k : ℕ)
     e = record { left = a; right = b }
 
     -- with one edge more between its ends, the bridge-blocks of the path's vertices become one
-    pub rings-merge : (x y : ℕ)
+    pub bridge-blocks-merge : (x y : ℕ)
         → bridgeBlock (addEdge g (record { left = a; right = b })) x y
         ≡ (bridgeBlock g x y
         || (inMerged (bridgeBlock g) (verticesOf t caps (suc k)) x && inMerged (bridgeBlock g) (verticesOf t caps (suc k)) y))
-    rings-merge x y =
+    bridge-blocks-merge x y =
         bridge-block-edge-within-never g e proper none path x y
-        ∙ ap₂ (λ c d. bridgeBlock g x y || (c && d)) (on-rings-merged x) (on-rings-merged y)
+        ∙ ap₂ (λ c d. bridgeBlock g x y || (c && d)) (on-bridge-blocks-merged x) (on-bridge-blocks-merged y)
 
     joins-merged : (s : ℕ) → joinsPath g steps s ≡ inMerged (block g) (edgeCount g ∷ edgesOf t caps k) s
     unfolding joinsPath inMerged

@@ -14,23 +14,24 @@ use Rattle.graph.proofs.VertexMore.{proper-edge-more}
 use Rattle.naming.specs.Rename.{rename}
 use Rattle.naming.proofs.Listed.{tabulate-same}
 use Rattle.naming.proofs.Merge.{inMerged, holder, held}
-use Rattle.forest.specs.declared.table.Capacities.{Capacities}
+use Rattle.table.specs.declared.words.Capacities.{Capacities}
+use Rattle.table.specs.Layout.{cell, bridgeBlockArea, edgeArea}
+use Rattle.table.specs.Merge.{Renamed, nameIn, bestListed, mergeListed}
+use Rattle.table.specs.KindValid.{namesIn, KindValid}
+use Rattle.table.proofs.Cells.{HasColumns, cell-put-other-item}
+use Rattle.table.proofs.MergeLaw.{MergedTo}
 use Rattle.forest.specs.declared.climb.Route.{Route}
-use Rattle.forest.specs.Layout.{cell, bridgeBlockArea, edgeArea}
-use Rattle.forest.specs.Merge.{Renamed, nameIn, bestListed, mergeListed}
 use Rattle.forest.specs.Climb.{topOf, aboveEdge, pathVertex, pathEdge, climbTable, climbRoute}
 use Rattle.forest.specs.Route.{stepAt, stepsOf}
 use Rattle.forest.specs.Tree.{pathVertices, pathEdges, endsTable, enterBlock}
-use Rattle.forest.specs.Valid.{networkOf, namesIn, KindValid, ForestValid, Valid}
-use Rattle.forest.proofs.Cells.{HasColumns, cell-put-other-item}
+use Rattle.forest.specs.Valid.{networkOf, ForestValid, Valid}
 use Rattle.forest.proofs.KindWords.{SameWords, name-known, names-same, one-group, kind-same}
 use Rattle.forest.proofs.Networks.{network-same, edge-count, vertex-count}
 use Rattle.forest.proofs.Frames.{among, Frame, _then_, frame-edge, same-bridge-blocks, same-blocks}
-use Rattle.forest.proofs.MergeLaw.{MergedTo}
 use Rattle.forest.proofs.ClimbLaw.{Climbs, climb-law}
-use Rattle.forest.proofs.CondenseFrames.{frame-more, frame-merge-rings, frame-merge-blocks, valid-kept}
+use Rattle.forest.proofs.CondenseFrames.{frame-more, frame-merge-bridge-blocks, frame-merge-blocks, valid-kept}
 use Rattle.forest.proofs.CondensePath.{edgesOf, verticesOf}
-use Rattle.forest.proofs.CondenseRings.{rings-merged}
+use Rattle.forest.proofs.CondenseBridgeBlocks.{bridge-blocks-merged}
 use Rattle.forest.proofs.CondenseBlocks.{blocks-merged, with-new, blocks-names, blocks-valid}
 use Rattle.forest.proofs.CondenseEnter.{frame-enter, enter-name, enter-name-old, enter-top, enter-top-old}
 use Rattle.forest.proofs.CondenseForest.{PathTop, Lifted, forest-condensed}
@@ -80,11 +81,11 @@ module _ (caps : Capacities) (n m : ℕ) (t : List ℕ) (valid : Valid caps n m 
   abbrev t₂ : List ℕ
   t₂ = climbTable t₁ caps a b
 
-  abbrev rings : Renamed
-  rings = mergeListed t₂ (bridgeBlockArea caps) (pathVertices caps (k + 1))
+  abbrev renamed-vertices : Renamed
+  renamed-vertices = mergeListed t₂ (bridgeBlockArea caps) (pathVertices caps (k + 1))
 
   abbrev t₃ : List ℕ
-  t₃ = rings .table
+  t₃ = renamed-vertices .table
 
   abbrev blocks : Renamed
   blocks = mergeListed t₃ (edgeArea caps) (pathEdges caps k)
@@ -141,41 +142,41 @@ module _ (caps : Capacities) (n m : ℕ) (t : List ℕ) (valid : Valid caps n m 
   to-path = frame-more ends-step refl refl then frame-more (climbs .frame) refl refl
 
   -- the bridge-blocks of the path's vertices merged
-  pub rings-law : MergedTo t₂ (bridgeBlockArea caps) n (bridgeBlock g) (bridgeBlock (addEdge g e)) (verticesOf t₂ caps (suc k))
-      (bestListed t₂ (bridgeBlockArea caps) (pathVertices caps (k + 1))) t₃ (rings .count)
-  rings-law =
-      rings-merged caps n t₂ k g a b (omega (arith, to-path .same-length, valid .long)) (valid .vertices-fit)
+  pub bridge-blocks-law : MergedTo t₂ (bridgeBlockArea caps) n (bridgeBlock g) (bridgeBlock (addEdge g e)) (verticesOf t₂ caps (suc k))
+      (bestListed t₂ (bridgeBlockArea caps) (pathVertices caps (k + 1))) t₃ (renamed-vertices .count)
+  bridge-blocks-law =
+      bridge-blocks-merged caps n t₂ k g a b (omega (arith, to-path .same-length, valid .long)) (valid .vertices-fit)
       (omega (arith, valid .vertices-fit, valid .small-vertices))
       (kind-same (same-bridge-blocks to-path n (valid .vertices-fit) refl refl refl) (valid .bridge-blocks))
       (climbs .path) (climbs .start) (climbs .vertices-known) (valid .proper) none proper′
 
-  rings-step : Frame caps (4 ∷ 5 ∷ 6 ∷ 7 ∷ []) [] t₂ t₃
-  rings-step = frame-merge-rings caps (rings-law .kept)
+  bridge-blocks-step : Frame caps (4 ∷ 5 ∷ 6 ∷ 7 ∷ []) [] t₂ t₃
+  bridge-blocks-step = frame-merge-bridge-blocks caps (bridge-blocks-law .kept)
 
-  ends-to-rings : Frame caps (4 ∷ 5 ∷ 6 ∷ 7 ∷ 10 ∷ 11 ∷ 12 ∷ 13 ∷ []) [] t₁ t₃
-  ends-to-rings = frame-more (climbs .frame) refl refl then frame-more rings-step refl refl
+  ends-to-bridge-blocks : Frame caps (4 ∷ 5 ∷ 6 ∷ 7 ∷ 10 ∷ 11 ∷ 12 ∷ 13 ∷ []) [] t₁ t₃
+  ends-to-bridge-blocks = frame-more (climbs .frame) refl refl then frame-more bridge-blocks-step refl refl
 
-  to-rings : Frame caps (4 ∷ 5 ∷ 6 ∷ 7 ∷ 10 ∷ 11 ∷ 12 ∷ 13 ∷ []) (4 ∷ []) t t₃
-  to-rings = frame-more ends-step refl refl then frame-more ends-to-rings refl refl
+  to-bridge-blocks : Frame caps (4 ∷ 5 ∷ 6 ∷ 7 ∷ 10 ∷ 11 ∷ 12 ∷ 13 ∷ []) (4 ∷ []) t t₃
+  to-bridge-blocks = frame-more ends-step refl refl then frame-more ends-to-bridge-blocks refl refl
 
   -- no word of a block changes before the blocks are merged
   pub block-words : SameWords t t₃ (edgeArea caps) m
-  block-words = same-blocks to-rings m (valid .edges-fit) refl refl refl
+  block-words = same-blocks to-bridge-blocks m (valid .edges-fit) refl refl refl
 
   valid₃ : KindValid t₃ (edgeArea caps) m (block g)
   valid₃ = kind-same block-words (valid .blocks)
 
   path₃ : BlockPath g a (stepsOf t₃ caps k) b
-  path₃ = subst (λ ps. BlockPath g a ps b) (sym (steps-same caps k rings-step refl refl few)) (climbs .path)
+  path₃ = subst (λ ps. BlockPath g a ps b) (sym (steps-same caps k bridge-blocks-step refl refl few)) (climbs .path)
 
   start₃ : pathVertex t₃ caps 0 ≡ a
-  start₃ = rings-step .vertex-word 10 0 (omega arith) (omega (arith, few)) refl ∙ climbs .start
+  start₃ = bridge-blocks-step .vertex-word 10 0 (omega arith) (omega (arith, few)) refl ∙ climbs .start
 
   edges₃ : (i : ℕ) → i < k → pathEdge t₃ caps i < m
-  edges₃ i h = rw (rings-step .vertex-word 11 i (omega arith) (omega (arith, few)) refl) (climbs .edges-known i h)
+  edges₃ i h = rw (bridge-blocks-step .vertex-word 11 i (omega arith) (omega (arith, few)) refl) (climbs .edges-known i h)
 
   columns₃ : HasColumns t₃ (edgeArea caps) 8
-  columns₃ = omega (arith, to-rings .same-length, valid .long)
+  columns₃ = omega (arith, to-bridge-blocks .same-length, valid .long)
 
   small : m < 65536
   small = omega (arith, valid .small-edges)
@@ -213,20 +214,20 @@ module _ (caps : Capacities) (n m : ℕ) (t : List ℕ) (valid : Valid caps n m 
   valid-with-new = blocks-valid caps m t₃ k g a b columns₃ room small valid₃ path₃ start₃ some few edges₃ count (valid .proper) none proper′ v
 
   -- what changes after the bridge-blocks are merged
-  pub behind-rings : Frame caps [] (0 ∷ 1 ∷ 2 ∷ 3 ∷ 5 ∷ []) t₃ t₅
-  behind-rings = frame-more blocks-step refl refl then frame-more enter-step refl refl
+  pub behind-bridge-blocks : Frame caps [] (0 ∷ 1 ∷ 2 ∷ 3 ∷ 5 ∷ []) t₃ t₅
+  behind-bridge-blocks = frame-more blocks-step refl refl then frame-more enter-step refl refl
 
   -- what changes after the ends are stored
   pub behind-ends : Frame caps (4 ∷ 5 ∷ 6 ∷ 7 ∷ 10 ∷ 11 ∷ 12 ∷ 13 ∷ []) (0 ∷ 1 ∷ 2 ∷ 3 ∷ 5 ∷ []) t₁ t₅
-  behind-ends = frame-more ends-to-rings refl refl then frame-more behind-rings refl refl
+  behind-ends = frame-more ends-to-bridge-blocks refl refl then frame-more behind-bridge-blocks refl refl
 
   -- all that changes
   pub whole : Frame caps (4 ∷ 5 ∷ 6 ∷ 7 ∷ 10 ∷ 11 ∷ 12 ∷ 13 ∷ []) (0 ∷ 1 ∷ 2 ∷ 3 ∷ 4 ∷ 5 ∷ []) t t₅
   whole = frame-more ends-step refl refl then frame-more behind-ends refl refl
 
   -- no word of a bridge-block changes before the bridge-blocks are merged
-  pub ring-words : SameWords t t₂ (bridgeBlockArea caps) n
-  ring-words = same-bridge-blocks to-path n (valid .vertices-fit) refl refl refl
+  pub bridge-block-words : SameWords t t₂ (bridgeBlockArea caps) n
+  bridge-block-words = same-bridge-blocks to-path n (valid .vertices-fit) refl refl refl
 
   -- the edges in blocks of the path
   abbrev on : ℕ → Bool
@@ -234,14 +235,14 @@ module _ (caps : Capacities) (n m : ℕ) (t : List ℕ) (valid : Valid caps n m 
 
   top : PathTop t₁ caps n m g on a b v
   top =
-      subst (λ (is : List ℕ). PathTop t₁ caps n m g (inMerged (block g) is) a b v) (sym (edges-same caps k rings-step refl few))
+      subst (λ (is : List ℕ). PathTop t₁ caps n m g (inMerged (block g) is) a b v) (sym (edges-same caps k bridge-blocks-step refl few))
       (path-top caps n m t₁ t₂ g a b r (rw same-network at (valid₁ .blocks)) climbs some)
 
   top-is : topOf t₅ caps w ≡ v
   top-is = enter-top t₄ caps m w v columns₄ room (blocks-law .known)
 
   to-blocks : Frame caps (4 ∷ 5 ∷ 6 ∷ 7 ∷ 10 ∷ 11 ∷ 12 ∷ 13 ∷ []) (0 ∷ 1 ∷ 2 ∷ 3 ∷ []) t₁ t₄
-  to-blocks = frame-more ends-to-rings refl refl then frame-more blocks-step refl refl
+  to-blocks = frame-more ends-to-bridge-blocks refl refl then frame-more blocks-step refl refl
 
   lifted : Lifted t₁ t₅ caps n m on v
   unfolding aboveEdge
@@ -269,7 +270,7 @@ module _ (caps : Capacities) (n m : ℕ) (t : List ℕ) (valid : Valid caps n m 
           o
 
       same-name : (x : ℕ) → x < m → nameIn t₃ (edgeArea caps) x ≡ nameIn t₁ (edgeArea caps) x
-      same-name x h = ends-to-rings .edge-word 0 x (omega arith) (omega arith) refl
+      same-name x h = ends-to-bridge-blocks .edge-word 0 x (omega arith) (omega arith) refl
 
   -- the block forest is valid
   pub forest-after : ForestValid t₅ caps n (suc m) (addEdge g e)

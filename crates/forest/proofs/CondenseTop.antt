@@ -8,11 +8,11 @@ use Rattle.graph.specs.Network.{Network}
 use Rattle.graph.specs.Block.{block}
 use Rattle.graph.proofs.Block.{block-refl}
 use Rattle.naming.proofs.Merge.{inMerged, holder, held}
-use Rattle.forest.specs.declared.table.Capacities.{Capacities}
+use Rattle.table.specs.declared.words.Capacities.{Capacities}
+use Rattle.table.specs.Layout.{edgeArea}
+use Rattle.table.specs.KindValid.{KindValid}
 use Rattle.forest.specs.declared.climb.Route.{Route}
-use Rattle.forest.specs.Layout.{edgeArea}
 use Rattle.forest.specs.Climb.{topOf, aboveEdge, pathEdge}
-use Rattle.forest.specs.Valid.{KindValid}
 use Rattle.forest.proofs.KindWords.{one-name}
 use Rattle.forest.proofs.ClimbLaw.{HangsBelowPath, BlockBelow, Climbs}
 use Rattle.forest.proofs.CondenseLists.{entry, value-member}

@@ -10,9 +10,10 @@ use Rattle.graph.specs.Network.{Network, Proper, never, edgeCount}
 use Rattle.naming.specs.Rename.{Grouping}
 use Rattle.naming.specs.Book.{emptyBook}
 use Rattle.naming.proofs.Naming.{naming-none}
-use Rattle.forest.specs.declared.table.Capacities.{Capacities}
-use Rattle.forest.specs.declared.table.Area.{Area}
-use Rattle.forest.specs.Valid.{networkOf, namesIn, bookOf, KindValid, ForestValid, Valid}
+use Rattle.table.specs.declared.words.Capacities.{Capacities}
+use Rattle.table.specs.declared.words.Area.{Area}
+use Rattle.table.specs.KindValid.{namesIn, KindValid}
+use Rattle.forest.specs.Valid.{networkOf, bookOf, ForestValid, Valid}
 use Rattle.forest.proofs.Networks.{edge-count}
 
 -- no items of a kind

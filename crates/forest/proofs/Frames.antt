@@ -8,12 +8,12 @@ use native.Mathlib.Omega.{arith}
 use lib.Dec.{eqb}
 use lib.ListN.{length, getD}
 use Rattle.graph.proofs.Truth.{not-both}
-use Rattle.forest.specs.declared.table.Capacities.{Capacities}
-use Rattle.forest.specs.Layout.{place, cell, put, vertexArea, bridgeBlockArea, edgeArea}
+use Rattle.table.specs.declared.words.Capacities.{Capacities}
+use Rattle.table.specs.Layout.{place, cell, put, vertexArea, bridgeBlockArea, edgeArea}
+use Rattle.table.proofs.Cells.{length-put, cell-put-other-column, getD-put-outside, cell-edge-after-vertex, cell-vertex-after-edge, cell-bridge-block, put-bridge-block}
+use Rattle.table.proofs.MergeKept.{Kept}
 use Rattle.forest.specs.Climb.{blockOf, aboveEdge}
 use Rattle.forest.specs.Tree.{newGroup}
-use Rattle.forest.proofs.Cells.{length-put, cell-put-other-column, getD-put-outside, cell-edge-after-vertex, cell-vertex-after-edge, cell-bridge-block, put-bridge-block}
-use Rattle.forest.proofs.MergeKept.{Kept}
 use Rattle.forest.proofs.KindWords.{SameWords}
 
 -- Column c is among those listed.

@@ -7,7 +7,6 @@ use Prim.Native.Nat.{ℕ, suc, _+_, _*_, _%_, _≤_, _<_}
 use native.Mathlib.Nat.{le-refl}
 use native.Mathlib.Omega.{arith}
 use lib.Dec.{eqb}
-use lib.ListN.{length}
 use Rattle.graph.specs.Below.{tabulate}
 use Rattle.graph.proofs.Truth.{true-or-false, eqb-eq, eqb-ne}
 use Rattle.graph.proofs.Below.{below-or-last}
@@ -16,13 +15,13 @@ use Rattle.naming.proofs.Listed.{getD-tabulate, tabulate-same}
 use Rattle.naming.proofs.Equivalent.{Equivalent, group-swap, size-agree, size-others, size-alone}
 use Rattle.naming.proofs.Rename.{AgreeBelow}
 use Rattle.naming.proofs.Naming.{naming-agree, naming-new-item}
-use Rattle.forest.specs.declared.table.Area.{Area}
-use Rattle.forest.specs.Layout.{cell, put}
-use Rattle.forest.specs.Merge.{nameIn, sizeIn, rangeIn, leastOf, greatestOf}
+use Rattle.table.specs.declared.words.Area.{Area}
+use Rattle.table.specs.Layout.{cell, put}
+use Rattle.table.specs.Merge.{nameIn, sizeIn, rangeIn, leastOf, greatestOf}
+use Rattle.table.specs.KindValid.{namesIn, KindValid}
+use Rattle.table.proofs.Halves.{high-half, low-half}
+use Rattle.table.proofs.Cells.{HasColumns, length-put, cell-put-same, cell-put-other-column, cell-put-other-item}
 use Rattle.forest.specs.Tree.{newGroup}
-use Rattle.forest.specs.Valid.{namesIn, KindValid}
-use Rattle.forest.proofs.Halves.{high-half, low-half}
-use Rattle.forest.proofs.Cells.{HasColumns, length-put, cell-put-same, cell-put-other-column, cell-put-other-item}
 
 -- Two tables agree on the names, sizes and ranges of the items below n.
 abbrev pub SameWords : List ℕ → List ℕ → Area → ℕ → Type 0
@@ -81,11 +80,6 @@ kind-agree {t} {area} {n} {groups} {groups′} agree k =
       to-greatest = k .to-greatest;
       range-known = k .range-known;
     }
-
--- a new group keeps the table's length
-pub length-new-group : (t : List ℕ) (area : Area) (x : ℕ) → length (newGroup t area x) ≡ length t
-unfolding newGroup
-length-new-group t area x = simp length-put
 
 -- a store leaves the words of other items
 pub cell-put-elsewhere : (t : List ℕ) (area : Area) (c x v c′ x′ : ℕ) → x < area .size → x′ < area .size → (x ≡ x′ → ⊥)

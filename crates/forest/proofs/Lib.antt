@@ -1,7 +1,6 @@
 pub mod AddEdge
 pub mod AddVertex
 pub mod Beyond
-pub mod Cells
 pub mod ClimbJoin
 pub mod ClimbKept
 pub mod ClimbLaw
@@ -21,13 +20,11 @@ pub mod CondenseFrames
 pub mod CondenseLists
 pub mod CondenseMerge
 pub mod CondensePath
-pub mod CondenseRings
+pub mod CondenseBridgeBlocks
 pub mod CondenseTables
 pub mod CondenseTop
 pub mod EmptyTable
-pub mod Fits
 pub mod Frames
-pub mod Halves
 pub mod KindWords
 pub mod Link
 pub mod LinkDepth
@@ -36,14 +33,6 @@ pub mod LinkHang
 pub mod LinkMerge
 pub mod LinkSides
 pub mod LinkTable
-pub mod MergeAbsorb
-pub mod MergeAbsorbed
-pub mod MergeBest
-pub mod MergeKept
-pub mod MergeLaw
-pub mod MergeOutcome
-pub mod MergeRename
-pub mod MergeSteps
 pub mod NamesStay
 pub mod Networks
 pub mod QueryBridges

@@ -17,16 +17,17 @@ use Rattle.naming.specs.Rename.{nameOf, rename}
 use Rattle.naming.specs.Book.{enterEdge}
 use Rattle.naming.proofs.Naming.{nameOf-old, nameOf-new}
 use Rattle.naming.proofs.Listed.{tabulate-same}
-use Rattle.forest.specs.declared.table.Capacities.{Capacities}
-use Rattle.forest.specs.Layout.{cell, vertexArea, bridgeBlockArea, edgeArea}
-use Rattle.forest.specs.Merge.{nameIn, bestListed, mergeListed}
+use Rattle.table.specs.declared.words.Capacities.{Capacities}
+use Rattle.table.specs.Layout.{cell, vertexArea, bridgeBlockArea, edgeArea}
+use Rattle.table.specs.Merge.{nameIn, bestListed, mergeListed}
+use Rattle.table.specs.KindValid.{namesIn, KindValid}
+use Rattle.table.proofs.MergeLaw.{MergedTo}
 use Rattle.forest.specs.Tree.{Grown, pathVertices, listEnds, endsTable, linkGrown}
-use Rattle.forest.specs.Valid.{networkOf, namesIn, bookOf, KindValid, ForestValid, Valid}
+use Rattle.forest.specs.Valid.{networkOf, bookOf, ForestValid, Valid}
 use Rattle.forest.proofs.KindWords.{SameWords, names-same, name-in, kind-same, kind-agree}
 use Rattle.forest.proofs.Networks.{network-same, network-rule, edge-count, book-is}
 use Rattle.forest.proofs.NamesStay.{rename-stays}
 use Rattle.forest.proofs.Frames.{among, Frame, _then_, same-components, same-bridge-blocks}
-use Rattle.forest.proofs.MergeLaw.{MergedTo}
 use Rattle.forest.proofs.LinkMerge.{ends-frame, before-merge, law}
 use Rattle.forest.proofs.LinkForest.{linked-forest, linked-frame, linked-blocks, linked-block-names}
 use Rattle.forest.proofs.LinkTable.{network-linked, merged-frame, linking}
@@ -147,19 +148,19 @@ module _ (caps : Capacities) (n m : ℕ) (t : List ℕ) (valid : Valid caps n m 
       (λ x h. ap₂ (λ i j. not (eqb i j)) (before 0 x (omega arith) h) (sym (after-merge 0 x (omega arith) h)))
 
   -- bridge-blocks
-  same-rings : SameWords t t′ (bridgeBlockArea caps) n
-  same-rings = same-bridge-blocks whole n (valid .vertices-fit) refl refl refl
+  same-bridge-block-words : SameWords t t′ (bridgeBlockArea caps) n
+  same-bridge-block-words = same-bridge-blocks whole n (valid .vertices-fit) refl refl refl
 
-  rings-agree : (x y : ℕ) → bridgeBlock g x y ≡ bridgeBlock (addEdge g e) x y
-  rings-agree x y = sym (bridge-block-between g e (network-rule caps n m t) apart x y)
+  bridge-blocks-agree : (x y : ℕ) → bridgeBlock g x y ≡ bridgeBlock (addEdge g e) x y
+  bridge-blocks-agree x y = sym (bridge-block-between g e (network-rule caps n m t) apart x y)
 
-  rings : KindValid t′ (bridgeBlockArea caps) n (bridgeBlock (addEdge g e))
-  rings = kind-agree (λ x y h k. rings-agree x y) (kind-same same-rings (valid .bridge-blocks))
+  bridge-blocks-named : KindValid t′ (bridgeBlockArea caps) n (bridgeBlock (addEdge g e))
+  bridge-blocks-named = kind-agree (λ x y h k. bridge-blocks-agree x y) (kind-same same-bridge-block-words (valid .bridge-blocks))
 
-  ring-names : namesIn t′ (bridgeBlockArea caps) n ≡ rename (bridgeBlock g) (bridgeBlock (addEdge g e)) (namesIn t (bridgeBlockArea caps) n)
-  ring-names =
-      names-same t t′ (bridgeBlockArea caps) n same-rings
-      ∙ sym (rename-stays (bridgeBlock g) (bridgeBlock (addEdge g e)) (namesIn t (bridgeBlockArea caps) n) (λ x y h k. rings-agree x y))
+  bridge-block-names : namesIn t′ (bridgeBlockArea caps) n ≡ rename (bridgeBlock g) (bridgeBlock (addEdge g e)) (namesIn t (bridgeBlockArea caps) n)
+  bridge-block-names =
+      names-same t t′ (bridgeBlockArea caps) n same-bridge-block-words
+      ∙ sym (rename-stays (bridgeBlock g) (bridgeBlock (addEdge g e)) (namesIn t (bridgeBlockArea caps) n) (λ x y h k. bridge-blocks-agree x y))
 
   -- blocks
   blocks : KindValid t′ (edgeArea caps) (suc m) (block (addEdge g e))
@@ -212,15 +213,15 @@ module _ (caps : Capacities) (n m : ℕ) (t : List ℕ) (valid : Valid caps n m 
               edges-fit = room;
               proper = rw network-more (linking caps n m t valid room a b ha hb apart .proper);
               components = rw network-more components;
-              bridge-blocks = rw network-more rings;
+              bridge-blocks = rw network-more bridge-blocks-named;
               blocks = rw network-more blocks;
               forest = rw network-more forest;
             };
-        book = book-is network-more component-names ring-names block-names;
+        book = book-is network-more component-names bridge-block-names block-names;
         changed = changed;
         no-bridge-block = refl;
         no-block = refl;
-        bridge-block-stays = λ x h. same-rings 0 x (omega arith) h;
+        bridge-block-stays = λ x h. same-bridge-block-words 0 x (omega arith) h;
         block-stays = old-block;
         block-is = refl;
         block-new = new-block;

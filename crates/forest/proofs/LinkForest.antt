@@ -8,8 +8,7 @@ use native.Mathlib.Nat.{mod-eq-of-lt, le-refl}
 use native.Mathlib.Omega.{arith}
 use Rattle.graph.specs.Network.{Network, Edge, addEdge, edge, edgeCount, touches}
 use Rattle.graph.specs.Groups.{component}
-use Rattle.graph.specs.Block.{block}
-use Rattle.graph.specs.BlockPath.{onBlock}
+use Rattle.graph.specs.Block.{block, onBlock}
 use Rattle.graph.proofs.Truth.{true-or-false, not-both}
 use Rattle.graph.proofs.Below.{below-or-last}
 use Rattle.graph.proofs.Joined.{edge-old, edge-new, edge-count-more}
@@ -21,11 +20,12 @@ use Rattle.graph.proofs.EdgeMore.{block-edge-between}
 use Rattle.graph.proofs.Grows.{on-block-grows}
 use Rattle.naming.specs.Rename.{size}
 use Rattle.naming.proofs.Equivalent.{group-same}
-use Rattle.forest.specs.declared.table.Capacities.{Capacities}
-use Rattle.forest.specs.Layout.{edgeArea}
+use Rattle.table.specs.declared.words.Capacities.{Capacities}
+use Rattle.table.specs.Layout.{edgeArea}
+use Rattle.table.specs.KindValid.{namesIn, KindValid}
 use Rattle.forest.specs.Climb.{upOf, depthOf, topOf, aboveEdge}
 use Rattle.forest.specs.Tree.{turnFrom, hangTable}
-use Rattle.forest.specs.Valid.{networkOf, namesIn, HangsBelow, KindValid, ForestValid}
+use Rattle.forest.specs.Valid.{networkOf, HangsBelow, ForestValid}
 use Rattle.forest.proofs.KindWords.{SameWords, one-name, names-same, kind-same}
 use Rattle.forest.proofs.Networks.{component-groups, edge-count}
 use Rattle.forest.proofs.Frames.{among, Frame, _then_, same-blocks}

@@ -16,12 +16,13 @@ use Rattle.graph.proofs.Truth.{ne-eqb}
 use Rattle.graph.proofs.EdgeMore.{block-edge-between}
 use Rattle.graph.proofs.Grows.{block-next}
 use Rattle.naming.specs.Rename.{size}
-use Rattle.forest.specs.declared.table.Capacities.{Capacities}
-use Rattle.forest.specs.Layout.{cell, put, vertexArea, edgeArea}
+use Rattle.table.specs.declared.words.Capacities.{Capacities}
+use Rattle.table.specs.Layout.{cell, put, vertexArea, edgeArea}
+use Rattle.table.specs.KindValid.{namesIn, KindValid}
+use Rattle.table.proofs.Cells.{HasColumns, cell-put-same, cell-put-other-column}
 use Rattle.forest.specs.Climb.{upOf, depthOf, blockOf, aboveEdge}
 use Rattle.forest.specs.Tree.{newGroup, raiseFrom}
-use Rattle.forest.specs.Valid.{networkOf, namesIn, KindValid, Valid}
-use Rattle.forest.proofs.Cells.{HasColumns, cell-put-same, cell-put-other-column}
+use Rattle.forest.specs.Valid.{networkOf, Valid}
 use Rattle.forest.proofs.KindWords.{SameWords, name-known, names-same, kind-same, kind-new, names-new, new-group-name, new-group-other, cell-put-elsewhere}
 use Rattle.forest.proofs.Networks.{block-groups, edge-count}
 use Rattle.forest.proofs.Frames.{among, Frame, _then_, frame-edge, frame-block, same-blocks}

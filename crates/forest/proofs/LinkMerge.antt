@@ -12,15 +12,15 @@ use Rattle.graph.proofs.Truth.{not-both, bool-ext, or-left, or-right, or-cases,
 use Rattle.graph.proofs.Mates.{component-refl, component-sym, component-trans}
 use Rattle.graph.proofs.EdgeMore.{component-edge-more}
 use Rattle.naming.proofs.Merge.{inMerged, Merges}
-use Rattle.forest.specs.declared.table.Capacities.{Capacities}
-use Rattle.forest.specs.declared.table.Area.{Area}
-use Rattle.forest.specs.Layout.{place, put, vertexArea}
-use Rattle.forest.specs.Merge.{sizeIn, itemOf, itemsFrom, betterName, bestListed, mergeListed}
+use Rattle.table.specs.declared.words.Capacities.{Capacities}
+use Rattle.table.specs.declared.words.Area.{Area}
+use Rattle.table.specs.Layout.{place, put, vertexArea}
+use Rattle.table.specs.Merge.{sizeIn, itemOf, itemsFrom, betterName, bestListed, mergeListed}
+use Rattle.table.proofs.Cells.{HasColumns, length-put, cell-put-same, cell-put-other-item}
+use Rattle.table.proofs.MergeKept.{ListedOutside}
+use Rattle.table.proofs.MergeLaw.{MergedTo, merge-law}
 use Rattle.forest.specs.Tree.{pathVertices, listEnds, endsTable}
 use Rattle.forest.specs.Valid.{networkOf, Valid}
-use Rattle.forest.proofs.Cells.{HasColumns, length-put, cell-put-same, cell-put-other-item}
-use Rattle.forest.proofs.MergeKept.{ListedOutside}
-use Rattle.forest.proofs.MergeLaw.{MergedTo, merge-law}
 use Rattle.forest.proofs.KindWords.{kind-same}
 use Rattle.forest.proofs.Networks.{component-groups}
 use Rattle.forest.proofs.Frames.{among, Frame, _then_, frame-vertex, frame-edge, same-components}

@@ -14,9 +14,9 @@ use Rattle.graph.proofs.Below.{listed-same}
 use Rattle.graph.proofs.Mates.{component-sym, component-trans, component-swap}
 use Rattle.naming.specs.Rename.{size}
 use Rattle.naming.proofs.Merge.{inMerged}
-use Rattle.forest.specs.declared.table.Capacities.{Capacities}
-use Rattle.forest.specs.Layout.{cell, vertexArea}
-use Rattle.forest.specs.Merge.{nameIn, sizeIn, itemsFrom, betterName, bestOver, bestListed, mergeListed}
+use Rattle.table.specs.declared.words.Capacities.{Capacities}
+use Rattle.table.specs.Layout.{cell, vertexArea}
+use Rattle.table.specs.Merge.{nameIn, sizeIn, itemsFrom, betterName, bestOver, bestListed, mergeListed}
 use Rattle.forest.specs.Tree.{pathVertices, listEnds, endsTable}
 use Rattle.forest.specs.Valid.{networkOf, Valid}
 use Rattle.forest.proofs.KindWords.{one-name, one-group, name-known}

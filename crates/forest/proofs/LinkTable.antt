@@ -13,13 +13,13 @@ use Rattle.graph.proofs.Truth.{or-left, or-right, and-both, ne-eqb}
 use Rattle.graph.proofs.Mates.{component-refl}
 use Rattle.graph.proofs.Ends.{touches-left, touches-right, touches-ends}
 use Rattle.graph.proofs.VertexMore.{proper-edge-more}
-use Rattle.forest.specs.declared.table.Capacities.{Capacities}
-use Rattle.forest.specs.Layout.{cell, put, vertexArea, edgeArea}
-use Rattle.forest.specs.Merge.{nameIn, bestListed, mergeListed}
+use Rattle.table.specs.declared.words.Capacities.{Capacities}
+use Rattle.table.specs.Layout.{cell, put, vertexArea, edgeArea}
+use Rattle.table.specs.Merge.{nameIn, bestListed, mergeListed}
+use Rattle.table.proofs.Cells.{HasColumns, cell-put-same, cell-put-other-item}
+use Rattle.table.proofs.Halves.{high-half, low-half}
 use Rattle.forest.specs.Tree.{pathVertices, listEnds, endsTable}
 use Rattle.forest.specs.Valid.{endsOf, networkOf, Valid}
-use Rattle.forest.proofs.Cells.{HasColumns, cell-put-same, cell-put-other-item}
-use Rattle.forest.proofs.Halves.{high-half, low-half}
 use Rattle.forest.proofs.Networks.{ends-same}
 use Rattle.forest.proofs.Frames.{among, Frame, _then_, frame-merge}
 use Rattle.forest.proofs.LinkMerge.{component-merges, differ, ends-frame, listed-frame, law}

@@ -13,8 +13,8 @@ use Rattle.graph.proofs.Block.{block-refl, block-sym, block-trans}
 use Rattle.naming.specs.Book.{Book}
 use Rattle.naming.proofs.Equivalent.{Equivalent}
 use Rattle.naming.proofs.Listed.{length-tabulate, tabulate-same}
-use Rattle.forest.specs.declared.table.Capacities.{Capacities}
-use Rattle.forest.specs.Layout.{cell, edgeArea}
+use Rattle.table.specs.declared.words.Capacities.{Capacities}
+use Rattle.table.specs.Layout.{cell, edgeArea}
 use Rattle.forest.specs.Valid.{endsOf, networkOf}
 
 -- components group the vertices

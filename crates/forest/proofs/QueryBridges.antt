@@ -15,19 +15,19 @@ use Rattle.graph.specs.Between.{bridgesBetween}
 use Rattle.graph.proofs.Truth.{true-or-false, or-neither-right}
 use Rattle.graph.proofs.BaseRule.{partingEdges, bridges-of-block-path-never}
 use Rattle.naming.proofs.Listed.{tabulate-same}
-use Rattle.forest.specs.declared.table.Capacities.{Capacities}
-use Rattle.forest.specs.Layout.{cell, put, vertexArea, bridgeBlockArea}
+use Rattle.table.specs.declared.words.Capacities.{Capacities}
+use Rattle.table.specs.Layout.{cell, put, vertexArea, bridgeBlockArea}
+use Rattle.table.proofs.Cells.{HasColumns, cell-put-same, cell-put-other-item, cell-bridge-block}
 use Rattle.forest.specs.Climb.{pathVertex, pathEdge, climbTable, climbRoute}
 use Rattle.forest.specs.Route.{stepAt, stepsOf}
 use Rattle.forest.specs.Valid.{Valid, networkOf}
-use Rattle.forest.specs.Queries.{Found, ringsDiffer, findTable, findCount, findFrom, bridgesFound}
+use Rattle.forest.specs.Queries.{Found, bridgeBlocksDiffer, findTable, findCount, findFrom, bridgesFound}
 use Rattle.forest.specs.Promise.{WrittenDown, bridgesWritten}
-use Rattle.forest.proofs.Cells.{HasColumns, cell-put-same, cell-put-other-item, cell-bridge-block}
 use Rattle.forest.proofs.Frames.{Frame, frame-none, _then_, frame-vertex}
 use Rattle.forest.proofs.ClimbTable.{Scratched}
 use Rattle.forest.proofs.ClimbLaw.{Climbs, climb-law}
 use Rattle.forest.proofs.ValidFrame.{frame-valid, frame-network, written-down}
-use Rattle.forest.proofs.QueryNames.{rings-differ}
+use Rattle.forest.proofs.QueryNames.{bridge-blocks-differ}
 use Rattle.forest.proofs.QueryPath.{tabulate-first}
 
 -- The second table differs from the first at most where bridges are written down.
@@ -49,7 +49,7 @@ module _ (t : List ℕ) (caps : Capacities) where
   parted i zero = []
   parted i (suc k) =
       let later = parted (suc i) k in
-      cond (ringsDiffer t caps (pathVertex t caps i) (pathVertex t caps (suc i))) (pathEdge t caps i ∷ later) later
+      cond (bridgeBlocksDiffer t caps (pathVertex t caps i) (pathVertex t caps (suc i))) (pathEdge t caps i ∷ later) later
 
 -- What following the k steps from step i on leaves: the edges found, behind those that were there.
 record Finds (t : List ℕ) (caps : Capacities) (i k count : ℕ) (u : List ℕ) (found : Found) : Type 0 where
@@ -59,11 +59,11 @@ record Finds (t : List ℕ) (caps : Capacities) (i k count : ℕ) (u : List ℕ)
 module _ (t : List ℕ) (caps : Capacities) (steps : ℕ) (few : steps < caps .vertices) (has : HasColumns t (vertexArea caps) 24)
     (known : (i : ℕ) → i ≤ steps → pathVertex t caps i < caps .vertices) where
   -- whether bridge-block names differ does not change on the way
-  rings-kept : (u : List ℕ) → Noted caps t u → (i : ℕ) → i < steps
-      → ringsDiffer u caps (pathVertex u caps i) (pathVertex u caps (i + 1))
-      ≡ ringsDiffer t caps (pathVertex t caps i) (pathVertex t caps (suc i))
-  unfolding ringsDiffer
-  rings-kept u f i h = rw add-one (ap₂ (λ (v w : ℕ). not (eqb v w)) (name i (omega arith)) (name (suc i) h))
+  bridge-blocks-kept : (u : List ℕ) → Noted caps t u → (i : ℕ) → i < steps
+      → bridgeBlocksDiffer u caps (pathVertex u caps i) (pathVertex u caps (i + 1))
+      ≡ bridgeBlocksDiffer t caps (pathVertex t caps i) (pathVertex t caps (suc i))
+  unfolding bridgeBlocksDiffer
+  bridge-blocks-kept u f i h = rw add-one (ap₂ (λ (v w : ℕ). not (eqb v w)) (name i (omega arith)) (name (suc i) h))
     where
       name : (j : ℕ) → j ≤ steps
           → cell u (bridgeBlockArea caps) 0 (pathVertex u caps j) ≡ cell t (bridgeBlockArea caps) 0 (pathVertex t caps j)
@@ -78,7 +78,7 @@ module _ (t : List ℕ) (caps : Capacities) (steps : ℕ) (few : steps < caps .v
       → Finds t caps i k count u (findFrom u caps i k count)
   unfolding findFrom findTable findCount parted
   find-from zero i count u c h f = record { frame = f; written = sym (append-nil (bridgesWritten caps count u)) }
-  find-from (suc k) i count u c h f = go (find-from k (suc i)) (true-or-false (ringsDiffer t caps x y))
+  find-from (suc k) i count u c h f = go (find-from k (suc i)) (true-or-false (bridgeBlocksDiffer t caps x y))
     where
       x : ℕ
       x = pathVertex t caps i
@@ -100,11 +100,11 @@ module _ (t : List ℕ) (caps : Capacities) (steps : ℕ) (few : steps < caps .v
 
       go : ((count′ : ℕ) (u′ : List ℕ) → count′ ≤ suc i → suc i + k ≤ steps → Noted caps t u′
           → Finds t caps (suc i) k count′ u′ (findFrom u′ caps (suc i) k count′))
-          → (ringsDiffer t caps x y ≡ true) ⊎ (ringsDiffer t caps x y ≡ false)
+          → (bridgeBlocksDiffer t caps x y ≡ true) ⊎ (bridgeBlocksDiffer t caps x y ≡ false)
           → Finds t caps i (suc k) count u (findFrom (findTable u caps i count) caps (suc i) k (findCount u caps i count))
       go rest (inl d) =
           let r = rest (suc count) u₁ (omega arith) (omega arith) (f then noted) in
-          rw (rings-kept u f i (omega arith), d, edge)
+          rw (bridge-blocks-kept u f i (omega arith), d, edge)
           record {
             frame = r .frame;
             written =
@@ -115,7 +115,7 @@ module _ (t : List ℕ) (caps : Capacities) (steps : ℕ) (few : steps < caps .v
           }
       go rest (inr d) =
           let r = rest count u (omega arith) (omega arith) f in
-          rw (rings-kept u f i (omega arith), d) record { frame = r .frame; written = r .written ∙ rw d }
+          rw (bridge-blocks-kept u f i (omega arith), d) record { frame = r .frame; written = r .written ∙ rw d }
 
 -- a test turned round turns its two answers round
 cond-not : {A : Type 0} (b : Bool) (x y : A) → cond (not b) x y ≡ cond b y x
@@ -133,7 +133,7 @@ parted-edges {caps} {n} {m} {t} valid steps known (suc k) i step h f =
     rw (
       tabulate-first k step,
       first,
-      rings-differ valid (pathVertex t caps i) (pathVertex t caps (suc i)) (known i (omega arith)) (known (suc i) (omega arith)),
+      bridge-blocks-differ valid (pathVertex t caps i) (pathVertex t caps (suc i)) (known i (omega arith)) (known (suc i) (omega arith)),
       parted-edges valid steps known k (suc i) (λ j. step (suc j)) (omega arith) later,
     )
     (cond-not (bridgeBlock (networkOf caps n m t) (pathVertex t caps i) (pathVertex t caps (suc i))) _ _)

@@ -7,7 +7,7 @@ use Rattle.graph.specs.Network.{Network}
 use Rattle.graph.specs.Groups.{component}
 use Rattle.graph.specs.Between.{cutsBetween}
 use Rattle.graph.proofs.PathCuts.{inner, cuts-of-block-path}
-use Rattle.forest.specs.declared.table.Capacities.{Capacities}
+use Rattle.table.specs.declared.words.Capacities.{Capacities}
 use Rattle.forest.specs.Climb.{pathVertex, climbTable, climbRoute}
 use Rattle.forest.specs.Route.{stepAt, stepsOf}
 use Rattle.forest.specs.Valid.{Valid, networkOf}

@@ -10,12 +10,13 @@ use Rattle.graph.proofs.BridgeBlock.{bridge-parts-bridge-blocks}
 use Rattle.naming.specs.Rename.{Grouping, size, nameOf}
 use Rattle.naming.proofs.Naming.{group-by-name}
 use Rattle.naming.proofs.Listed.{getD-tabulate}
-use Rattle.forest.specs.declared.table.Capacities.{Capacities}
-use Rattle.forest.specs.declared.table.Area.{Area}
-use Rattle.forest.specs.Layout.{vertexArea, bridgeBlockArea, edgeArea}
-use Rattle.forest.specs.Merge.{nameIn, sizeIn}
-use Rattle.forest.specs.Valid.{endsOf, networkOf, namesIn, bookOf, KindValid, Valid}
-use Rattle.forest.specs.Queries.{ringsDiffer, bridgeIn}
+use Rattle.table.specs.declared.words.Capacities.{Capacities}
+use Rattle.table.specs.declared.words.Area.{Area}
+use Rattle.table.specs.Layout.{vertexArea, bridgeBlockArea, edgeArea}
+use Rattle.table.specs.Merge.{nameIn, sizeIn}
+use Rattle.table.specs.KindValid.{namesIn, KindValid}
+use Rattle.forest.specs.Valid.{endsOf, networkOf, bookOf, Valid}
+use Rattle.forest.specs.Queries.{bridgeBlocksDiffer, bridgeIn}
 use Rattle.forest.proofs.KindWords.{name-in}
 use Rattle.forest.proofs.Networks.{edge-count, network-rule}
 
@@ -69,16 +70,16 @@ module _ {caps : Capacities} {n m : ℕ} {t : List ℕ} (valid : Valid caps n m 
   bridge-block-by-name a b h l = kind-by-name (valid .bridge-blocks) a b h l
 
   -- the bridge-block names of two vertices differ exactly if their bridge-blocks do
-  pub rings-differ : (a b : ℕ) → a < n → b < n → ringsDiffer t caps a b ≡ not (bridgeBlock g a b)
-  unfolding ringsDiffer
-  rings-differ a b h l = ap not (sym (bridge-block-by-name a b h l))
+  pub bridge-blocks-differ : (a b : ℕ) → a < n → b < n → bridgeBlocksDiffer t caps a b ≡ not (bridgeBlock g a b)
+  unfolding bridgeBlocksDiffer
+  bridge-blocks-differ a b h l = ap not (sym (bridge-block-by-name a b h l))
 
   -- an edge is a bridge exactly if the bridge-block names of its ends differ
   pub bridge-in : (s : ℕ) → s < m → bridgeIn t caps s ≡ bridge g s
   unfolding bridgeIn endsOf networkOf
   bridge-in s h =
-      ap (λ (e : Edge). ringsDiffer t caps (e .left) (e .right)) (sym (network-edge caps n m t s h))
-      ∙ rings-differ (edge g s .left) (edge g s .right) (valid .proper .left-known s known) (valid .proper .right-known s known)
+      ap (λ (e : Edge). bridgeBlocksDiffer t caps (e .left) (e .right)) (sym (network-edge caps n m t s h))
+      ∙ bridge-blocks-differ (edge g s .left) (edge g s .right) (valid .proper .left-known s known) (valid .proper .right-known s known)
       ∙ sym (bridge-parts-bridge-blocks g (network-rule caps n m t) s known)
     where
       known : s < edgeCount g

@@ -8,15 +8,14 @@ use Prim.Native.Nat.{ℕ, suc, _-_, _<_}
 use native.Mathlib.Omega.{arith}
 use lib.Dec.{eqb}
 use Rattle.graph.specs.Network.{Network, edgeCount}
-use Rattle.graph.specs.Block.{block, sharedBlock}
-use Rattle.graph.specs.BlockPath.{onBlock}
+use Rattle.graph.specs.Block.{block, sharedBlock, onBlock}
 use Rattle.graph.proofs.Truth.{true-or-false, false-of-not, not-both, not-of-false, false-of-not-true, and-left, and-right, and-both}
 use Rattle.graph.proofs.Truth.{eqb-eq, eq-eqb, ne-eqb, eqb-ne}
 use Rattle.graph.proofs.Block.{block-sym, block-trans}
 use Rattle.graph.proofs.BlockVertices.{OnBlock, on-block, on-same-block}
 use Rattle.graph.proofs.SharedBlock.{shared-block-some, shared-block-found, shared-block-is, no-shared-block}
 use Rattle.naming.specs.Rename.{nameOf}
-use Rattle.forest.specs.declared.table.Capacities.{Capacities}
+use Rattle.table.specs.declared.words.Capacities.{Capacities}
 use Rattle.forest.specs.declared.query.Shared.{Shared}
 use Rattle.forest.specs.declared.query.Shared.the-variants.{Block, Nothing}
 use Rattle.forest.specs.Climb.{upOf, blockOf, aboveEdge}

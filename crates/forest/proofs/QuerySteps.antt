@@ -5,9 +5,9 @@ use mathlib.Core.List.{List}
 use Prim.Native.Nat.{ℕ, suc, _+_, _-_, _≤_, _<_}
 use native.Mathlib.Numerals.{add-one}
 use native.Mathlib.Omega.{arith}
-use Rattle.forest.specs.declared.table.Capacities.{Capacities}
+use Rattle.table.specs.declared.words.Capacities.{Capacities}
 use Rattle.forest.specs.Climb.{pathVertex}
-use Rattle.forest.specs.Queries.{Found, ringsDiffer, findTable, findCount, findFrom}
+use Rattle.forest.specs.Queries.{Found, bridgeBlocksDiffer, findTable, findCount, findFrom}
 
 module _ (t : List ℕ) (caps : Capacities) where
   -- the next step of the path is looked at, and then the rest
@@ -30,7 +30,7 @@ module _ (t : List ℕ) (caps : Capacities) where
   -- a step adds at most one to the count
   pub find-count-bound : (i count : ℕ) → findCount t caps i count ≤ count + 1
   unfolding findCount
-  find-count-bound i count = go (ringsDiffer t caps (pathVertex t caps i) (pathVertex t caps (i + 1)))
+  find-count-bound i count = go (bridgeBlocksDiffer t caps (pathVertex t caps i) (pathVertex t caps (i + 1)))
     where
       go : (b : Bool) → cond b (suc count) count ≤ count + 1
       go true = omega arith

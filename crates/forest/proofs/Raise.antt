@@ -13,11 +13,11 @@ use Rattle.graph.specs.Lists.{isIn, distinct}
 use Rattle.graph.proofs.Truth.{true-or-false, eqb-eq, eqb-ne, eqb-same, and-left, ltb-lt, lt-ltb}
 use Rattle.graph.proofs.Members.{is-in-head, is-in-tail, distinct-head, distinct-tail, is-in-listed, distinct-listed}
 use Rattle.naming.proofs.Listed.{length-tabulate}
-use Rattle.forest.specs.declared.table.Capacities.{Capacities}
-use Rattle.forest.specs.Layout.{cell, put, vertexArea}
+use Rattle.table.specs.declared.words.Capacities.{Capacities}
+use Rattle.table.specs.Layout.{cell, put, vertexArea}
+use Rattle.table.proofs.Cells.{HasColumns, length-put, cell-put-same, cell-put-other-column, cell-put-other-item}
 use Rattle.forest.specs.Climb.{depthOf}
 use Rattle.forest.specs.Tree.{raiseFrom}
-use Rattle.forest.proofs.Cells.{HasColumns, length-put, cell-put-same, cell-put-other-column, cell-put-other-item}
 use Rattle.forest.proofs.Frames.{among, Frame, _then_, frame-none, frame-vertex}
 
 -- f i, f (i + 1), and on, k of them.

@@ -13,10 +13,11 @@ use Rattle.graph.proofs.Truth.{eqb-eq}
 use Rattle.graph.proofs.Joined.{joined-least}
 use Rattle.graph.proofs.Ends.{touches-left, touches-right, touches-ends}
 use Rattle.naming.proofs.Naming.{group-by-name}
-use Rattle.forest.specs.declared.table.Capacities.{Capacities}
-use Rattle.forest.specs.Layout.{edgeArea}
+use Rattle.table.specs.declared.words.Capacities.{Capacities}
+use Rattle.table.specs.Layout.{edgeArea}
+use Rattle.table.specs.KindValid.{namesIn}
 use Rattle.forest.specs.Climb.{upOf, depthOf, blockOf, topOf, aboveEdge}
-use Rattle.forest.specs.Valid.{Valid, ForestValid, HangsBelow, networkOf, namesIn}
+use Rattle.forest.specs.Valid.{Valid, ForestValid, HangsBelow, networkOf}
 use Rattle.forest.proofs.KindWords.{name-in, name-known}
 use Rattle.forest.proofs.Networks.{edge-count}
 

@@ -6,10 +6,10 @@ use Prim.Native.Nat.{ℕ, zero, suc, _+_, _-_, _%_, _^_, _≤_, _<_}
 use native.Mathlib.Numerals.{add-one}
 use native.Mathlib.Omega.{arith}
 use lib.Dec.{eqb}
-use Rattle.forest.specs.declared.table.Capacities.{Capacities}
+use Rattle.table.specs.declared.words.Capacities.{Capacities}
+use Rattle.table.specs.Layout.{cell, put, vertexArea}
 use Rattle.forest.specs.declared.tree.Turning.{Turning}
 use Rattle.forest.specs.declared.climb.Trail.{Trail}
-use Rattle.forest.specs.Layout.{cell, put, vertexArea}
 use Rattle.forest.specs.Climb.{upOf, depthOf, aboveEdge, rightDeeper, climbing, recordTable, recordTrail, Climbed, climbFrom}
 use Rattle.forest.specs.Climb.{keptLeft, reach, climbBoth, climbRoute}
 use Rattle.forest.specs.Tree.{raiseFrom, turnFrom, hungVertex, turnedTable, turnedState}

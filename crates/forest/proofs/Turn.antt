@@ -9,14 +9,13 @@ use native.Mathlib.Omega.{arith}
 use lib.Dec.{eqb}
 use Rattle.graph.specs.Network.{Network, edge, touches}
 use Rattle.graph.specs.Groups.{component}
-use Rattle.graph.specs.Block.{block}
-use Rattle.graph.specs.BlockPath.{onBlock}
+use Rattle.graph.specs.Block.{block, onBlock}
 use Rattle.graph.proofs.Truth.{true-or-false, not-both, false-of-not, eqb-eq, eqb-ne}
 use Rattle.graph.proofs.Block.{block-sym}
 use Rattle.graph.proofs.BlockVertices.{on-same-block}
 use Rattle.naming.specs.Rename.{size}
 use Rattle.naming.proofs.Equivalent.{group-same}
-use Rattle.forest.specs.declared.table.Capacities.{Capacities}
+use Rattle.table.specs.declared.words.Capacities.{Capacities}
 use Rattle.forest.specs.Climb.{upOf, depthOf, aboveEdge}
 use Rattle.forest.specs.Valid.{HangsBelow, ForestValid}
 use Rattle.forest.proofs.Networks.{block-groups}

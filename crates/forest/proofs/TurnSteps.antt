@@ -9,7 +9,7 @@ use Rattle.graph.specs.Network.{Network}
 use Rattle.graph.specs.Block.{block}
 use Rattle.graph.proofs.Truth.{not-both, false-of-not}
 use Rattle.graph.proofs.Block.{block-refl}
-use Rattle.forest.specs.declared.table.Capacities.{Capacities}
+use Rattle.table.specs.declared.words.Capacities.{Capacities}
 use Rattle.forest.specs.Climb.{upOf, depthOf, aboveEdge}
 use Rattle.forest.specs.Valid.{ForestValid}
 use Rattle.forest.proofs.Turn.{Dangling, HungAnew, hangs, hung-forest, whole-forest, forest-but}

@@ -9,12 +9,13 @@ use lib.ListN.{length}
 use Rattle.graph.specs.Network.{Network}
 use Rattle.graph.specs.Block.{block}
 use Rattle.graph.proofs.Truth.{not-both}
-use Rattle.forest.specs.declared.table.Capacities.{Capacities}
-use Rattle.forest.specs.Layout.{cell, put, vertexArea, edgeArea}
+use Rattle.table.specs.declared.words.Capacities.{Capacities}
+use Rattle.table.specs.Layout.{cell, put, vertexArea, edgeArea}
+use Rattle.table.specs.KindValid.{KindValid}
+use Rattle.table.proofs.Cells.{length-put, cell-put-same, cell-put-other-column, cell-put-other-item, cell-vertex-after-edge}
 use Rattle.forest.specs.Climb.{upOf, depthOf, blockOf, aboveEdge}
 use Rattle.forest.specs.Tree.{turnFrom}
-use Rattle.forest.specs.Valid.{KindValid, ForestValid}
-use Rattle.forest.proofs.Cells.{length-put, cell-put-same, cell-put-other-column, cell-put-other-item, cell-vertex-after-edge}
+use Rattle.forest.specs.Valid.{ForestValid}
 use Rattle.forest.proofs.KindWords.{name-known, one-name, one-group, kind-same, cell-put-elsewhere}
 use Rattle.forest.proofs.Frames.{among, Frame, _then_, frame-vertex, frame-edge, same-blocks, same-above}
 use Rattle.forest.proofs.Turn.{Dangling, HungAnew, hangs}

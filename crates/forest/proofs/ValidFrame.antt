@@ -7,8 +7,8 @@ use Prim.Native.Nat.{ℕ, suc, _<_}
 use native.Mathlib.Omega.{arith}
 use Rattle.graph.specs.Network.{Network, edge, touches}
 use Rattle.graph.proofs.Ends.{touched-known}
-use Rattle.forest.specs.declared.table.Capacities.{Capacities}
-use Rattle.forest.specs.Layout.{vertexArea, bridgeBlockArea, edgeArea}
+use Rattle.table.specs.declared.words.Capacities.{Capacities}
+use Rattle.table.specs.Layout.{vertexArea, bridgeBlockArea, edgeArea}
 use Rattle.forest.specs.Climb.{upOf, depthOf, aboveEdge}
 use Rattle.forest.specs.Valid.{networkOf, bookOf, HangsBelow, ForestValid, Valid}
 use Rattle.forest.specs.Promise.{WrittenDown}

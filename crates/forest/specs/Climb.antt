@@ -3,13 +3,11 @@
 use mathlib.Core.Bool.{Bool, true, false, cond, _&&_, not}
 use mathlib.Core.List.{List}
 use Prim.Native.Nat.{ℕ, zero, suc, _+_, _-_, min}
-use lib.Dec.{eqb, leb, ltb}
-use Rattle.forest.specs.declared.table.Vertex.{Vertex}
-use Rattle.forest.specs.declared.table.Edge.{Edge}
-use Rattle.forest.specs.declared.table.Capacities.{Capacities}
+use lib.Dec.{eqb, ltb}
+use Rattle.table.specs.declared.words.Capacities.{Capacities}
+use Rattle.table.specs.Layout.{cell, put, vertexArea, edgeArea}
 use Rattle.forest.specs.declared.climb.Trail.{Trail}
 use Rattle.forest.specs.declared.climb.Route.{Route}
-use Rattle.forest.specs.Layout.{cell, put, vertexArea, edgeArea}
 
 -- The columns of a vertex: 0 at a root, else one more than an edge of the block above; a number that falls on the way up.
 abbrev pub upOf : List ℕ → Capacities → ℕ → ℕ

@@ -1,10 +1,7 @@
-pub mod Layout
 pub mod Words
-pub mod Merge
 pub mod Climb
 pub mod Route
 pub mod Tree
-pub mod Post
 pub mod Queries
 pub mod Valid
 pub mod Promise

@@ -1,22 +1,22 @@
 -- What the operations on the table promise.
-use mathlib.Core.Bool.{not}
-use mathlib.Core.List.{List}
+use mathlib.Core.List.{List, _++_}
 use mathlib.Core.Option.{Option, none, some}
 use mathlib.Core.Path.{_≡_}
-use Prim.Native.Nat.{ℕ, suc, _+_, _*_}
-use lib.Dec.{eqb}
-use lib.ListN.{length, drop}
-use Rattle.graph.specs.Below.{listed, tabulate}
-use Rattle.graph.specs.Groups.{component, bridgeBlock}
-use Rattle.graph.specs.Block.{sharedBlock}
-use Rattle.naming.specs.Rename.{size, nameOf}
-use Rattle.naming.specs.Book.{Book, enterVertex, enterEdge}
-use Rattle.forest.specs.declared.table.Capacities.{Capacities}
+use Prim.Native.Nat.{ℕ, suc, _+_, _*_, min}
+use lib.ListN.{length, drop, replicate}
+use Rattle.graph.specs.Below.{tabulate}
+use Rattle.naming.specs.Rename.{nameOf, changedItems}
+use Rattle.naming.specs.Book.{enterVertex, enterEdge}
+use Rattle.table.specs.declared.words.Capacities.{Capacities}
 use Rattle.forest.specs.declared.tree.Growth.{Growth}
 use Rattle.forest.specs.declared.query.Shared.{Shared}
 use Rattle.forest.specs.declared.query.Shared.the-variants.{Block, Nothing}
 use Rattle.forest.specs.Words.{componentChange, bridgeBlockChange, blockChange, bridgeWritten, cutWritten}
 use Rattle.forest.specs.Valid.{Valid, bookOf}
+
+-- The first k words are 0, or all where there are fewer; the others are as before.
+unfoldable pub cleared : ℕ → List ℕ → List ℕ
+cleared k t = replicate (min k (length t)) 0 ++ drop k t
 
 -- The words beyond those of the vertices and edges are as before.
 pub record SameBeyond (caps : Capacities) (old new : List ℕ) : Type 0 where
@@ -28,10 +28,6 @@ pub record VertexAdded (caps : Capacities) (n m : ℕ) (old new : List ℕ) : Ty
   pub valid : Valid caps (suc n) m new
   pub book : bookOf caps (suc n) m new ≡ enterVertex (bookOf caps n m old)
   pub same-beyond : SameBeyond caps old new
-
--- The items that had a name before and have another now, rising.
-unfoldable pub changedItems : List ℕ → List ℕ → List ℕ
-changedItems old new = listed (length old) (λ x. not (eqb (nameOf old x) (nameOf new x)))
 
 -- The first k items written down as changed, of each kind.
 unfoldable pub componentsChanged : Capacities → ℕ → List ℕ → List ℕ

@@ -3,24 +3,22 @@ use mathlib.Core.Bool.{Bool, not, cond, _&&_}
 use mathlib.Core.List.{List}
 use Prim.Native.Nat.{ℕ, zero, suc, _+_, _-_, _/_, _%_}
 use lib.Dec.{eqb}
-use Rattle.forest.specs.declared.table.Capacities.{Capacities}
-use Rattle.forest.specs.declared.table.Edge.{Edge}
+use Rattle.table.specs.declared.words.Capacities.{Capacities}
+use Rattle.table.specs.Layout.{cell, put, vertexArea, bridgeBlockArea, edgeArea}
+use Rattle.table.specs.Merge.{nameIn}
 use Rattle.forest.specs.declared.query.Shared.{Shared}
 use Rattle.forest.specs.declared.query.Shared.the-variants.{Block, Nothing}
-use Rattle.forest.specs.declared.climb.Route.{Route}
-use Rattle.forest.specs.Layout.{cell, put, vertexArea, bridgeBlockArea, edgeArea}
-use Rattle.forest.specs.Merge.{nameIn}
 use Rattle.forest.specs.Climb.{upOf, blockOf, topOf, pathVertex, pathEdge, climbTable, climbRoute}
 
 -- The bridge-block names of two vertices differ.
-unfoldable pub ringsDiffer : List ℕ → Capacities → ℕ → ℕ → Bool
-ringsDiffer t caps x y = not (eqb (nameIn t (bridgeBlockArea caps) x) (nameIn t (bridgeBlockArea caps) y))
+unfoldable pub bridgeBlocksDiffer : List ℕ → Capacities → ℕ → ℕ → Bool
+bridgeBlocksDiffer t caps x y = not (eqb (nameIn t (bridgeBlockArea caps) x) (nameIn t (bridgeBlockArea caps) y))
 
 -- The bridge-block names of an edge's two ends, which are kept in one word, differ.
 unfoldable pub bridgeIn : List ℕ → Capacities → ℕ → Bool
 bridgeIn t caps s =
     let ends = cell t (edgeArea caps) 4 s in
-    ringsDiffer t caps (ends / 65536) (ends % 65536)
+    bridgeBlocksDiffer t caps (ends / 65536) (ends % 65536)
 
 -- Vertex x hangs below a block, and y is the vertex above that block.
 unfoldable pub hangsFrom : List ℕ → Capacities → ℕ → ℕ → Bool
@@ -58,12 +56,12 @@ pub record Found : Type 0 where
 unfoldable pub findTable : List ℕ → Capacities → ℕ → ℕ → List ℕ
 findTable t caps i count =
     cond
-    (ringsDiffer t caps (pathVertex t caps i) (pathVertex t caps (i + 1)))
+    (bridgeBlocksDiffer t caps (pathVertex t caps i) (pathVertex t caps (i + 1)))
     (put t (vertexArea caps) 13 count (pathEdge t caps i))
     t
 
 unfoldable pub findCount : List ℕ → Capacities → ℕ → ℕ → ℕ
-findCount t caps i count = cond (ringsDiffer t caps (pathVertex t caps i) (pathVertex t caps (i + 1))) (suc count) count
+findCount t caps i count = cond (bridgeBlocksDiffer t caps (pathVertex t caps i) (pathVertex t caps (i + 1))) (suc count) count
 
 -- The k steps from step i on.
 unfoldable pub findFrom : List ℕ → Capacities → ℕ → ℕ → ℕ → Found

@@ -3,7 +3,7 @@ use mathlib.Core.List.{List}
 use Prim.Native.Nat.{ℕ, suc}
 use Rattle.graph.specs.Below.{tabulate}
 use Rattle.graph.specs.Cycle.{Step}
-use Rattle.forest.specs.declared.table.Capacities.{Capacities}
+use Rattle.table.specs.declared.words.Capacities.{Capacities}
 use Rattle.forest.specs.Climb.{pathVertex, pathEdge}
 
 -- Step i of the path: along an edge of its block, to the vertex behind it.

@@ -1,14 +1,16 @@
 -- What one vertex more and one edge more do to the table, step by step: link two components, or condense the path between two vertices.
 use mathlib.Core.Bool.{cond}
 use mathlib.Core.List.{List}
+use mathlib.Core.Path.{_≡_}
 use Prim.Native.Nat.{ℕ, zero, suc, _+_, _*_, _-_, _%_, _^_}
 use lib.Dec.{eqb}
-use Rattle.forest.specs.declared.table.Capacities.{Capacities}
-use Rattle.forest.specs.declared.table.Area.{Area}
-use Rattle.forest.specs.declared.merge.Listing.{Listing}
+use Rattle.table.specs.declared.words.Capacities.{Capacities}
+use Rattle.table.specs.declared.words.Area.{Area}
+use Rattle.table.specs.declared.merge.Listing.{Listing}
+use Rattle.table.specs.Layout.{cell, put, vertexArea, bridgeBlockArea, edgeArea}
+use Rattle.table.specs.Merge.{nameIn, sizeIn, rangeIn, bestListed, mergeListed, leastOf}
+use Rattle.forest.specs.declared.tree.Growth.{Growth}
 use Rattle.forest.specs.declared.tree.Turning.{Turning}
-use Rattle.forest.specs.Layout.{cell, put, vertexArea, bridgeBlockArea, edgeArea}
-use Rattle.forest.specs.Merge.{nameIn, sizeIn, rangeIn, bestListed, mergeListed, leastOf}
 use Rattle.forest.specs.Climb.{upOf, depthOf, blockOf, topOf, climbTable, climbRoute}
 
 -- A group of one item, named by its number.
@@ -89,6 +91,14 @@ pub record Grown : Type 0 where
   pub blocks : ℕ
   pub block : ℕ
 
+-- The table and the result of one edge more, in the code's own struct.
+pub record GrowsTo (table : List ℕ) (result : Growth) (grown : Grown) : Type 0 where
+  pub table-is : table ≡ grown .table
+  pub components-are : result .components ≡ grown .components
+  pub bridge-blocks-are : result .«bridge_blocks» ≡ grown .bridgeBlocks
+  pub blocks-are : result .blocks ≡ grown .blocks
+  pub block-is : result .block .0 ≡ grown .block
+
 -- The component of u hung below v by the new edge e, where u is in the component that loses its name.
 unfoldable pub hangTable : List ℕ → Capacities → ℕ → ℕ → ℕ → ℕ → List ℕ
 hangTable t caps e u v changed =
@@ -128,13 +138,13 @@ unfoldable pub condenseGrown : List ℕ → Capacities → ℕ → ℕ → ℕ �
 condenseGrown t caps e a b =
     let route = climbRoute t caps a b in
     let climbed = climbTable t caps a b in
-    let rings = mergeListed climbed (bridgeBlockArea caps) (pathVertices caps (route .steps + 1)) in
-    let blocks = mergeListed (rings .table) (edgeArea caps) (pathEdges caps (route .steps)) in
-    let w = bestListed (rings .table) (edgeArea caps) (pathEdges caps (route .steps)) in
+    let bridgeBlocks = mergeListed climbed (bridgeBlockArea caps) (pathVertices caps (route .steps + 1)) in
+    let blocks = mergeListed (bridgeBlocks .table) (edgeArea caps) (pathEdges caps (route .steps)) in
+    let w = bestListed (bridgeBlocks .table) (edgeArea caps) (pathEdges caps (route .steps)) in
     record {
       table = enterBlock (blocks .table) caps e w (route .top .0);
       components = 0;
-      bridgeBlocks = rings .count;
+      bridgeBlocks = bridgeBlocks .count;
       blocks = blocks .count;
       block = w;
     }

@@ -8,15 +8,12 @@ use lib.ListN.{length}
 use Rattle.graph.specs.Below.{tabulate}
 use Rattle.graph.specs.Network.{Network, Edge, Proper, never, edge, touches}
 use Rattle.graph.specs.Groups.{component, bridgeBlock}
-use Rattle.graph.specs.Block.{block}
-use Rattle.graph.specs.BlockPath.{onBlock}
-use Rattle.naming.specs.Rename.{Grouping, size}
-use Rattle.naming.specs.Naming.{Naming}
+use Rattle.graph.specs.Block.{block, onBlock}
+use Rattle.naming.specs.Rename.{size}
 use Rattle.naming.specs.Book.{Book}
-use Rattle.forest.specs.declared.table.Capacities.{Capacities}
-use Rattle.forest.specs.declared.table.Area.{Area}
-use Rattle.forest.specs.Layout.{cell, vertexArea, bridgeBlockArea, edgeArea}
-use Rattle.forest.specs.Merge.{nameIn, sizeIn, rangeIn, leastOf, greatestOf}
+use Rattle.table.specs.declared.words.Capacities.{Capacities}
+use Rattle.table.specs.Layout.{cell, vertexArea, bridgeBlockArea, edgeArea}
+use Rattle.table.specs.KindValid.{namesIn, KindValid}
 use Rattle.forest.specs.Climb.{upOf, depthOf, aboveEdge}
 
 -- The two ends of edge s, kept in one word.
@@ -28,10 +25,6 @@ endsOf t caps s =
 unfoldable pub networkOf : Capacities → ℕ → ℕ → List ℕ → Network
 networkOf caps n m t = record { rule = never; vertices = n; edges = tabulate m (endsOf t caps) }
 
--- The names of the first n items of a kind.
-unfoldable pub namesIn : List ℕ → Area → ℕ → List ℕ
-namesIn t area n = tabulate n (nameIn t area)
-
 -- The naming book that the table holds.
 unfoldable pub bookOf : Capacities → ℕ → ℕ → List ℕ → Book
 bookOf caps n m t =
@@ -41,14 +34,6 @@ bookOf caps n m t =
       bridgeBlocks = namesIn t (bridgeBlockArea caps) n;
       blocks = namesIn t (edgeArea caps) m;
     }
-
--- The words of one kind of group, over items below n: names, the size of each named group, and a range that holds its items.
-pub record KindValid (t : List ℕ) (area : Area) (n : ℕ) (groups : Grouping) : Type 0 where
-  pub named : Naming n groups (namesIn t area n)
-  pub sized : (x : ℕ) → x < n → sizeIn t area (nameIn t area x) ≡ size n groups x
-  pub from-least : (x : ℕ) → x < n → leastOf (rangeIn t area (nameIn t area x)) ≤ x
-  pub to-greatest : (x : ℕ) → x < n → x ≤ greatestOf (rangeIn t area (nameIn t area x))
-  pub range-known : (x : ℕ) → x < n → greatestOf (rangeIn t area (nameIn t area x)) < n
 
 -- Some edge of the block of edge e is the one above vertex x.
 pub record HangsBelow (t : List ℕ) (caps : Capacities) (g : Network) (e x : ℕ) : Type 0 where

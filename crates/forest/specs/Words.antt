@@ -1,8 +1,8 @@
 -- The words that callers read: names, what is written down as changed, and the lists of bridges and cut vertices.
 use mathlib.Core.List.{List}
 use Prim.Native.Nat.{ℕ, suc}
-use Rattle.forest.specs.declared.table.Capacities.{Capacities}
-use Rattle.forest.specs.Layout.{cell, vertexArea, bridgeBlockArea, edgeArea}
+use Rattle.table.specs.declared.words.Capacities.{Capacities}
+use Rattle.table.specs.Layout.{cell, vertexArea, bridgeBlockArea, edgeArea}
 
 -- The component name and the bridge-block name of a vertex, and the block name of an edge.
 abbrev pub componentName : Capacities → List ℕ → ℕ → ℕ

@@ -1,32 +1,28 @@
 // Climbing the block forest: from vertex to block and from block to vertex, turn about, until two vertices' ways up meet.
 ghost use mathlib.Core.Path.{_≡_};
-ghost use mathlib.Core.Bool.{cond};
-ghost use Prim.Native.Nat.{_+_, _≤_, _<_};
+ghost use mathlib.Core.Bool.{cond, not, _&&_};
+ghost use Prim.Native.Nat.{_+_, _≤_, _<_, min};
+ghost use lib.Dec.{eqb, ltb};
 ghost use Rattle.forest.specs.Climb.{upOf, depthOf, blockOf, topOf, aboveEdge, rightDeeper, recordTable, recordTrail};
 ghost use Rattle.forest.specs.Climb.{climbFrom, blockTable, blockTrail, keptLeft, joinOne, joinFrom, reach, climbTable, climbRoute};
-use crate::table::Capacities;
-use crate::table::Edge;
-use crate::table::Vertex;
-use crate::table::edge_area;
-use crate::table::set_word;
-use crate::table::vertex_area;
-use crate::table::word;
+use table::words::Capacities;
+use table::words::DEPTH;
+use table::words::Edge;
+use table::words::NAME;
+use table::words::PATH_EDGE;
+use table::words::PATH_VERTEX;
+use table::words::RIGHT_EDGE;
+use table::words::RIGHT_VERTEX;
+use table::words::TOP;
+use table::words::UP;
+use table::words::Vertex;
+use table::words::edge_area;
+use table::words::set_word;
+use table::words::vertex_area;
+use table::words::word;
 
-const UP: u8 = 8;
-
-const DEPTH: u8 = 9;
-
-const PATH_VERTEX: u8 = 10;
-
-const PATH_EDGE: u8 = 11;
-
-const RIGHT_VERTEX: u8 = 12;
-
-const RIGHT_EDGE: u8 = 13;
-
-const NAME: u8 = 0;
-
-const TOP: u8 = 5;
+// How many steps of a climb nest in one another: what bounds the stack.
+const NESTED: u32 = 8;
 
 // Two vertices on their ways up, and how many steps each side has made.
 pub struct Trail {
@@ -43,28 +39,28 @@ pub struct Route {
 }
 
 // 0 at a root, else one more than an edge of the block above the vertex.
-pub fn up(t: &[u32], caps: Capacities, x: Vertex) -> u32
+pub(crate) fn up(t: &[u32], caps: Capacities, x: Vertex) -> u32
     ensures { λ r. ⌜ r ≡ upOf (now (t .entry)) caps (x .0) ⌝ }
 {
     word(t, vertex_area(caps), UP, x.0)
 }
 
 // A number that falls on the way up.
-pub fn depth(t: &[u32], caps: Capacities, x: Vertex) -> u32
+pub(crate) fn depth(t: &[u32], caps: Capacities, x: Vertex) -> u32
     ensures { λ r. ⌜ r ≡ depthOf (now (t .entry)) caps (x .0) ⌝ }
 {
     word(t, vertex_area(caps), DEPTH, x.0)
 }
 
 // The name of an edge's block.
-pub fn block_of(t: &[u32], caps: Capacities, e: Edge) -> Edge
+pub(crate) fn block_of(t: &[u32], caps: Capacities, e: Edge) -> Edge
     ensures { λ r. ⌜ r .0 ≡ blockOf (now (t .entry)) caps (e .0) ⌝ }
 {
     Edge(word(t, edge_area(caps), NAME, e.0))
 }
 
 // The vertex above a block, by its name.
-pub fn top(t: &[u32], caps: Capacities, block: Edge) -> Vertex
+pub(crate) fn top(t: &[u32], caps: Capacities, block: Edge) -> Vertex
     ensures { λ r. ⌜ r .0 ≡ topOf (now (t .entry)) caps (block .0) ⌝ }
 {
     Vertex(word(t, edge_area(caps), TOP, block.0))
@@ -88,13 +84,17 @@ fn right_deeper(t: &[u32], caps: Capacities, r: Trail) -> bool
     left < right
 }
 
-// The vertex on the side that climbs.
-fn climber(r: Trail, on_right: bool) -> Vertex
-    ensures { λ v. ⌜ v ≡ cond «on_right» (r .b) (r .a) ⌝ }
+// What stands above the vertex on the side that climbs.
+fn climber_up(t: &[u32], caps: Capacities, r: Trail, on_right: bool) -> u32
+    ensures { λ u. ⌜ u ≡ upOf (now (t .entry)) caps (cond «on_right» (r .b .0) (r .a .0)) ⌝ }
 {
     let a = r.a;
     let b = r.b;
-    if on_right { b } else { a }
+    if on_right {
+        up(t, caps, b)
+    } else {
+        up(t, caps, a)
+    }
 }
 
 // Writes down a step along an edge to the vertex v above its block.
@@ -132,13 +132,26 @@ fn record_step(
     }
 }
 
-// From the deeper of two vertices to the block above it, until the two are one.
-fn from_vertex(t: &mut [u32], caps: Capacities, r: Trail, remaining: u32) -> Trail
-    requires { ⌜ r .left + r .right + remaining < 4294967295 ⌝ }
-    ensures { λ r′. ⌜ (now (t .exit) ≡ climbFrom remaining (now (t .entry)) caps r .table) × (r′ ≡ climbFrom remaining (now (t .entry)) caps r .trail) × (r′ .left + r′ .right ≤ r .left + r .right + remaining) ⌝ }
+// From the deeper of two vertices to the block above it, until the two are one. The numbers of a trail come apart, since they are passed at
+// every step.
+fn from_vertex(
+    t: &mut [u32],
+    caps: Capacities,
+    a: Vertex,
+    b: Vertex,
+    left: u32,
+    right: u32,
+    remaining: u32,
+) -> Trail
+    requires { ⌜ left + right + remaining < 4294967295 ⌝ }
+    ensures { λ r. ⌜ (now (t .exit) ≡ climbFrom remaining (now (t .entry)) caps (record { a = a; b = b; left = left; right = right }) .table) × (r ≡ climbFrom remaining (now (t .entry)) caps (record { a = a; b = b; left = left; right = right }) .trail) × (r .left + r .right ≤ left + right + remaining) ⌝ }
 {
-    let a = r.a;
-    let b = r.b;
+    let r = Trail {
+        a: a,
+        b: b,
+        left: left,
+        right: right,
+    };
     if a.0 == b.0 {
         return r;
     }
@@ -146,7 +159,7 @@ fn from_vertex(t: &mut [u32], caps: Capacities, r: Trail, remaining: u32) -> Tra
         return r;
     }
     let on_right = right_deeper(t, caps, r);
-    let edge = up(t, caps, climber(r, on_right));
+    let edge = climber_up(t, caps, r, on_right);
     if edge == 0 {
         return r;
     }
@@ -167,7 +180,49 @@ fn from_block(
 {
     let v = above(t, caps, e);
     let next = record_step(t, caps, r, e, v, on_right);
-    from_vertex(t, caps, next, remaining)
+    let a = next.a;
+    let b = next.b;
+    from_vertex(t, caps, a, b, next.left, next.right, remaining)
+}
+
+// Steps are left, and the two sides have not met.
+fn goes_on(r: Trail, remaining: u32) -> bool
+    ensures { λ g. ⌜ g ≡ (ltb 0 remaining && not (eqb (r .a .0) (r .b .0))) ⌝ }
+{
+    let a = r.a;
+    let b = r.b;
+    if remaining == 0 {
+        return false;
+    }
+    a.0 != b.0
+}
+
+// How many of the steps that are left are taken in one nest of calls.
+fn nested(remaining: u32) -> u32
+    ensures { λ n. ⌜ n ≡ min remaining 8 ⌝ }
+{
+    if remaining < NESTED {
+        remaining
+    } else {
+        NESTED
+    }
+}
+
+// The climb in nests of a few steps, so that its calls never nest deeper than that.
+fn climb_on(t: &mut [u32], caps: Capacities, start: Trail, steps: u32) -> Trail
+    requires { ⌜ start .left + start .right + steps < 4294967295 ⌝ }
+    ensures { λ r. ⌜ (now (t .exit) ≡ climbFrom steps (now (t .entry)) caps start .table) × (r ≡ climbFrom steps (now (t .entry)) caps start .trail) × (r .left + r .right ≤ start .left + start .right + steps) ⌝ }
+{
+    let mut r = start;
+    let mut remaining = steps;
+    while goes_on(r, remaining) {
+        let some = nested(remaining);
+        let a = r.a;
+        let b = r.b;
+        r = from_vertex(t, caps, a, b, r.left, r.right, some);
+        remaining -= some;
+    }
+    r
 }
 
 // How many steps of the left side stay: where both sides came up through one block, its last step is dropped.
@@ -227,12 +282,12 @@ fn reach_of(t: &[u32], caps: Capacities, a: Vertex, b: Vertex) -> u32
 }
 
 // Leaves the path of blocks from a to b in the table: its vertices and its edges, an edge for each block.
-pub fn climb(t: &mut [u32], caps: Capacities, a: Vertex, b: Vertex) -> Route
+pub(crate) fn climb(t: &mut [u32], caps: Capacities, a: Vertex, b: Vertex) -> Route
     ensures { λ r. ⌜ (now (t .exit) ≡ climbTable (now (t .entry)) caps (a .0) (b .0)) × (r ≡ climbRoute (now (t .entry)) caps (a .0) (b .0)) ⌝ }
 {
     set_word(t, vertex_area(caps), PATH_VERTEX, 0, a.0);
     let remaining = reach_of(t, caps, a, b);
-    let r = from_vertex(
+    let r = climb_on(
         t,
         caps,
         Trail {

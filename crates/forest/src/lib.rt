@@ -2,42 +2,34 @@
 // the caller lends. The operations below are all that a caller needs.
 ghost use mathlib.Core.Bool.{true};
 ghost use mathlib.Core.Path.{_≡_};
-ghost use Prim.Native.Nat.{suc, _+_, _*_, _<_, _≤_};
-ghost use lib.ListN.{length, drop, replicate};
-ghost use mathlib.Core.List.{_++_};
+ghost use Prim.Native.Nat.{_<_};
 ghost use Rattle.graph.specs.Groups.{component, bridgeBlock, bridge};
 ghost use Rattle.graph.specs.Block.{sharedBlock};
 ghost use Rattle.graph.specs.Between.{bridgesBetween, cutsBetween};
 ghost use Rattle.naming.specs.Rename.{size, nameOf};
 ghost use Rattle.forest.specs.Words.{componentName, bridgeBlockName, blockName, componentChange, bridgeBlockChange, blockChange, bridgeWritten, cutWritten};
 ghost use Rattle.forest.specs.Valid.{Valid, bookOf, networkOf};
-ghost use Rattle.forest.specs.Promise.{VertexAdded, EdgeAdded, WrittenDown, sharedName, bridgesWritten, cutsWritten};
+ghost use Rattle.forest.specs.Promise.{cleared, VertexAdded, EdgeAdded, WrittenDown, sharedName, bridgesWritten, cutsWritten};
 
 pub mod climb;
-pub mod merge;
 pub mod query;
-pub mod table;
 pub mod tree;
 
 use crate::query::Shared;
-use crate::table::Capacities;
-use crate::table::Edge;
-use crate::table::Vertex;
-use crate::table::bridge_block_area;
-use crate::table::edge_area;
-use crate::table::vertex_area;
-use crate::table::word;
 use crate::tree::Growth;
-
-const NAME: u8 = 0;
-
-const SIZE: u8 = 1;
-
-const CHANGED: u8 = 3;
-
-const PATH_VERTEX: u8 = 10;
-
-const RIGHT_EDGE: u8 = 13;
+use table::words::CHANGED;
+use table::words::Capacities;
+use table::words::Edge;
+use table::words::NAME;
+use table::words::PATH_VERTEX;
+use table::words::RIGHT_EDGE;
+use table::words::SIZE;
+use table::words::Vertex;
+use table::words::bridge_block_area;
+use table::words::edge_area;
+use table::words::vertex_area;
+use table::words::word;
+use table::words::word_behind;
 
 // How many vertices and edges the table has words for, and how many it holds.
 pub struct Shape {
@@ -52,13 +44,13 @@ pub struct Group {
     pub size: u32,
 }
 
-// Sets the first `count` words to 0.
+// Sets the first `count` words to 0, or all where there are fewer.
 pub fn clear(t: &mut [u32], count: usize)
-    requires { ⌜ count ≤ length (now t) ⌝ }
-    ensures { λ r. ⌜ now (t .exit) ≡ replicate count 0 ++ drop count (now (t .entry)) ⌝ }
+    ensures { λ r. ⌜ now (t .exit) ≡ cleared count (now (t .entry)) ⌝ }
 {
+    let end = if count < t.len() { count } else { t.len() };
     let mut i: usize = 0;
-    while i < count {
+    while i < end {
         t[i] = 0;
         i += 1;
     }
@@ -108,6 +100,17 @@ pub fn bridge_block_of(t: &[u32], shape: Shape, x: Vertex) -> Group
         name: Vertex(name),
         size: size,
     }
+}
+
+// Whether two vertices share a component.
+pub fn same_component(t: &[u32], shape: Shape, a: Vertex, b: Vertex) -> bool
+    requires { ⌜ Valid (shape .caps) (shape .vertices) (shape .edges) (now t) × (a .0 < shape .vertices) × (b .0 < shape .vertices) ⌝ }
+    ensures { λ r. ⌜ r ≡ component (networkOf (shape .caps) (shape .vertices) (shape .edges) (now (t .entry))) (a .0) (b .0) ⌝ }
+{
+    let caps = shape.caps;
+    let left = component_name(t, caps, a);
+    let right = component_name(t, caps, b);
+    left.0 == right.0
 }
 
 // The component name of a vertex.
@@ -176,10 +179,9 @@ pub fn bridge_at(t: &[u32], caps: Capacities, i: u32) -> Edge
 
 // Cut vertex i of those that are written down.
 pub fn cut_at(t: &[u32], caps: Capacities, i: u32) -> Vertex
-    requires { ⌜ i < 4294967295 ⌝ }
     ensures { λ r. ⌜ r .0 ≡ cutWritten caps (now (t .entry)) i ⌝ }
 {
-    Vertex(word(t, vertex_area(caps), PATH_VERTEX, i + 1))
+    Vertex(word_behind(t, vertex_area(caps), PATH_VERTEX, i))
 }
 
 // Vertex i of those whose component name changed.

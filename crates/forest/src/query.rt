@@ -1,32 +1,26 @@
 // The questions: what the table says of its groups, and of the path between two vertices.
 ghost use mathlib.Core.Path.{_≡_};
-ghost use mathlib.Core.Bool.{Bool};
 ghost use Prim.Native.Nat.{_+_, _≤_, _<_};
-ghost use Rattle.forest.specs.Climb.{climbTable, climbRoute};
-ghost use Rattle.forest.specs.Queries.{ringsDiffer, bridgeIn, hangsFrom, hangTogether, blockAbove, sharedIn};
+ghost use Rattle.forest.specs.Climb.{climbTable};
+ghost use Rattle.forest.specs.Queries.{bridgeBlocksDiffer, bridgeIn, hangsFrom, hangTogether, blockAbove, sharedIn};
 ghost use Rattle.forest.specs.Queries.{findTable, findCount, bridgesFound, cutsCount};
 use crate::climb::block_of;
 use crate::climb::climb;
 use crate::climb::top;
 use crate::climb::up;
-use crate::table::Capacities;
-use crate::table::Edge;
-use crate::table::Vertex;
-use crate::table::bridge_block_area;
-use crate::table::edge_area;
-use crate::table::set_word;
-use crate::table::vertex_area;
-use crate::table::word;
-
-const NAME: u8 = 0;
-
-const ENDS: u8 = 4;
-
-const PATH_VERTEX: u8 = 10;
-
-const PATH_EDGE: u8 = 11;
-
-const RIGHT_EDGE: u8 = 13;
+use table::words::Capacities;
+use table::words::ENDS;
+use table::words::Edge;
+use table::words::NAME;
+use table::words::PATH_EDGE;
+use table::words::PATH_VERTEX;
+use table::words::RIGHT_EDGE;
+use table::words::Vertex;
+use table::words::bridge_block_area;
+use table::words::edge_area;
+use table::words::set_word;
+use table::words::vertex_area;
+use table::words::word;
 
 // The block that two vertices share, by its name, or that there is none.
 pub enum Shared {
@@ -35,8 +29,8 @@ pub enum Shared {
 }
 
 // The bridge-block names of two vertices differ.
-fn rings_differ(t: &[u32], caps: Capacities, x: u32, y: u32) -> bool
-    ensures { λ r. ⌜ r ≡ ringsDiffer (now (t .entry)) caps x y ⌝ }
+fn bridge_blocks_differ(t: &[u32], caps: Capacities, x: u32, y: u32) -> bool
+    ensures { λ r. ⌜ r ≡ bridgeBlocksDiffer (now (t .entry)) caps x y ⌝ }
 {
     let left = word(t, bridge_block_area(caps), NAME, x);
     let right = word(t, bridge_block_area(caps), NAME, y);
@@ -44,11 +38,11 @@ fn rings_differ(t: &[u32], caps: Capacities, x: u32, y: u32) -> bool
 }
 
 // The bridge-block names of an edge's two ends differ.
-pub fn ends_differ(t: &[u32], caps: Capacities, s: Edge) -> bool
+pub(crate) fn ends_differ(t: &[u32], caps: Capacities, s: Edge) -> bool
     ensures { λ r. ⌜ r ≡ bridgeIn (now (t .entry)) caps (s .0) ⌝ }
 {
     let ends = word(t, edge_area(caps), ENDS, s.0);
-    rings_differ(t, caps, ends / 65536, ends % 65536)
+    bridge_blocks_differ(t, caps, ends / 65536, ends % 65536)
 }
 
 // Vertex x hangs below a block, and y is the vertex above that block.
@@ -92,7 +86,7 @@ fn block_above(t: &[u32], caps: Capacities, x: Vertex) -> Edge
 }
 
 // The block that two different vertices share.
-pub fn find_shared(t: &[u32], caps: Capacities, a: Vertex, b: Vertex) -> Shared
+pub(crate) fn find_shared(t: &[u32], caps: Capacities, a: Vertex, b: Vertex) -> Shared
     ensures { λ r. ⌜ r ≡ sharedIn (now (t .entry)) caps (a .0) (b .0) ⌝ }
 {
     if hang_together(t, caps, a, b) {
@@ -114,7 +108,7 @@ fn find_one(t: &mut [u32], caps: Capacities, i: u32, count: u32) -> u32
 {
     let x = word(t, vertex_area(caps), PATH_VERTEX, i);
     let y = word(t, vertex_area(caps), PATH_VERTEX, i + 1);
-    if rings_differ(t, caps, x, y) {
+    if bridge_blocks_differ(t, caps, x, y) {
         let e = word(t, vertex_area(caps), PATH_EDGE, i);
         set_word(t, vertex_area(caps), RIGHT_EDGE, count, e);
         return count + 1;
@@ -123,7 +117,7 @@ fn find_one(t: &mut [u32], caps: Capacities, i: u32, count: u32) -> u32
 }
 
 // Writes down the bridges on the path from a to b, in order; gives their number.
-pub fn find_bridges(t: &mut [u32], caps: Capacities, a: Vertex, b: Vertex) -> u32
+pub(crate) fn find_bridges(t: &mut [u32], caps: Capacities, a: Vertex, b: Vertex) -> u32
     ensures { λ r. ⌜ (now (t .exit) ≡ bridgesFound (now (t .entry)) caps (a .0) (b .0) .table) × (r ≡ bridgesFound (now (t .entry)) caps (a .0) (b .0) .count) ⌝ }
 {
     let route = climb(t, caps, a, b);
@@ -137,7 +131,7 @@ pub fn find_bridges(t: &mut [u32], caps: Capacities, a: Vertex, b: Vertex) -> u3
 }
 
 // Leaves the path from a to b in the table; gives the number of its vertices between its ends.
-pub fn find_cuts(t: &mut [u32], caps: Capacities, a: Vertex, b: Vertex) -> u32
+pub(crate) fn find_cuts(t: &mut [u32], caps: Capacities, a: Vertex, b: Vertex) -> u32
     ensures { λ r. ⌜ (now (t .exit) ≡ climbTable (now (t .entry)) caps (a .0) (b .0)) × (r ≡ cutsCount (now (t .entry)) caps (a .0) (b .0)) ⌝ }
 {
     let route = climb(t, caps, a, b);

@@ -4,43 +4,33 @@ ghost use mathlib.Core.Bool.{cond};
 ghost use Prim.Native.Nat.{_<_};
 ghost use Rattle.forest.specs.Tree.{newGroup, vertexTable, raiseFrom, turnFrom, turnedTable, turnedState, hangTable, linkGrown};
 ghost use Rattle.forest.specs.Tree.{enterBlock, condenseGrown, edgeGrown};
-ghost use Rattle.forest.specs.Post.{GrowsTo};
+ghost use Rattle.forest.specs.Tree.{GrowsTo};
 use crate::climb::block_of;
 use crate::climb::climb;
 use crate::climb::depth;
 use crate::climb::top;
 use crate::climb::up;
-use crate::merge::Listing;
-use crate::merge::merge;
-use crate::table::Area;
-use crate::table::Capacities;
-use crate::table::Edge;
-use crate::table::Vertex;
-use crate::table::bridge_block_area;
-use crate::table::edge_area;
-use crate::table::set_word;
-use crate::table::vertex_area;
-use crate::table::word;
-
-const NAME: u8 = 0;
-
-const SIZE: u8 = 1;
-
-const RANGE: u8 = 2;
-
-const CHANGED: u8 = 3;
-
-const ENDS: u8 = 4;
-
-const TOP: u8 = 5;
-
-const UP: u8 = 8;
-
-const DEPTH: u8 = 9;
-
-const PATH_VERTEX: u8 = 10;
-
-const PATH_EDGE: u8 = 11;
+use table::merge::Listing;
+use table::merge::merge;
+use table::words::Area;
+use table::words::CHANGED;
+use table::words::Capacities;
+use table::words::DEPTH;
+use table::words::ENDS;
+use table::words::Edge;
+use table::words::NAME;
+use table::words::PATH_EDGE;
+use table::words::PATH_VERTEX;
+use table::words::RANGE;
+use table::words::SIZE;
+use table::words::TOP;
+use table::words::UP;
+use table::words::Vertex;
+use table::words::bridge_block_area;
+use table::words::edge_area;
+use table::words::set_word;
+use table::words::vertex_area;
+use table::words::word;
 
 // What one edge more did: how many items of each kind changed their name, and the new edge's block name.
 pub struct Growth {
@@ -69,7 +59,7 @@ fn new_group(t: &mut [u32], area: Area, x: u32)
 }
 
 // One vertex more: a component, a bridge-block and a root by itself.
-pub fn grow_vertex(t: &mut [u32], caps: Capacities, x: Vertex)
+pub(crate) fn grow_vertex(t: &mut [u32], caps: Capacities, x: Vertex)
     ensures { λ r. ⌜ now (t .exit) ≡ vertexTable (now (t .entry)) caps (x .0) ⌝ }
 {
     new_group(t, vertex_area(caps), x.0);
@@ -220,7 +210,7 @@ fn condense(t: &mut [u32], caps: Capacities, e: Edge, a: Vertex, b: Vertex) -> G
     let route = climb(t, caps, a, b);
     let steps = route.steps;
     let vertices = steps + 1;
-    let rings = merge(
+    let bridge_blocks = merge(
         t,
         bridge_block_area(caps),
         Listing {
@@ -242,14 +232,14 @@ fn condense(t: &mut [u32], caps: Capacities, e: Edge, a: Vertex, b: Vertex) -> G
     enter_block(t, caps, e, blocks.name, v);
     Growth {
         components: 0,
-        bridge_blocks: rings.changed,
+        bridge_blocks: bridge_blocks.changed,
         blocks: blocks.changed,
         block: Edge(blocks.name),
     }
 }
 
 // One edge more, between two different vertices.
-pub fn grow_edge(t: &mut [u32], caps: Capacities, e: Edge, a: Vertex, b: Vertex) -> Growth
+pub(crate) fn grow_edge(t: &mut [u32], caps: Capacities, e: Edge, a: Vertex, b: Vertex) -> Growth
     requires { ⌜ e .0 < 4294967295 ⌝ }
     ensures { λ r. ⌜ GrowsTo (now (t .exit)) r (edgeGrown (now (t .entry)) caps (e .0) (a .0) (b .0)) ⌝ }
 {

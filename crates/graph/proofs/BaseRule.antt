@@ -14,7 +14,7 @@ use Rattle.graph.specs.BlockPath.{BlockPath}
 use Rattle.graph.proofs.Never.{never-rule, mates-never, first-mate-never, no-mate-never}
 use Rattle.graph.proofs.CommonCycle.{parallel-edges-on-cycle}
 use Rattle.graph.proofs.PathBridges.{pathBridges, bridges-of-block-path}
-use Rattle.graph.proofs.EdgeMoreRings.{onRings, bridge-block-edge-within, bridge-old-on-path}
+use Rattle.graph.proofs.EdgeMoreBridgeBlocks.{onBridgeBlocks, bridge-block-edge-within, bridge-old-on-path}
 
 -- two different edges between one pair of vertices are a simple cycle (document 01: two spans between one pair are such a cycle)
 pub parallel-edges-on-cycle-never : (g : Network) → Proper g → g .rule ≡ never → (s t : ℕ) → s < edgeCount g → t < edgeCount g
@@ -44,7 +44,7 @@ bridges-of-block-path-never g proper none {a} {b} {ps} path =
 -- one edge more: the bridge-blocks of the vertices of a block path between its ends become one, and no other changes
 pub bridge-block-edge-within-never : (g : Network) (e : Edge) → Proper g → g .rule ≡ never → {ps : List Step}
     → BlockPath g (e .left) ps (e .right) → (x y : ℕ)
-    → bridgeBlock (addEdge g e) x y ≡ (bridgeBlock g x y || (onRings g (e .left) ps x && onRings g (e .left) ps y))
+    → bridgeBlock (addEdge g e) x y ≡ (bridgeBlock g x y || (onBridgeBlocks g (e .left) ps x && onBridgeBlocks g (e .left) ps y))
 bridge-block-edge-within-never g e proper none =
     bridge-block-edge-within g e proper (never-rule g none) (no-mate-never g e none)
 

@@ -103,16 +103,6 @@ unfolding allBelow
 all-below-same zero p q f = refl
 all-below-same (suc n) p q f = ap₂ _&&_ (all-below-same n p q (fewer n p q f)) (f n (omega arith))
 
--- tests that agree below n agree on the least number that passes
-pub least-below-same : (n : ℕ) (p q : ℕ → Bool) → Agree n p q → leastBelow n p ≡ leastBelow n q
-unfolding leastBelow
-least-below-same zero p q f = refl
-least-below-same (suc n) p q f =
-    ap₂
-    (λ (o : Option ℕ) (b : Bool). elim o [ some k ↦ some k | none ↦ cond b (some n) none ])
-    (least-below-same n p q (fewer n p q f))
-    (f n (omega arith))
-
 -- tests that agree below n agree on how many numbers pass
 pub count-same : (n : ℕ) (p q : ℕ → Bool) → Agree n p q → count n p ≡ count n q
 unfolding count

@@ -8,14 +8,14 @@ use lib.Dec.{eqb, ltb}
 use Rattle.graph.specs.Network.{Network, edgeCount, without, nothing, joined, Proper}
 use Rattle.graph.specs.Groups.{component}
 use Rattle.graph.specs.Cycle.{Step, anyStep}
-use Rattle.graph.specs.Block.{block}
-use Rattle.graph.specs.BlockPath.{onBlock, blocksLead, fresh, blocksDiffer, BlockPath}
+use Rattle.graph.specs.Block.{block, onBlock}
+use Rattle.graph.specs.BlockPath.{blocksLead, fresh, blocksDiffer, BlockPath}
 use Rattle.graph.proofs.Truth.{not-both, false-of-not, false-of-not-true, or-cases, or-left, or-right, or-neither, or-neither-left, or-neither-right}
 use Rattle.graph.proofs.Truth.{and-left, and-right, and-both, not-of-false, eqb-eq, eqb-same, eq-eqb, eqb-swap, ltb-lt, lt-ltb}
 use Rattle.graph.proofs.Joined.{joined-refl, joined-trans}
 use Rattle.graph.proofs.Ends.{joined-from, joined-to}
 use Rattle.graph.proofs.Mates.{joined-component}
-use Rattle.graph.proofs.BlockVertices.{on-block-known, block-vertices-joined-within, block-outlives-vertex, blocks-part-at-vertex}
+use Rattle.graph.proofs.BlockVertices.{block-vertices-joined-within, block-outlives-vertex, blocks-part-at-vertex}
 
 -- some step leads to vertex c
 abbrev pub visits : ℕ → List Step → Bool
@@ -173,15 +173,6 @@ module _ (g : Network) (r : Proper g) where
   step-outlives-vertex : {a b : ℕ} {p : Step} {ps : List Step} → Onward g a p ps b → (c : ℕ)
       → eqb c a ≡ false → eqb c (p .to) ≡ false → joined g (without g c) a (p .to) ≡ true
   step-outlives-vertex {a} {b} {p} o c = block-outlives-vertex g r (p .along) c a (p .to) (o .on-start) (o .on-end)
-
-  -- every vertex that a block path leads to is a vertex of the network
-  pub visited-known : {a b : ℕ} {ps : List Step} → BlockPath g a ps b → (c : ℕ) → visits c ps ≡ true → c < g .vertices
-  visited-known {ps = []} path c v = absurd (not-both v (visits-none c))
-  visited-known {a} {b} {ps = p ∷ ps} path c v = go (visits-first c p ps v) (visited-known (onward path .rest) c)
-    where
-      go : (p .to ≡ c) ⊎ (visits c ps ≡ true) → (visits c ps ≡ true → c < g .vertices) → c < g .vertices
-      go (inl q) f = rw q at (on-block-known g r (p .along) (p .to) (onward path .on-end))
-      go (inr w) f = f w
 
   -- without a vertex that is not on it, a block path still joins its ends
   pub path-outlives-vertex : {a b : ℕ} {ps : List Step} → BlockPath g a ps b → (c : ℕ)

@@ -8,8 +8,8 @@ use lib.Dec.{eqb}
 use Rattle.graph.specs.Network.{Network, edge, edgeCount}
 use Rattle.graph.specs.Groups.{component}
 use Rattle.graph.specs.Cycle.{Step, leads}
-use Rattle.graph.specs.Block.{block}
-use Rattle.graph.specs.BlockPath.{onBlock, blocksDiffer, BlockPath}
+use Rattle.graph.specs.Block.{block, onBlock}
+use Rattle.graph.specs.BlockPath.{blocksDiffer, BlockPath}
 use Rattle.graph.proofs.Truth.{true-or-false, not-both, and-both, not-of-false, eqb-eq}
 use Rattle.graph.proofs.Walks.{leads-none, leads-first, joins-swap, component-walk}
 use Rattle.graph.proofs.Joins.{joins-touches}

@@ -6,8 +6,7 @@ use mathlib.Core.Path.{_≡_, refl, sym, _∙_}
 use Prim.Native.Nat.{ℕ, _<_}
 use lib.Dec.{eqb}
 use Rattle.graph.specs.Network.{Network, edge, edgeCount, touches, otherEnd, without, joined, Proper}
-use Rattle.graph.specs.Block.{block, link}
-use Rattle.graph.specs.BlockPath.{onBlock}
+use Rattle.graph.specs.Block.{block, link, onBlock}
 use Rattle.graph.proofs.Truth.{true-or-false, not-both, false-of-not, bool-ext, not-of-true, and-left, and-right, and-both, eqb-eq, eqb-swap}
 use Rattle.graph.proofs.Below.{any-below, some-below, Below}
 use Rattle.graph.proofs.Joined.{joined-refl, joined-sym, joined-trans}

@@ -7,8 +7,7 @@ use lib.Dec.{eqb}
 use Rattle.graph.specs.Network.{Network, MateRule, Proper, edge, edgeCount, touches, otherEnd, mates, lossOf, joined}
 use Rattle.graph.specs.Groups.{bridge, bridgeBlock}
 use Rattle.graph.specs.Cycle.{joins}
-use Rattle.graph.specs.Block.{block}
-use Rattle.graph.specs.BlockPath.{onBlock}
+use Rattle.graph.specs.Block.{block, onBlock}
 use Rattle.graph.proofs.Truth.{true-or-false, not-both, bool-ext, not-of-true, true-of-not-false, or-cases, eqb-eq}
 use Rattle.graph.proofs.Joined.{joined-swap, joined-less-lost, joined-same-loss}
 use Rattle.graph.proofs.Walks.{joins-least}

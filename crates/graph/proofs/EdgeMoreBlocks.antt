@@ -8,8 +8,8 @@ use Prim.Native.Nat.{ℕ, _<_}
 use lib.Dec.{eqb}
 use Rattle.graph.specs.Network.{Network, Edge, edge, edgeCount, touches, otherEnd, addEdge, Proper, MateRule, mates, without, joined}
 use Rattle.graph.specs.Cycle.{Step, anyStep}
-use Rattle.graph.specs.Block.{block}
-use Rattle.graph.specs.BlockPath.{onBlock, BlockPath}
+use Rattle.graph.specs.Block.{block, onBlock}
+use Rattle.graph.specs.BlockPath.{BlockPath}
 use Rattle.graph.proofs.Truth.{true-or-false, not-both, bool-ext, or-cases, or-left, or-right, or-neither-left, or-neither-right}
 use Rattle.graph.proofs.Truth.{eqb-eq, eqb-same, eq-eqb, eqb-swap}
 use Rattle.graph.proofs.Joined.{edge-new, joined-refl, joined-sym, joined-trans}

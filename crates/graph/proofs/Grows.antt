@@ -8,8 +8,7 @@ use lib.Dec.{eqb}
 use Rattle.graph.specs.Below.{anyBelow}
 use Rattle.graph.specs.Network.{Network, Edge, MateRule, edgeCount, addEdge, touches, mates, nothing, lossOf, without, joined}
 use Rattle.graph.specs.Groups.{component, bridgeBlock}
-use Rattle.graph.specs.Block.{block, link}
-use Rattle.graph.specs.BlockPath.{onBlock}
+use Rattle.graph.specs.Block.{block, link, onBlock}
 use Rattle.graph.proofs.Truth.{true-or-false, false-of-not, not-both, bool-ext, eqb-eq, eq-eqb}
 use Rattle.graph.proofs.Below.{any-below, some-below, Below}
 use Rattle.graph.proofs.Joined.{joined-less-lost, joined-same-loss, edge-count-more, edge-old, old-or-new, joined-old}

@@ -33,7 +33,7 @@ pub mod BlockVertices
 pub mod SharedBlock
 pub mod BlockPath
 pub mod BlockPathExists
-pub mod MeshOutlives
+pub mod BlockOutlives
 pub mod PathCuts
 pub mod BridgeVertices
 pub mod PathBridges
@@ -42,7 +42,7 @@ pub mod Grows
 pub mod EdgeMore
 pub mod EdgeMoreBlocks
 pub mod EdgeMoreBridges
-pub mod EdgeMoreRings
+pub mod EdgeMoreBridgeBlocks
 pub mod BaseRule
 pub mod SecondRule
 pub mod Lengths

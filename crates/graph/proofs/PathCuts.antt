@@ -12,7 +12,7 @@ use Rattle.graph.specs.Cycle.{Step, anyStep}
 use Rattle.graph.specs.Between.{isCutBetween, cutBefore, cutsBetween}
 use Rattle.graph.specs.BlockPath.{BlockPath}
 use Rattle.graph.proofs.Truth.{true-or-false, not-both, or-neither}
-use Rattle.graph.proofs.Truth.{not-of-false, false-of-not-true, and-left, and-right, and-both, eqb-eq, eqb-swap}
+use Rattle.graph.proofs.Truth.{not-of-false, and-left, and-both, eqb-eq, eqb-swap}
 use Rattle.graph.proofs.Joined.{joined-trans}
 use Rattle.graph.proofs.Members.{all-in}
 use Rattle.graph.proofs.CutsBetween.{joined-without, cuts-between-unique}
@@ -55,16 +55,6 @@ pub in-inner : {g : Network} {a b : ℕ} {ps : List Step} → BlockPath g a ps b
 unfolding inner anyStep isIn
 in-inner {ps = []} path c = refl
 in-inner {b = b} {ps = p ∷ ps} path c = in-starts (onward path .rest) c ∙ ap (λ z. (z || visits c ps) && not (eqb c b)) (eqb-swap c (p .to))
-
--- a vertex between the ends is visited, and is not the end
-pub inner-visited : {g : Network} {a b : ℕ} {ps : List Step} → BlockPath g a ps b → (c : ℕ) → isIn c (inner ps) ≡ true
-    → visits c ps ≡ true
-inner-visited {b = b} {ps = ps} path c m = and-left (visits c ps) (not (eqb c b)) (sym (in-inner path c) ∙ m)
-
-pub inner-not-end : {g : Network} {a b : ℕ} {ps : List Step} → BlockPath g a ps b → (c : ℕ) → isIn c (inner ps) ≡ true
-    → eqb c b ≡ false
-inner-not-end {b = b} {ps = ps} path c m =
-    false-of-not-true (eqb c b) (and-right (visits c ps) (not (eqb c b)) (sym (in-inner path c) ∙ m))
 
 starts-distinct : {g : Network} {a b : ℕ} {ps : List Step} → BlockPath g a ps b → distinct (starts a ps) ≡ true
 unfolding starts distinct

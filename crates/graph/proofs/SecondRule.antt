@@ -28,7 +28,7 @@ use Rattle.graph.proofs.LoneEdge.{lone-edge}
 use Rattle.graph.proofs.PathBridges.{pathBridges, bridges-of-block-path}
 use Rattle.graph.proofs.EdgeMoreBlocks.{joinsMate, block-edge-mate}
 use Rattle.graph.proofs.EdgeMoreBridges.{bridge-block-mate}
-use Rattle.graph.proofs.EdgeMoreRings.{onRings, bridge-block-edge-within}
+use Rattle.graph.proofs.EdgeMoreBridgeBlocks.{onBridgeBlocks, bridge-block-edge-within}
 use Rattle.graph.proofs.Joined.{edge-old, edge-new}
 
 -- an edge is parallel to itself
@@ -128,7 +128,7 @@ module _ (g : Network) (proper : Proper g) (two-ends : g .rule ≡ parallel) whe
   -- any other makes the bridge-blocks of a block path between its ends one
   pub bridge-block-other-more : (e : Edge) → ((t : ℕ) → t < edgeCount g → parallel (edge g t) e ≡ false) → {ps : List Step}
       → BlockPath g (e .left) ps (e .right) → (x y : ℕ)
-      → bridgeBlock (addEdge g e) x y ≡ (bridgeBlock g x y || (onRings g (e .left) ps x && onRings g (e .left) ps y))
+      → bridgeBlock (addEdge g e) x y ≡ (bridgeBlock g x y || (onBridgeBlocks g (e .left) ps x && onBridgeBlocks g (e .left) ps y))
   bridge-block-other-more e n = bridge-block-edge-within g e proper rule (λ t h. mates-new g two-ends e t h ∙ n t h)
 
 -- two edges between one pair

@@ -1,23 +1,19 @@
 -- The block that two vertices share, as it is computed: the least edge at the first vertex whose block has the second.
-use mathlib.Core.Bool.{true, false, _&&_, and-comm}
+use mathlib.Core.Bool.{true, false, _&&_}
 use mathlib.Core.Option.{Option, none, some}
-use mathlib.Core.Path.{_≡_, refl, sym, _∙_, ap, subst}
+use mathlib.Core.Path.{_≡_, refl, sym, _∙_, subst}
 use Prim.Native.Nat.{ℕ, _<_}
 use lib.Dec.{eqb}
 use Rattle.graph.specs.Network.{Network, edge, edgeCount, touches, Proper}
-use Rattle.graph.specs.Block.{block, atBoth, sharedBlock}
-use Rattle.graph.specs.BlockPath.{onBlock}
+use Rattle.graph.specs.Block.{block, atBoth, sharedBlock, onBlock}
 use Rattle.graph.proofs.Truth.{not-both, false-of-not, and-left, and-right, and-both}
-use Rattle.graph.proofs.Below.{any-below-same, Least, found, missing, least-below}
+use Rattle.graph.proofs.Below.{Least, found, missing, least-below}
 use Rattle.graph.proofs.BlockVertices.{OnBlock, on-block, end-on-block, on-same-block, share-at-most-one-block}
 
 -- an edge of the shared block: at the first vertex, and with the second on its block
 at-both : (g : Network) (a b s : ℕ) → atBoth g a b s ≡ (touches (edge g s) a && onBlock g s b)
-unfolding atBoth onBlock
-at-both g a b s =
-    ap (λ z. touches (edge g s) a && z)
-    (any-below-same (edgeCount g) (λ t. touches (edge g t) b && block g s t) (λ t. block g s t && touches (edge g t) b)
-    (λ t h. and-comm (touches (edge g t) b) (block g s t)))
+unfolding atBoth
+at-both g a b s = refl
 
 -- an edge at the first vertex, with both vertices on its block
 pub record Shared (g : Network) (a b s : ℕ) : Type 0 where

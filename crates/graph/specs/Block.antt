@@ -1,5 +1,5 @@
 -- Blocks (document 01: meshes): groups of edges.
-use mathlib.Core.Bool.{Bool, true, not, _&&_, _||_}
+use mathlib.Core.Bool.{Bool, true, _&&_, _||_}
 use mathlib.Core.List.{List, [], _++_, map}
 use mathlib.Core.Logic.{_⊎_}
 use mathlib.Core.Option.{Option}
@@ -34,9 +34,13 @@ links g = pairsBelow (edgeCount g) (edgeCount g) (link g)
 unfoldable pub block : Network → ℕ → ℕ → Bool
 block g = same (links g)
 
+-- Vertex x is on the block of edge s: some edge of that block has x for an end.
+unfoldable pub onBlock : Network → ℕ → ℕ → Bool
+onBlock g s x = anyBelow (edgeCount g) (λ t. block g s t && touches (edge g t) x)
+
 -- Edge s is at vertex a, and its block has an edge at vertex b.
 unfoldable pub atBoth : Network → ℕ → ℕ → ℕ → Bool
-atBoth g a b s = touches (edge g s) a && anyBelow (edgeCount g) (λ t. touches (edge g t) b && block g s t)
+atBoth g a b s = touches (edge g s) a && onBlock g s b
 
 -- The least edge of the block that has edges at both vertices, of those at the first; none where there is no such block.
 unfoldable pub sharedBlock : Network → ℕ → ℕ → Option ℕ

@@ -4,14 +4,9 @@ use mathlib.Core.List.{List, [], _∷_}
 use mathlib.Core.Path.{_≡_}
 use Prim.Native.Nat.{ℕ}
 use lib.Dec.{eqb, ltb}
-use Rattle.graph.specs.Below.{anyBelow}
-use Rattle.graph.specs.Network.{Network, edge, edgeCount, touches}
+use Rattle.graph.specs.Network.{Network, edgeCount}
 use Rattle.graph.specs.Cycle.{Step, anyStep}
-use Rattle.graph.specs.Block.{block}
-
--- Vertex x is on the block of edge s: some edge of that block has x for an end.
-unfoldable pub onBlock : Network → ℕ → ℕ → Bool
-onBlock g s x = anyBelow (edgeCount g) (λ t. block g s t && touches (edge g t) x)
+use Rattle.graph.specs.Block.{block, onBlock}
 
 -- The steps lead from vertex a to vertex b, each within one block, which is given by any one of its edges.
 unfoldable pub blocksLead : Network → ℕ → List Step → ℕ → Bool

@@ -122,5 +122,5 @@ summaries =
 
 -- The definitions give these groups.
 pub examples-have-their-groups : map summary examples ≡ summaries
-unfolding summary examples summaries network between leasts Below.anyBelow Below.allBelow Below.leastBelow Below.listed Below.tabulate Labels.relabel Labels.labels Labels.same Network.touches Network.otherEnd Network.never Network.edgeCount Network.edge Network.mates Network.nothing Network.lossOf Network.without Network.kept Network.joined Groups.component Groups.parts Groups.bridge Groups.bridgeBlock Block.linkAt Block.link Block.pairsBelow Block.links Block.block Block.atBoth Block.sharedBlock Between.insert Between.sort Between.leastMate Between.isBridgeBetween Between.bridgeBefore Between.bridgesBetween Between.isCutBetween Between.cutBefore Between.cutsBetween
+unfolding summary examples summaries network between leasts Below.anyBelow Below.allBelow Below.leastBelow Below.listed Below.tabulate Labels.relabel Labels.labels Labels.same Network.touches Network.otherEnd Network.never Network.edgeCount Network.edge Network.mates Network.nothing Network.lossOf Network.without Network.kept Network.joined Groups.component Groups.parts Groups.bridge Groups.bridgeBlock Block.linkAt Block.link Block.pairsBelow Block.links Block.block Block.onBlock Block.atBoth Block.sharedBlock Between.insert Between.sort Between.leastMate Between.isBridgeBetween Between.bridgeBefore Between.bridgesBetween Between.isCutBetween Between.cutBefore Between.cutsBetween
 examples-have-their-groups = refl

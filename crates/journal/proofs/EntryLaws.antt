@@ -1,32 +1,32 @@
 -- The entry in code: refused at the start, or run, cleared and reported, it leaves what the register leaves.
 use mathlib.Core.Bool.{not}
-use mathlib.Core.List.{List, [], _∷_, _++_}
+use mathlib.Core.List.{List, [], _∷_}
 use mathlib.Core.Logic.{_⊎_, inl, inr}
 use mathlib.Core.Option.{Option, none, some}
 use mathlib.Core.Path.{_≡_, refl, sym, _∙_, ap}
-use Prim.Native.Nat.{ℕ, _+_, _*_, _≤_, _<_}
+use Prim.Native.Nat.{ℕ, _+_, _*_, _≤_, _<_, min}
 use native.Mathlib.Omega.{arith}
 use lib.Dec.{leb, ltb}
-use lib.ListN.{length, drop, set, replicate, length-replicate}
+use lib.ListN.{length, set, replicate, length-replicate}
 use lib.Seq.{drop-drop}
 use Rattle.graph.specs.Network.{never}
 use Rattle.graph.proofs.Truth.{le-leb, lt-ltb, ltb-ge, ge-ltb, or-neither-left, or-neither-right}
 use Rattle.naming.specs.Book.{emptyBook}
-use Rattle.forest.specs.declared.table.Capacities as Forest
-use Rattle.forest.specs.Promise.{SameBeyond}
+use Rattle.commands.specs.Refusal.{Refusal, Capacities, firstThatApplies}
+use Rattle.commands.specs.Run.{Run, runWithin}
+use Rattle.commands.specs.Entry.{workNeeded, startLines, ran, wholeUnless, wholeRun, numberOf, reportOf, over, Buffers, Outcome, outcome, entryUnder}
+use Rattle.commands.specs.Register.{registerRule, register}
+use Rattle.commands.proofs.Cases.{le-or-gt, gt-leb}
+use Rattle.commands.specs.Entry.{shortBuffers}
+use Rattle.commands.proofs.Start.{good-exactly, ran-exactly}
+use Rattle.commands.proofs.Returned.{zero-exactly}
+use Rattle.commands.proofs.WholeRun.{register-whole-run}
+use Rattle.table.specs.declared.words.Capacities as Forest
+use Rattle.forest.specs.Promise.{cleared, SameBeyond}
 use Rattle.journal.specs.declared.run.Progress.{Progress}
-use Rattle.journal.specs.Refusal.{Refusal, Capacities, firstThatApplies}
-use Rattle.journal.specs.Run.{Run, runWithin}
-use Rattle.journal.specs.Entry.{workNeeded, startLines, ran, wholeUnless, wholeRun, numberOf, reportOf, over, Buffers, Outcome, outcome, entryUnder}
-use Rattle.journal.specs.Register.{registerRule, register}
 use Rattle.journal.specs.Steps.{capacitiesOf}
 use Rattle.journal.specs.Runs.{RunPromise}
 use Rattle.journal.specs.Promise.{sixNumbers, RegisterPromise}
-use Rattle.journal.proofs.Cases.{le-or-gt, gt-leb}
-use Rattle.journal.specs.Entry.{shortBuffers}
-use Rattle.journal.proofs.Start.{good-exactly, ran-exactly}
-use Rattle.journal.proofs.Returned.{zero-exactly}
-use Rattle.journal.proofs.WholeRun.{register-whole-run}
 
 -- below is not at most, the other way round
 pub below-not-at-most : (m n : ℕ) → ltb m n ≡ not (leb n m)
@@ -51,13 +51,15 @@ stored-over (x₀ ∷ x₁ ∷ x₂ ∷ x₃ ∷ x₄ ∷ x₅ ∷ l) a b c d e 
 -- the words that are cleared are as many as the run uses, and those beyond are as before
 cleared-over : (caps : Forest.Capacities) (old new : List ℕ) → SameBeyond caps old new
     → let count = workNeeded (capacitiesOf caps) in
-    replicate count 0 ++ drop count new ≡ over (replicate count 0) old
-unfolding over workNeeded capacitiesOf
-cleared-over caps old new same =
+    count ≤ length old → cleared count new ≡ over (replicate count 0) old
+unfolding cleared over workNeeded capacitiesOf
+cleared-over caps old new same long =
     let used = caps .vertices * 24 + caps .edges * 8 in
     let count = 24 * caps .vertices + 8 * caps .edges + 64 in
     let split : used + 64 ≡ count = omega arith in
+    let all : min count (length new) ≡ count = omega (arith, same .as-long) in
     rw (
+      all,
       length-replicate {A = ℕ} count 0,
       ← split,
       ← drop-drop 64 used new,
@@ -140,16 +142,16 @@ pub promised-by-run : (caps : Forest.Capacities) (journal : List ℕ) (lent : Bu
     → number ≡ numberOf (firstLine (capacitiesOf caps) journal lent) → number ≡ 0
     → (p : Progress) (work newWork newAnswers report : List ℕ)
     → RunPromise caps (theRun (capacitiesOf caps) journal lent) p (lent .work) work (lent .answers) newAnswers
-    → newWork ≡ replicate (workNeeded (capacitiesOf caps)) 0 ++ drop (workNeeded (capacitiesOf caps)) work
+    → newWork ≡ cleared (workNeeded (capacitiesOf caps)) work
     → report ≡ over (sixNumbers p) (lent .report)
     → RegisterPromise (capacitiesOf caps) journal lent (p .refusal) (record { work = newWork; answers = newAnswers; report = report })
 unfolding register registerRule entryUnder outcome
-promised-by-run caps journal lent number e z p work newWork newAnswers report w cleared reported =
+promised-by-run caps journal lent number e z p work newWork newAnswers report w worked reported =
     promised (capacitiesOf caps) journal lent (p .refusal) (record { work = newWork; answers = newAnswers; report = report })
     (rw (
       ran-whole (capacitiesOf caps) journal lent number e z,
-      cleared,
-      cleared-over caps (lent .work) work (w .same-beyond),
+      worked,
+      cleared-over caps (lent .work) work (w .same-beyond) (begins (capacitiesOf caps) journal lent number e z .long-work),
       w .answers-are,
       reported,
       numbers-are caps (theRun (capacitiesOf caps) journal lent) p (lent .work) work (lent .answers) newAnswers w,

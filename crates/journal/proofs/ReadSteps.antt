@@ -9,11 +9,11 @@ use native.Mathlib.Omega.{arith}
 use lib.Dec.{leb}
 use lib.ListN.{length, getD, drop}
 use lib.Seq.{getD-drop}
-use Rattle.journal.specs.Bytes.{number}
-use Rattle.journal.specs.Command.{Command, Form, unknown, alone, withOne, withTwo, form, operand, unknownByte, cutOff, command, readForm, readCommand}
+use Rattle.commands.specs.Bytes.{number}
+use Rattle.commands.specs.Command.{Command, Form, unknown, alone, withOne, withTwo, form, operand, unknownByte, cutOff, command, readForm, readCommand}
+use Rattle.commands.proofs.Cases.{le-or-gt, gt-leb, impossible}
+use Rattle.commands.proofs.Reading.{widthOf, long-enough, cut-off, unknown-byte, unknown-exactly}
 use Rattle.journal.specs.Reads.{ofOne, ofTwo}
-use Rattle.journal.proofs.Cases.{le-or-gt, gt-leb, impossible}
-use Rattle.journal.proofs.Reading.{widthOf, long-enough, cut-off, unknown-byte, unknown-exactly}
 
 -- a number in a pair of numbers or in three, one after another
 pub one-of-two : (low n : ℕ) → low ≤ n → n < low + 2 → (n ≡ low) ⊎ (n ≡ low + 1)

@@ -27,7 +27,7 @@ use denote.Struct.Declared.{Declared}
 use denote.Struct.Laws as LL
 use denote.Struct.Rest.{own-open, own-shut}
 use borrow.Fn.World.{World}
-use Rattle.journal.specs.Command.{readCommand}
+use Rattle.commands.specs.Command.{readCommand}
 use Rattle.journal.specs.Reads.{readingOf}
 use Rattle.journal.specs.declared.reader.Reader.{Reader}
 use Rattle.journal.specs.declared.read.Taken.{Taken}

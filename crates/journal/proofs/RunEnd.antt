@@ -13,20 +13,20 @@ use Rattle.graph.specs.Network.{never, edgeCount}
 use Rattle.graph.proofs.Never.{never-mates}
 use Rattle.graph.proofs.Truth.{and-left, and-right, eqb-eq, eq-eqb, ne-eqb, ltb-lt, ltb-ge}
 use Rattle.naming.specs.Book.{emptyBook, feedAll}
-use Rattle.forest.specs.declared.table.Capacities as Forest
+use Rattle.commands.specs.Refusal.{Refusal, refusalNumber, Capacities}
+use Rattle.commands.specs.Run.{Run, stop, atEnd, runWithin, fitting, commandsOf, bytesOfAnswers, placeAfter}
+use Rattle.commands.specs.Entry.{over, numberOf, bookAfter}
+use Rattle.commands.proofs.Table.{number-above-zero}
+use Rattle.commands.proofs.Room.{answers-fit}
+use Rattle.commands.proofs.Steps.{run-ends}
+use Rattle.commands.proofs.Place.{bookFed, place-within-journal}
+use Rattle.commands.proofs.RunBooks.{empty-sound}
+use Rattle.commands.proofs.RunBound.{run-short}
+use Rattle.table.specs.declared.words.Capacities as Forest
 use Rattle.forest.specs.Valid.{Valid, bookOf}
 use Rattle.journal.specs.declared.run.Progress.{Progress}
-use Rattle.journal.specs.Refusal.{Refusal, refusalNumber, Capacities}
-use Rattle.journal.specs.Run.{Run, stop, atEnd, runWithin, fitting, commandsOf, bytesOfAnswers, placeAfter}
-use Rattle.journal.specs.Entry.{over, numberOf, bookAfter}
 use Rattle.journal.specs.Steps.{capacitiesOf, bookIn}
 use Rattle.journal.specs.Runs.{leftOf, refusedProgress, RunOn, RunPromise}
-use Rattle.journal.proofs.Table.{number-above-zero}
-use Rattle.journal.proofs.Room.{answers-fit}
-use Rattle.journal.proofs.Steps.{run-ends}
-use Rattle.journal.proofs.Place.{bookFed, place-within-journal}
-use Rattle.journal.proofs.RunBooks.{empty-sound}
-use Rattle.journal.proofs.RunBound.{run-short}
 use Rattle.journal.proofs.RunStep.{same-beyond-self}
 use Rattle.journal.proofs.RunWhole.{behind, StillOn, Ended, SoFar}
 

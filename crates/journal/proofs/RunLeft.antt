@@ -7,15 +7,15 @@ use Prim.Native.Nat.{ℕ, _-_, _≤_, _<_}
 use lib.ListN.{length, drop}
 use Rattle.graph.proofs.Truth.{le-leb}
 use Rattle.naming.specs.Book.{Book}
-use Rattle.journal.specs.Command.{Command, readCommand, unknownByte, cutOff, command}
-use Rattle.journal.specs.Refusal.{Refusal, badByte, cutOperands, noRoom, Capacities, refusalOf}
-use Rattle.journal.specs.Answer.{Answer, answerBytes}
-use Rattle.journal.specs.Step.{after, answer}
-use Rattle.journal.specs.Run.{Accepted, stop, andThen, refused, accepted, verdictUnless, verdict, fitting, runWithin}
+use Rattle.commands.specs.Command.{Command, readCommand, unknownByte, cutOff, command}
+use Rattle.commands.specs.Refusal.{Refusal, badByte, cutOperands, noRoom, Capacities, refusalOf}
+use Rattle.commands.specs.Answer.{Answer, answerBytes}
+use Rattle.commands.specs.Step.{after, answer}
+use Rattle.commands.specs.Run.{Accepted, stop, andThen, refused, accepted, verdictUnless, verdict, fitting, runWithin}
+use Rattle.commands.proofs.Cases.{le-or-gt, gt-leb, impossible}
+use Rattle.commands.proofs.Room.{first-fits, first-does-not-fit}
+use Rattle.commands.proofs.Steps.{run-refuses, run-accepts}
 use Rattle.journal.specs.Steps.{refuse, accept, acceptWithin, expectedUnless, expected}
-use Rattle.journal.proofs.Cases.{le-or-gt, gt-leb, impossible}
-use Rattle.journal.proofs.Room.{first-fits, first-does-not-fit}
-use Rattle.journal.proofs.Steps.{run-refuses, run-accepts}
 
 -- an answer that is expected fits the room
 pub accepted-fits : (caps : Capacities) (b : Book) (room : ℕ) (c : Command) (a : Answer) → expected caps b room c ≡ accept a

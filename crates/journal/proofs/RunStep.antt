@@ -8,20 +8,20 @@ use native.Mathlib.Numerals.{add-one}
 use native.Mathlib.Omega.{arith}
 use lib.ListN.{length, take, drop, getD, length-drop, take-append-drop, drop-of-length-le}
 use lib.Seq.{take-all, drop-cons, drop-drop}
+use Rattle.commands.specs.Command.{Command, readCommand, unknownByte, cutOff, command}
+use Rattle.commands.specs.Refusal.{badByte, cutOperands, refusalNumber}
+use Rattle.commands.specs.Answer.{Answer, answerBytes}
+use Rattle.commands.specs.Step.{after}
+use Rattle.commands.specs.Run.{andThen, runWithin}
+use Rattle.commands.proofs.Cases.{impossible}
+use Rattle.commands.proofs.Reading.{operands-fit}
 use Rattle.forest.specs.declared.Shape.{Shape}
 use Rattle.forest.specs.Promise.{SameBeyond}
 use Rattle.journal.specs.declared.run.Progress.{Progress}
 use Rattle.journal.specs.declared.step.Stepped.{Stepped}
 use Rattle.journal.specs.declared.step.Stepped.the-variants as S
-use Rattle.journal.specs.Command.{Command, readCommand, unknownByte, cutOff, command}
-use Rattle.journal.specs.Refusal.{badByte, cutOperands, refusalNumber}
-use Rattle.journal.specs.Answer.{Answer, answerBytes}
-use Rattle.journal.specs.Step.{after}
-use Rattle.journal.specs.Run.{andThen, runWithin}
 use Rattle.journal.specs.Steps.{capacitiesOf, Expected, refuse, accept, expected, shapeOf, Stepping, bookIn, StepPromise}
 use Rattle.journal.specs.Runs.{leftOf, Underway, Ready, refusedProgress, writtenBehind, RunAccepted, Ordering, OrderPromise, RunOn}
-use Rattle.journal.proofs.Cases.{impossible}
-use Rattle.journal.proofs.Reading.{operands-fit}
 use Rattle.journal.proofs.RunLeft.{accepted-fits, within-unknown, within-cut-off, within-expects-refusal, within-expects-answer}
 
 -- the words beyond the table's are as before where the table is

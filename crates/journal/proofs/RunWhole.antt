@@ -9,21 +9,21 @@ use lib.Seq.{drop-drop, take-append-seam, drop-append-seam}
 use Rattle.graph.specs.Network.{never, edgeCount}
 use Rattle.naming.specs.Book.{Book, emptyBook}
 use Rattle.naming.proofs.Listed.{length-tabulate}
-use Rattle.forest.specs.declared.table.Capacities as Forest
+use Rattle.commands.specs.Refusal.{Refusal, refusalNumber}
+use Rattle.commands.specs.Answer.{answerBytes}
+use Rattle.commands.specs.Step.{after}
+use Rattle.commands.specs.Run.{Accepted, Run, stop, andThen, bytesOfAnswers, placeAfter}
+use Rattle.commands.specs.Entry.{over}
+use Rattle.commands.proofs.Room.{bytes-append}
+use Rattle.commands.proofs.Table.{number-above-zero}
+use Rattle.commands.proofs.Place.{bookFed, fed-more, fed-none}
+use Rattle.table.specs.declared.words.Capacities as Forest
 use Rattle.forest.specs.declared.Shape.{Shape}
 use Rattle.forest.specs.Valid.{endsOf, networkOf, bookOf}
 use Rattle.forest.specs.Promise.{SameBeyond}
 use Rattle.journal.specs.declared.run.Progress.{Progress}
-use Rattle.journal.specs.Refusal.{Refusal, refusalNumber}
-use Rattle.journal.specs.Answer.{answerBytes}
-use Rattle.journal.specs.Step.{after}
-use Rattle.journal.specs.Run.{Accepted, Run, stop, andThen, bytesOfAnswers, placeAfter}
-use Rattle.journal.specs.Entry.{over}
 use Rattle.journal.specs.Steps.{bookIn, Holds}
 use Rattle.journal.specs.Runs.{leftOf, Underway, refusedProgress, writtenBehind, RunStops, RunContinues, RunOn}
-use Rattle.journal.proofs.Room.{bytes-append}
-use Rattle.journal.proofs.Table.{number-above-zero}
-use Rattle.journal.proofs.Place.{bookFed, fed-more, fed-none}
 
 -- A run behind commands that were accepted before.
 unfoldable pub behind : List Accepted → Run → Run

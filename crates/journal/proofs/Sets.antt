@@ -6,10 +6,10 @@ use native.Mathlib.Omega.{arith}
 use lib.ListN.{length, drop, set, length-append}
 use lib.Seq.{sets, sets-eq}
 use Rattle.graph.proofs.Truth.{le-leb}
+use Rattle.commands.specs.Entry.{over}
+use Rattle.commands.proofs.Cases.{gt-leb}
 use Rattle.journal.specs.declared.write.Written.the-variants as W
-use Rattle.journal.specs.Entry.{over}
 use Rattle.journal.specs.Writes.{Wrote, writeOr, writtenOf}
-use Rattle.journal.proofs.Cases.{gt-leb}
 
 -- stores that begin where others end are one run of stores
 pub sets-behind : (l : List ℕ) (i j : ℕ) (xs ys : List ℕ) → j ≡ i + length xs → sets (sets l i xs) j ys ≡ sets l i (xs ++ ys)

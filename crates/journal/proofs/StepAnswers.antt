@@ -8,6 +8,10 @@ use mir.Val as Machine
 use Rattle.graph.specs.Groups.{bridge}
 use Rattle.graph.specs.Block.{sharedBlock}
 use Rattle.naming.specs.Rename.{nameOf}
+use Rattle.commands.specs.Bytes.{twoBytes}
+use Rattle.commands.specs.Command.{addCabinet, districtName, ringName, sharedMesh, isSole, addition}
+use Rattle.commands.specs.Answer.{boolByte, answerBytes}
+use Rattle.commands.specs.Step.{meshAnswer, answer}
 use Rattle.forest.specs.declared.Shape.{Shape}
 use Rattle.forest.specs.declared.query.Shared.{Shared}
 use Rattle.forest.specs.Valid.{bookOf, networkOf}
@@ -15,12 +19,8 @@ use Rattle.forest.specs.Promise.{VertexAdded, sharedName}
 use Rattle.journal.specs.declared.step.Stepped.the-variants as S
 use Rattle.journal.specs.declared.write.Written.{Written}
 use Rattle.journal.specs.declared.write.Written.the-variants as W
-use Rattle.journal.specs.Bytes.{twoBytes}
-use Rattle.journal.specs.Command.{addCabinet, districtName, ringName, sharedMesh, isSole, addition}
-use Rattle.journal.specs.Answer.{boolByte, answerBytes}
-use Rattle.journal.specs.Step.{meshAnswer, answer}
 use Rattle.journal.specs.Writes.{Wrote}
-use Rattle.journal.specs.Steps.{oneUnknown, sharedBytes, bookIn, Holds, StepPromise, answeredOf}
+use Rattle.journal.specs.Steps.{oneUnknown, sharedAnswer, bookIn, Holds, StepPromise, answeredOf}
 use Rattle.journal.proofs.StepLaws.{cabinets-held, same-beyond-itself, written-step, no-room-step, answered-step, holds-untouched, holds-one-cabinet-more}
 use Rattle.journal.proofs.StepTests.{cabinet-accepted, district-accepted, ring-accepted, shared-accepted, sole-accepted}
 
@@ -79,9 +79,9 @@ module _ (shape : Shape) (t oldOut newOut : List ℕ) (w : Written) (valid : Hol
       (holds-untouched shape (ringName x) refl t valid)
 
   shared-bytes : (o : Option ℕ)
-      → sharedBytes (sharedName (bookOf (shape .caps) (shape .vertices) (shape .edges) t .blocks) o)
+      → answerBytes (sharedAnswer (sharedName (bookOf (shape .caps) (shape .vertices) (shape .edges) t .blocks) o))
       ≡ answerBytes (meshAnswer (bookIn shape t) o)
-  unfolding sharedBytes sharedName answerBytes meshAnswer bookIn
+  unfolding sharedAnswer sharedName answerBytes meshAnswer bookIn
   shared-bytes none = refl
   shared-bytes (some s) = refl
 
@@ -89,7 +89,7 @@ module _ (shape : Shape) (t oldOut newOut : List ℕ) (w : Written) (valid : Hol
   pub shared-step : (x y : ℕ) (shared : Shared) → oneUnknown shape x y ≡ false → (x ≡ y → ⊥)
       → shared ≡ sharedName (bookOf (shape .caps) (shape .vertices) (shape .edges) t .blocks)
       (sharedBlock (networkOf (shape .caps) (shape .vertices) (shape .edges) t) x y)
-      → Wrote oldOut newOut w (sharedBytes shared)
+      → Wrote oldOut newOut w (answerBytes (sharedAnswer shared))
       → StepPromise shape (sharedMesh x y) t t oldOut newOut (answeredOf shape w)
   unfolding addition answer bookIn bookOf
   shared-step x y shared e d is wrote =

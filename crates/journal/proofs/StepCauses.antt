@@ -7,14 +7,14 @@ use Prim.Native.Nat.{ℕ, _≤_, _<_}
 use lib.Dec.{leb, ltb}
 use Rattle.graph.specs.Lists.{allIn}
 use Rattle.graph.proofs.Truth.{or-cases, or-neither-left, or-neither-right, leb-le, lt-ltb, ge-ltb}
+use Rattle.commands.specs.Command.{Command}
+use Rattle.commands.specs.Refusal.{unknownCabinet, unknownSpan, equalCabinets, full, twoDistricts, refusalNumber, hasEqualCabinets, isFull, isAcross}
+use Rattle.commands.proofs.Cases.{leb-gt}
+use Rattle.commands.specs.Refusal.{cabinetsKnown, spansKnown}
+use Rattle.commands.proofs.Causes.{unknown-cabinet-exactly, unknown-span-exactly, equal-cabinets-exactly, full-exactly, two-districts-exactly}
 use Rattle.forest.specs.declared.Shape.{Shape}
 use Rattle.journal.specs.declared.step.Stepped.the-variants as S
-use Rattle.journal.specs.Command.{Command}
-use Rattle.journal.specs.Refusal.{unknownCabinet, unknownSpan, equalCabinets, full, twoDistricts, refusalNumber, hasEqualCabinets, isFull, isAcross}
 use Rattle.journal.specs.Steps.{capacitiesOf, oneUnknown, bookIn, StepPromise}
-use Rattle.journal.proofs.Cases.{leb-gt}
-use Rattle.journal.specs.Refusal.{cabinetsKnown, spansKnown}
-use Rattle.journal.proofs.Causes.{unknown-cabinet-exactly, unknown-span-exactly, equal-cabinets-exactly, full-exactly, two-districts-exactly}
 use Rattle.journal.proofs.StepLaws.{cabinets-held, refused-step}
 
 module _ (shape : Shape) (t : List ℕ) where

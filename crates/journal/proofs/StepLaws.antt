@@ -8,26 +8,26 @@ use native.Mathlib.Numerals.{add-one}
 use lib.Dec.{leb}
 use lib.ListN.{length}
 use Rattle.graph.specs.Network.{edgeCount}
+use Rattle.graph.proofs.Truth.{true-or-false}
 use Rattle.naming.specs.Book.{Book, neither, feed}
-use Rattle.forest.specs.declared.table.Capacities as Forest
+use Rattle.table.specs.declared.words.Capacities as Forest
 use Rattle.forest.specs.declared.Shape.{Shape}
 use Rattle.forest.specs.Valid.{bookOf, networkOf}
 use Rattle.forest.specs.declared.tree.Growth.{Growth}
 use Rattle.forest.specs.Promise.{SameBeyond, VertexAdded, EdgeAdded, WrittenDown}
 use Rattle.forest.proofs.Networks.{edge-count}
-use Rattle.graph.proofs.Truth.{true-or-false}
 use mathlib.Core.Logic.{_⊎_, inl, inr}
+use Rattle.commands.specs.Command.{Command, addCabinet, addSpan, addition}
+use Rattle.commands.specs.Refusal.{Refusal, noRoom, refusalNumber, refusalOf, Capacities}
+use Rattle.commands.specs.Answer.{Answer, answerBytes}
+use Rattle.commands.specs.Step.{after, answer}
+use Rattle.commands.specs.Entry.{over}
+use Rattle.commands.proofs.Cases.{impossible}
 use Rattle.journal.specs.declared.step.Stepped.the-variants as S
 use Rattle.journal.specs.declared.write.Written.{Written}
 use Rattle.journal.specs.declared.write.Written.the-variants as W
-use Rattle.journal.specs.Command.{Command, addCabinet, addSpan, addition}
-use Rattle.journal.specs.Refusal.{Refusal, noRoom, refusalNumber, refusalOf, Capacities}
-use Rattle.journal.specs.Answer.{Answer, answerBytes}
-use Rattle.journal.specs.Step.{after, answer}
-use Rattle.journal.specs.Entry.{over}
 use Rattle.journal.specs.Writes.{Wrote, writeOr, writtenOf}
 use Rattle.journal.specs.Steps.{capacitiesOf, refuse, accept, acceptWithin, expectedUnless, expected, shapeOf, StepAccepted, answeredOf, bookIn, Holds, StepPromise}
-use Rattle.journal.proofs.Cases.{impossible}
 
 -- the table's network has as many cabinets as its shape says
 pub cabinets-held : (shape : Shape) (t : List ℕ) → bookIn shape t .network .vertices ≡ shape .vertices

@@ -5,34 +5,31 @@ use mathlib.Core.Logic.{_⊎_, inl, inr}
 use mathlib.Core.Path.{_≡_, refl, sym, _∙_, ap}
 use Prim.Native.Nat.{ℕ, _<_}
 use native.Mathlib.Omega.{arith}
-use lib.Dec.{eqb}
 use lib.ListN.{length}
 use Rattle.graph.specs.Below.{tabulate}
 use Rattle.graph.specs.Lists.{allIn}
 use Rattle.graph.specs.Network.{Network}
 use Rattle.graph.specs.Groups.{component}
 use Rattle.graph.specs.Between.{bridgesBetween, cutsBetween}
-use Rattle.graph.proofs.Truth.{true-or-false, false-of-not, eqb-eq, eqb-ne, not-of-true, not-of-false}
+use Rattle.graph.proofs.Truth.{true-or-false, not-of-true, not-of-false}
 use Rattle.naming.specs.Book.{neither}
-use Rattle.forest.specs.declared.table.Capacities.{Capacities}
+use Rattle.naming.proofs.Listed.{length-tabulate}
+use Rattle.commands.specs.Bytes.{twoBytes, twoBytesEach}
+use Rattle.commands.specs.Command.{Command, soleSpans, cutCabinets, addition}
+use Rattle.commands.specs.Refusal.{cabinetsOf, spansOf, hasEqualCabinets, isFull, isAcross}
+use Rattle.commands.specs.Answer.{answerBytes}
+use Rattle.commands.specs.Step.{answer}
+use Rattle.commands.specs.Refusal.{cabinetsKnown, spansKnown}
+use Rattle.table.specs.declared.words.Capacities.{Capacities}
 use Rattle.forest.specs.declared.Shape.{Shape}
-use Rattle.forest.specs.Words.{componentName}
 use Rattle.forest.specs.Valid.{bookOf, networkOf}
 use Rattle.forest.specs.Promise.{WrittenDown, bridgesWritten, cutsWritten}
-use Rattle.forest.proofs.KindWords.{one-name, one-group}
 use Rattle.journal.specs.declared.step.Stepped.the-variants as S
 use Rattle.journal.specs.declared.write.Answered.{Answered}
 use Rattle.journal.specs.declared.write.Answered.the-variants as L
 use Rattle.journal.specs.declared.write.Written.{Written}
-use Rattle.journal.specs.Bytes.{twoBytes, twoBytesEach}
-use Rattle.journal.specs.Command.{Command, soleSpans, cutCabinets, addition}
-use Rattle.journal.specs.Refusal.{cabinetsOf, spansOf, hasEqualCabinets, isFull, isAcross}
-use Rattle.journal.specs.Answer.{answerBytes}
-use Rattle.journal.specs.Step.{answer}
 use Rattle.journal.specs.Writes.{Wrote, itemAt}
 use Rattle.journal.specs.Steps.{capacitiesOf, oneUnknown, pairRefusal, bookIn, Holds, StepPromise, answeredOf}
-use Rattle.journal.specs.Refusal.{cabinetsKnown, spansKnown}
-use Rattle.naming.proofs.Listed.{length-tabulate}
 use Rattle.journal.proofs.StepLaws.{answered-step, holds-written-down}
 use Rattle.journal.proofs.StepCauses.{both-known, cabinets-known, cabinets-unknown, unknown-cabinet-step, two-districts-step}
 use Rattle.journal.proofs.StepTests.{Accepted, accepted}
@@ -73,27 +70,10 @@ asks-pair L.Cabinets x y =
       across = λ shape t. refl;
     }
 
--- Two cabinets have one district's name exactly if they are in one district.
-module _ (shape : Shape) (t : List ℕ) (valid : Holds shape t) (x y : ℕ) (known : oneUnknown shape x y ≡ false) where
-  -- one name, one district
-  pub one-district : componentName (shape .caps) t x ≡ componentName (shape .caps) t y → component (bookIn shape t .network) x y ≡ true
-  unfolding bookIn bookOf
-  one-district e =
-      let k = both-known shape t x y known in
-      one-group (valid .components) x y (k .0) (k .1) e
-
-  -- two names, two districts
-  pub two-districts : (componentName (shape .caps) t x ≡ componentName (shape .caps) t y → ⊥)
-      → component (bookIn shape t .network) x y ≡ false
-  unfolding bookIn bookOf
-  two-districts d =
-      let k = both-known shape t x y known in
-      false-of-not _ (λ e. d (one-name (valid .components) x y (k .0) (k .1) e))
-
 module _ (shape : Shape) (t : List ℕ) (valid : Holds shape t) (list : Answered) (x y : ℕ) where
-  -- the two cabinets have one district's name
-  names-agree : Bool
-  names-agree = eqb (componentName (shape .caps) t x) (componentName (shape .caps) t y)
+  -- the two cabinets are in one district
+  together : Bool
+  together = component (bookIn shape t .network) x y
 
   -- the cabinets of the question are known, and it names no span
   question-known : oneUnknown shape x y ≡ false → cabinetsKnown (bookIn shape t) (asks list x y) ≡ true
@@ -107,13 +87,13 @@ module _ (shape : Shape) (t : List ℕ) (valid : Holds shape t) (list : Answered
   -- a refusal other than 0 is the one that the table of causes gives
   pub pair-refused : (out : List ℕ) (number : ℕ) → number ≡ pairRefusal shape t x y → (number ≡ 0 → ⊥)
       → StepPromise shape (asks list x y) t t out out (S.Refused number)
-  unfolding pairRefusal cabinetsKnown names-agree
-  pair-refused out number q d = go (true-or-false (oneUnknown shape x y)) (true-or-false names-agree)
+  unfolding pairRefusal cabinetsKnown together
+  pair-refused out number q d = go (true-or-false (oneUnknown shape x y)) (true-or-false together)
     where
       p : PairQuestion (asks list x y) x y
       p = asks-pair list x y
 
-      go : (oneUnknown shape x y ≡ true) ⊎ (oneUnknown shape x y ≡ false) → (names-agree ≡ true) ⊎ (names-agree ≡ false)
+      go : (oneUnknown shape x y ≡ true) ⊎ (oneUnknown shape x y ≡ false) → (together ≡ true) ⊎ (together ≡ false)
           → StepPromise shape (asks list x y) t t out out (S.Refused number)
       go (inl u) s =
           let six : number ≡ 6 = rw u at q in
@@ -126,24 +106,24 @@ module _ (shape : Shape) (t : List ℕ) (valid : Holds shape t) (list : Answered
           let ten : number ≡ 10 = rw (u, s) at q in
           rw ten
           (two-districts-step shape (asks list x y) t out (question-known u) question-of-no-span (p .may-be-equal) (p .never-full shape t)
-          (p .across shape t ∙ not-of-false (two-districts shape t valid x y u (eqb-ne _ _ s))))
+          (p .across shape t ∙ not-of-false s))
 
   -- What no refusal says of the two cabinets.
   pub record PairAccepted : Type 0 where
     pub first-known : x < shape .vertices
     pub second-known : y < shape .vertices
-    pub together : component (networkOf (shape .caps) (shape .vertices) (shape .edges) t) x y ≡ true
+    pub one-district : component (networkOf (shape .caps) (shape .vertices) (shape .edges) t) x y ≡ true
     pub not-refused : Accepted shape t (asks list x y)
 
   -- refusal 0 is none
   pub pair-accepted : pairRefusal shape t x y ≡ 0 → PairAccepted
-  unfolding pairRefusal names-agree bookIn bookOf
-  pair-accepted q = go (true-or-false (oneUnknown shape x y)) (true-or-false names-agree)
+  unfolding pairRefusal together bookIn bookOf
+  pair-accepted q = go (true-or-false (oneUnknown shape x y)) (true-or-false together)
     where
       p : PairQuestion (asks list x y) x y
       p = asks-pair list x y
 
-      go : (oneUnknown shape x y ≡ true) ⊎ (oneUnknown shape x y ≡ false) → (names-agree ≡ true) ⊎ (names-agree ≡ false) → PairAccepted
+      go : (oneUnknown shape x y ≡ true) ⊎ (oneUnknown shape x y ≡ false) → (together ≡ true) ⊎ (together ≡ false) → PairAccepted
       go (inl u) s =
           let six : _≡_ {A = ℕ} 6 0 = rw u at q in
           absurd (omega arith)
@@ -151,13 +131,12 @@ module _ (shape : Shape) (t : List ℕ) (valid : Holds shape t) (list : Answered
           let ten : _≡_ {A = ℕ} 10 0 = rw (u, s) at q in
           absurd (omega arith)
       go (inr u) (inl s) =
-          let one = one-district shape t valid x y u (eqb-eq _ _ s) in
           record {
             first-known = both-known shape t x y u .0;
             second-known = both-known shape t x y u .1;
-            together = one;
+            one-district = s;
             not-refused = accepted shape t (asks list x y) (question-known u) question-of-no-span (p .may-be-equal) (p .never-full shape t)
-                (p .across shape t ∙ not-of-true one);
+                (p .across shape t ∙ not-of-true s);
           }
 
 -- The list that a question asks for, as it is written down, and the code of its answer.

@@ -12,31 +12,32 @@ use Rattle.graph.specs.Below.{listed, tabulate}
 use Rattle.graph.specs.Network.{edgeCount}
 use Rattle.graph.proofs.Truth.{true-or-false}
 use Rattle.graph.proofs.Lengths.{length-listed}
-use Rattle.naming.specs.Rename.{nameOf}
+use Rattle.naming.specs.Rename.{nameOf, changedItems}
 use Rattle.naming.specs.Book.{feed}
-use Rattle.forest.specs.declared.table.Capacities.{Capacities}
-use Rattle.forest.specs.declared.table.Area.{Area}
+use Rattle.naming.proofs.Listed.{length-tabulate, tabulate-same, map-tabulate}
+use Rattle.commands.specs.Bytes.{twoBytes}
+use Rattle.commands.specs.Command.{addSpan, addition}
+use Rattle.commands.specs.Answer.{Kind, kindByte, Notice, noticeBytes, noticesBytes, changes, notices, answerBytes}
+use Rattle.commands.specs.Step.{after, spanAnswer, answer}
+use Rattle.commands.proofs.Notices.{toldOf}
+use Rattle.table.specs.declared.words.Capacities.{Capacities}
+use Rattle.table.specs.declared.words.Area.{Area}
+use Rattle.table.specs.Layout.{cell, vertexArea, bridgeBlockArea, edgeArea}
+use Rattle.table.specs.Merge.{nameIn}
+use Rattle.table.specs.KindValid.{namesIn}
 use Rattle.forest.specs.declared.tree.Growth.{Growth}
 use Rattle.forest.specs.declared.Shape.{Shape}
-use Rattle.forest.specs.Layout.{cell, vertexArea, bridgeBlockArea, edgeArea}
-use Rattle.forest.specs.Merge.{nameIn}
-use Rattle.forest.specs.Valid.{Valid, bookOf, namesIn}
-use Rattle.forest.specs.Promise.{changedItems, componentsChanged, bridgeBlocksChanged, blocksChanged, EdgeAdded}
+use Rattle.forest.specs.Valid.{Valid, bookOf}
+use Rattle.forest.specs.Promise.{componentsChanged, bridgeBlocksChanged, blocksChanged, EdgeAdded}
 use Rattle.forest.proofs.Networks.{edge-count}
 use Rattle.forest.proofs.KindWords.{name-in}
 use Rattle.journal.specs.declared.notice.Change.{Change}
-use Rattle.journal.specs.declared.write.Told.{Told}
-use Rattle.journal.specs.declared.write.Told.the-variants as K
+use Rattle.journal.specs.declared.notice.Told.{Told}
+use Rattle.journal.specs.declared.notice.Told.the-variants as K
 use Rattle.journal.specs.declared.write.Written.{Written}
-use Rattle.journal.specs.Bytes.{twoBytes}
-use Rattle.journal.specs.Command.{addSpan, addition}
-use Rattle.journal.specs.Answer.{Kind, kindByte, Notice, noticeBytes, noticesBytes, changes, notices, answerBytes}
-use Rattle.journal.specs.Step.{after, spanAnswer, answer}
-use Rattle.journal.specs.Writes.{Wrote, kindOfTold}
-use Rattle.journal.specs.Told.{noticeAt, changeBytes, changesBytes, noticesAt, spanBytes}
+use Rattle.journal.specs.Writes.{Wrote}
+use Rattle.journal.specs.Told.{kindOfTold, noticeAt, changeBytes, changesBytes, noticesAt, headBytes, spanBytes}
 use Rattle.journal.specs.Steps.{bookIn, StepPromise, answeredOf}
-use Rattle.naming.proofs.Listed.{length-tabulate, tabulate-same, map-tabulate}
-use Rattle.journal.proofs.Notices.{toldOf}
 use Rattle.journal.proofs.StepLaws.{answered-step, holds-one-span-more}
 use Rattle.journal.proofs.StepTests.{Accepted}
 
@@ -213,7 +214,7 @@ module _ (caps : Capacities) (n m x y : ℕ) (old new : List ℕ) (growth : Grow
 
   -- so what is written is the answer of the books before and after
   pub span-bytes : spanBytes caps new m growth ≡ answerBytes (spanAnswer (bookOf caps n m old) (bookOf caps n (suc m) new))
-  unfolding spanBytes answerBytes spanAnswer
+  unfolding spanBytes headBytes answerBytes spanAnswer
   span-bytes =
       rw
       (edge-count-held, added .block-name, all-counted, all-bytes)

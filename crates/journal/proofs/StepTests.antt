@@ -6,14 +6,14 @@ use mathlib.Core.Path.{_≡_, refl}
 use Prim.Native.Nat.{ℕ, _≤_, _<_}
 use Rattle.graph.specs.Lists.{allIn}
 use Rattle.graph.proofs.Truth.{le-leb, lt-ltb, ge-ltb, eq-eqb, ne-eqb}
+use Rattle.commands.specs.Command.{Command, addCabinet, addSpan, districtName, ringName, sharedMesh, isSole}
+use Rattle.commands.specs.Refusal.{cabinetsOf, spansOf, hasEqualCabinets, isFull, isAcross, refusalOf}
+use Rattle.commands.proofs.Cases.{gt-leb}
+use Rattle.commands.specs.Refusal.{cabinetsKnown, spansKnown}
+use Rattle.commands.proofs.Causes.{not-refused-exactly}
 use Rattle.forest.specs.declared.Shape.{Shape}
 use Rattle.journal.specs.declared.step.Stepped.the-variants as S
-use Rattle.journal.specs.Command.{Command, addCabinet, addSpan, districtName, ringName, sharedMesh, isSole}
-use Rattle.journal.specs.Refusal.{cabinetsOf, spansOf, hasEqualCabinets, isFull, isAcross, refusalOf}
 use Rattle.journal.specs.Steps.{capacitiesOf, oneUnknown, bookIn, StepPromise}
-use Rattle.journal.proofs.Cases.{gt-leb}
-use Rattle.journal.specs.Refusal.{cabinetsKnown, spansKnown}
-use Rattle.journal.proofs.Causes.{not-refused-exactly}
 use Rattle.journal.proofs.StepLaws.{cabinets-held, spans-held}
 use Rattle.journal.proofs.StepCauses.{cabinet-known, cabinet-unknown, cabinets-known, cabinets-unknown, unknown-cabinet-step, unknown-span-step, equal-cabinets-step, full-step}
 

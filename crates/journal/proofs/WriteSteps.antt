@@ -6,16 +6,16 @@ use native.Mathlib.Omega.{arith}
 use lib.ListN.{length, length-append}
 use lib.Seq.{sets}
 use Rattle.graph.specs.Below.{tabulate}
-use Rattle.forest.specs.declared.table.Capacities.{Capacities}
+use Rattle.naming.proofs.Listed.{length-tabulate}
+use Rattle.commands.specs.Bytes.{twoBytes, twoBytesEach}
+use Rattle.commands.proofs.Bytes.{length-two-bytes-each}
+use Rattle.table.specs.declared.words.Capacities.{Capacities}
 use Rattle.forest.specs.declared.tree.Growth.{Growth}
 use Rattle.journal.specs.declared.notice.Change.{Change}
-use Rattle.journal.specs.declared.write.Told.{Told}
-use Rattle.journal.specs.declared.write.Told.the-variants as K
-use Rattle.journal.specs.Bytes.{twoBytes, twoBytesEach}
-use Rattle.journal.specs.Told.{noticeAt, changeBytes, changesBytes, noticesAt, spanBytes}
-use Rattle.journal.proofs.Bytes.{length-two-bytes-each}
+use Rattle.journal.specs.declared.notice.Told.{Told}
+use Rattle.journal.specs.declared.notice.Told.the-variants as K
+use Rattle.journal.specs.Told.{noticeAt, changeBytes, changesBytes, noticesAt, headBytes, spanBytes}
 use Rattle.journal.proofs.Sets.{sets-behind, sets-four}
-use Rattle.naming.proofs.Listed.{length-tabulate}
 
 -- items of a kind: `each` gives the bytes of a list of them, `one` those of one, which are `width` many
 module _
@@ -74,10 +74,6 @@ module _ (told : Told) (caps : Capacities) (t : List ℕ) where
   notices-more l start at i e =
       written-more changesBytes changeBytes 5 changes-more length-changes l start at i (noticeAt told caps t) e
 
--- the first seven bytes of the answer to an added span
-unfoldable pub headBytes : ℕ → ℕ → ℕ → List ℕ
-headBytes span name total = 0x82 ∷ twoBytes span ++ twoBytes name ++ twoBytes total
-
 -- the notices of an added span, counted
 abbrev pub noticeCount : Growth → ℕ
 noticeCount growth = growth .components + growth .«bridge_blocks» + growth .blocks
@@ -100,7 +96,7 @@ module _ (caps : Capacities) (t : List ℕ) (growth : Growth) where
 
   -- how many bytes the answer to an added span has
   pub length-span : (span : ℕ) → length (spanBytes caps t span growth) ≡ 7 + 5 * noticeCount growth
-  unfolding spanBytes twoBytes
+  unfolding spanBytes headBytes twoBytes
   length-span span =
       omega (
         arith,

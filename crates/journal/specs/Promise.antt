@@ -3,11 +3,11 @@ use mathlib.Core.List.{List, [], _∷_}
 use mathlib.Core.Path.{_≡_}
 use Prim.Native.Nat.{ℕ, _≤_, _<_}
 use lib.ListN.{length}
+use Rattle.commands.specs.Refusal.{Capacities}
+use Rattle.commands.specs.Entry.{Buffers, wholeRun, acceptedCommands}
+use Rattle.commands.specs.Register.{registerRule, register}
+use Rattle.commands.specs.WholeRun.{WholeRunClaim}
 use Rattle.journal.specs.declared.run.Progress.{Progress}
-use Rattle.journal.specs.Refusal.{Capacities}
-use Rattle.journal.specs.Entry.{Buffers, wholeRun, acceptedCommands}
-use Rattle.journal.specs.Register.{registerRule, register}
-use Rattle.journal.specs.WholeRun.{WholeRunClaim}
 
 -- The six numbers of the report, of a run that has come so far.
 unfoldable pub sixNumbers : Progress → List ℕ

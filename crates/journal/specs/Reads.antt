@@ -1,11 +1,11 @@
 -- What reading a command gives: the paper's value for each case of the code's answer.
 use mathlib.Core.Option.{Option, none, some}
 use Prim.Native.Nat.{ℕ}
+use Rattle.commands.specs.Command.{Command, addCabinet, addSpan, districtName, ringName, sharedMesh, soleSpans, cutCabinets, isSole, Form, unknown, alone, withOne, withTwo, Reading, unknownByte, cutOff, command}
 use Rattle.journal.specs.declared.read.Order.{Order}
 use Rattle.journal.specs.declared.read.Order.the-variants as O
 use Rattle.journal.specs.declared.read.Taken.{Taken}
 use Rattle.journal.specs.declared.read.Taken.the-variants as K
-use Rattle.journal.specs.Command.{Command, addCabinet, addSpan, districtName, ringName, sharedMesh, soleSpans, cutCabinets, isSole, Form, unknown, alone, withOne, withTwo, Reading, unknownByte, cutOff, command}
 
 -- The command that an order is.
 unfoldable pub meaning : Order → Command

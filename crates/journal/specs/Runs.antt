@@ -5,15 +5,15 @@ use mathlib.Core.Path.{_≡_}
 use Prim.Native.Nat.{ℕ, _+_, _-_, _≤_, _<_}
 use lib.ListN.{length, take, drop}
 use Rattle.graph.specs.Network.{never, edgeCount}
-use Rattle.forest.specs.declared.table.Capacities as Forest
+use Rattle.commands.specs.Command.{Command}
+use Rattle.commands.specs.Refusal.{Refusal, refusalNumber}
+use Rattle.commands.specs.Answer.{answerBytes}
+use Rattle.commands.specs.Step.{after}
+use Rattle.commands.specs.Run.{Accepted, Run, stop, andThen, runWithin, commandsOf, bytesOfAnswers, placeAfter}
+use Rattle.commands.specs.Entry.{over, numberOf, bookAfter}
+use Rattle.table.specs.declared.words.Capacities as Forest
 use Rattle.forest.specs.Promise.{SameBeyond}
 use Rattle.journal.specs.declared.run.Progress.{Progress}
-use Rattle.journal.specs.Command.{Command}
-use Rattle.journal.specs.Refusal.{Refusal, refusalNumber}
-use Rattle.journal.specs.Answer.{answerBytes}
-use Rattle.journal.specs.Step.{after}
-use Rattle.journal.specs.Run.{Accepted, Run, stop, andThen, runWithin, commandsOf, bytesOfAnswers, placeAfter}
-use Rattle.journal.specs.Entry.{over, numberOf, bookAfter}
 use Rattle.journal.specs.Steps.{capacitiesOf, Expected, refuse, accept, expected, bookIn, Holds}
 
 -- What is left of a run: the run of the rest of the journal, from the book that the table holds, with the room that is left.

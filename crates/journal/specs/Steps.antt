@@ -1,30 +1,29 @@
 -- One command with the room that there is: what is expected of it, and what the code promises.
 use mathlib.Core.Bool.{Bool, cond, _||_}
-use mathlib.Core.List.{List, _∷_}
+use mathlib.Core.List.{List}
 use mathlib.Core.Option.{Option, none, some}
 use mathlib.Core.Path.{_≡_}
 use Prim.Native.Nat.{ℕ}
-use lib.Dec.{eqb, leb}
+use lib.Dec.{leb}
 use lib.ListN.{length}
 use Rattle.graph.specs.Network.{edgeCount}
+use Rattle.graph.specs.Groups.{component}
 use Rattle.naming.specs.Book.{Book}
-use Rattle.forest.specs.declared.table.Capacities as Forest
+use Rattle.commands.specs.Command.{Command}
+use Rattle.commands.specs.Refusal.{Refusal, noRoom, refusalNumber, Capacities, refusalOf}
+use Rattle.commands.specs.Answer.{Answer, meshShared, noMeshShared, answerBytes}
+use Rattle.commands.specs.Step.{after, answer}
+use Rattle.commands.specs.Entry.{over}
+use Rattle.table.specs.declared.words.Capacities as Forest
 use Rattle.forest.specs.declared.Shape.{Shape}
 use Rattle.forest.specs.declared.query.Shared.{Shared}
 use Rattle.forest.specs.declared.query.Shared.the-variants as Q
-use Rattle.forest.specs.Words.{componentName}
 use Rattle.forest.specs.Valid.{Valid, bookOf}
 use Rattle.forest.specs.Promise.{SameBeyond}
 use Rattle.journal.specs.declared.step.Stepped.{Stepped}
 use Rattle.journal.specs.declared.step.Stepped.the-variants as S
 use Rattle.journal.specs.declared.write.Written.{Written}
 use Rattle.journal.specs.declared.write.Written.the-variants as W
-use Rattle.journal.specs.Bytes.{twoBytes}
-use Rattle.journal.specs.Command.{Command}
-use Rattle.journal.specs.Refusal.{Refusal, noRoom, refusalNumber, Capacities, refusalOf}
-use Rattle.journal.specs.Answer.{Answer, answerBytes}
-use Rattle.journal.specs.Step.{after, answer}
-use Rattle.journal.specs.Entry.{over}
 
 -- The capacities in the paper's words.
 unfoldable pub capacitiesOf : Forest.Capacities → Capacities
@@ -74,6 +73,10 @@ unfoldable pub answeredOf : Shape → Written → Stepped
 answeredOf shape (W.Bytes size) = S.Done shape size
 answeredOf shape W.NoRoom = S.Refused 11
 
+-- The book that the table holds.
+unfoldable pub bookIn : Shape → List ℕ → Book
+bookIn shape t = bookOf (shape .caps) (shape .vertices) (shape .edges) t
+
 -- One of the two cabinets is not known.
 unfoldable pub oneUnknown : Shape → ℕ → ℕ → Bool
 oneUnknown shape a b = leb (shape .vertices) a || leb (shape .vertices) b
@@ -84,16 +87,12 @@ pairRefusal shape t a b =
     cond
     (oneUnknown shape a b)
     6
-    (cond (eqb (componentName (shape .caps) t a) (componentName (shape .caps) t b)) 0 10)
+    (cond (component (bookIn shape t .network) a b) 0 10)
 
--- The bytes of the answer to 05.
-unfoldable pub sharedBytes : Shared → List ℕ
-sharedBytes (Q.Block name) = 0x85 ∷ 1 ∷ twoBytes (name .0)
-sharedBytes Q.Nothing = 0x85 ∷ 0 ∷ twoBytes 0
-
--- The book that the table holds.
-unfoldable pub bookIn : Shape → List ℕ → Book
-bookIn shape t = bookOf (shape .caps) (shape .vertices) (shape .edges) t
+-- The answer to 05.
+unfoldable pub sharedAnswer : Shared → Answer
+sharedAnswer (Q.Block name) = meshShared (name .0)
+sharedAnswer Q.Nothing = noMeshShared
 
 -- The table is valid for its shape.
 abbrev pub Holds : Shape → List ℕ → Type 0

@@ -5,16 +5,13 @@ use mathlib.Core.Path.{_≡_}
 use Prim.Native.Nat.{ℕ}
 use lib.Dec.{leb}
 use lib.ListN.{length}
-use Rattle.forest.specs.declared.table.Capacities.{Capacities}
+use Rattle.commands.specs.Entry.{over}
+use Rattle.table.specs.declared.words.Capacities.{Capacities}
 use Rattle.forest.specs.Words.{bridgeWritten, cutWritten}
 use Rattle.journal.specs.declared.write.Written.{Written}
 use Rattle.journal.specs.declared.write.Written.the-variants as W
 use Rattle.journal.specs.declared.write.Answered.{Answered}
 use Rattle.journal.specs.declared.write.Answered.the-variants as L
-use Rattle.journal.specs.declared.write.Told.{Told}
-use Rattle.journal.specs.declared.write.Told.the-variants as K
-use Rattle.journal.specs.Answer.{Kind, district, ring, mesh}
-use Rattle.journal.specs.Entry.{over}
 
 -- The buffer with the bytes at its front, where they fit; else as before.
 unfoldable pub writeOr : List ℕ → List ℕ → List ℕ
@@ -33,9 +30,3 @@ pub record Wrote (old new : List ℕ) (result : Written) (bytes : List ℕ) : Ty
 unfoldable pub itemAt : Answered → Capacities → List ℕ → ℕ → ℕ
 itemAt L.Spans caps t i = bridgeWritten caps t i
 itemAt L.Cabinets caps t i = cutWritten caps t i
-
--- The notices' kind in the paper.
-unfoldable pub kindOfTold : Told → Kind
-kindOfTold K.District = district
-kindOfTold K.Ring = ring
-kindOfTold K.Mesh = mesh

@@ -1,9 +1,8 @@
 // The journal of commands: its bytes, answers, refusals and the run; and the entry that a planner calls.
-ghost use mathlib.Core.Bool.{not, _&&_};
+ghost use mathlib.Core.Bool.{not};
 ghost use mathlib.Core.Path.{_≡_};
-ghost use lib.Dec.{leb};
-ghost use Rattle.journal.specs.Refusal.{firstThatApplies};
-ghost use Rattle.journal.specs.Entry.{workNeeded, startLines, numberOf, over};
+ghost use Rattle.commands.specs.Refusal.{firstThatApplies};
+ghost use Rattle.commands.specs.Entry.{workNeeded, goodCapacities, startLines, numberOf, over};
 ghost use Rattle.journal.specs.Promise.{sixNumbers, Reportable, RegisterPromise};
 
 pub mod notice;
@@ -16,7 +15,7 @@ pub mod write;
 use crate::run::Progress;
 use crate::run::run;
 use forest::clear;
-use forest::table::Capacities;
+use table::words::Capacities;
 
 // The words of the working table that a run uses: W.
 fn work_needed(c: u32, s: u32) -> usize
@@ -27,7 +26,7 @@ fn work_needed(c: u32, s: u32) -> usize
 
 // A capacity is out of its range.
 fn bad_capacity(c: u32, s: u32) -> bool
-    ensures { λ r. ⌜ r ≡ not (leb 1 c && leb c 4096 && leb 1 s && leb s 8192) ⌝ }
+    ensures { λ r. ⌜ r ≡ not (goodCapacities (record { cabinets = c; spans = s })) ⌝ }
 {
     if c < 1 {
         return true;

@@ -1,13 +1,10 @@
 // Writing the answer to an added span: its number, its mesh name, and a notice for every name that changed.
-ghost use mathlib.Core.List.{_∷_, _++_};
 ghost use mathlib.Core.Path.{_≡_};
 ghost use Prim.Native.Nat.{_+_, _*_, _≤_, _<_};
 ghost use lib.ListN.{length};
 ghost use lib.Seq.{sets};
-ghost use Rattle.journal.specs.Bytes.{twoBytes};
 ghost use Rattle.journal.specs.Writes.{Wrote};
-ghost use Rattle.journal.specs.Told.{noticeAt, noticesAt, spanBytes};
-use crate::write::Told;
+ghost use Rattle.journal.specs.Told.{noticeAt, changeBytes, noticesAt, headBytes, spanBytes};
 use crate::write::Written;
 use crate::write::put_byte;
 use crate::write::put_two;
@@ -17,8 +14,15 @@ use forest::bridge_block_change;
 use forest::bridge_block_name;
 use forest::component_change;
 use forest::component_name;
-use forest::table::Capacities;
 use forest::tree::Growth;
+use table::words::Capacities;
+
+// The kind of a notice.
+pub enum Told {
+    District,
+    Ring,
+    Mesh,
+}
 
 // An item and its new name.
 pub struct Change {
@@ -62,7 +66,7 @@ fn change_at(t: &[u32], caps: Capacities, told: Told, i: u32) -> Change
 // One notice.
 fn put_notice(out: &mut [u8], at: usize, c: Change)
     requires { ⌜ at + 5 ≤ length (now out) ⌝ }
-    ensures { λ r. ⌜ now (out .exit) ≡ sets (now (out .entry)) at (c .kind ∷ twoBytes (c .item) ++ twoBytes (c .name)) ⌝ }
+    ensures { λ r. ⌜ now (out .exit) ≡ sets (now (out .entry)) at (changeBytes c) ⌝ }
 {
     put_byte(out, at, c.kind);
     put_two(out, at + 1, c.item);
@@ -87,7 +91,7 @@ fn put_notices(t: &[u32], caps: Capacities, out: &mut [u8], at: usize, told: Tol
 // The number of the span, its mesh name and the count of notices.
 fn put_head(out: &mut [u8], span: u32, name: u32, total: u32)
     requires { ⌜ 7 ≤ length (now out) ⌝ }
-    ensures { λ r. ⌜ now (out .exit) ≡ sets (now (out .entry)) 0 (0x82 ∷ twoBytes span ++ twoBytes name ++ twoBytes total) ⌝ }
+    ensures { λ r. ⌜ now (out .exit) ≡ sets (now (out .entry)) 0 (headBytes span name total) ⌝ }
 {
     put_byte(out, 0, 0x82);
     put_two(out, 1, span);
@@ -96,13 +100,19 @@ fn put_head(out: &mut [u8], span: u32, name: u32, total: u32)
 }
 
 // The answer to an added span.
-pub fn write_span(t: &[u32], caps: Capacities, out: &mut [u8], span: u32, growth: Growth) -> Written
+pub(crate) fn write_span(
+    t: &[u32],
+    caps: Capacities,
+    out: &mut [u8],
+    span: u32,
+    growth: Growth,
+) -> Written
     requires { ⌜ growth .components + growth .«bridge_blocks» + growth .blocks < 65536 ⌝ }
     ensures { λ r. ⌜ Wrote (now (out .entry)) (now (out .exit)) r (spanBytes caps (now (t .entry)) span growth) ⌝ }
 {
     let block = growth.block;
-    let rings = growth.components + growth.bridge_blocks;
-    let total = rings + growth.blocks;
+    let of_cabinets = growth.components + growth.bridge_blocks;
+    let total = of_cabinets + growth.blocks;
     let size = 7 + 5 * (total as usize);
     if out.len() < size {
         return Written::NoRoom;
@@ -121,7 +131,7 @@ pub fn write_span(t: &[u32], caps: Capacities, out: &mut [u8], span: u32, growth
         t,
         caps,
         out,
-        7 + 5 * (rings as usize),
+        7 + 5 * (of_cabinets as usize),
         Told::Mesh,
         growth.blocks,
     );

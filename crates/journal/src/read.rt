@@ -4,11 +4,11 @@ ghost use mathlib.Core.Option.{some};
 ghost use mathlib.Core.Path.{_≡_};
 ghost use Prim.Native.Nat.{_+_, _<_, _≤_};
 ghost use lib.ListN.{length, getD, drop};
-ghost use Rattle.journal.specs.Bytes.{number};
-ghost use Rattle.journal.specs.Command.{form, readCommand};
+ghost use Rattle.commands.specs.Bytes.{number};
+ghost use Rattle.commands.specs.Command.{form, readCommand};
 ghost use Rattle.journal.specs.Reads.{meaning, readingOf, ofOne, ofTwo};
-use forest::table::Edge;
-use forest::table::Vertex;
+use table::words::Edge;
+use table::words::Vertex;
 
 // A command with its operands: cabinets are vertices, spans are edges.
 pub enum Order {
@@ -30,18 +30,12 @@ pub enum Taken {
     Command(Order, usize),
 }
 
-fn wide(b: u8) -> u32
-    ensures { λ r. ⌜ r ≡ b ⌝ }
-{
-    b as u32
-}
-
 // The number in two bytes, high byte first.
 fn operand(journal: &[u8], from: usize) -> u32
     requires { ⌜ from + 1 < length (now journal) ⌝ }
     ensures { λ r. ⌜ (r ≡ number (getD (now (journal .entry)) from 0) (getD (now (journal .entry)) (from + 1) 0)) × (r < 65536) ⌝ }
 {
-    wide(journal[from]) * 256 + wide(journal[from + 1])
+    (journal[from] as u32) * 256 + (journal[from + 1] as u32)
 }
 
 // The command of 03, 04 or 08.
@@ -95,7 +89,7 @@ fn take_two(journal: &[u8], byte: u8, from: usize) -> Taken
 }
 
 // What stands at a place of the journal.
-pub fn take_at(journal: &[u8], at: usize) -> Taken
+pub(crate) fn take_at(journal: &[u8], at: usize) -> Taken
     requires { ⌜ at < length (now journal) ⌝ }
     ensures { λ r. ⌜ readingOf r ≡ readCommand (getD (now (journal .entry)) at 0) (drop (at + 1) (now (journal .entry))) ⌝ }
 {

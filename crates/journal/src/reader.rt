@@ -4,7 +4,7 @@
 ghost use mathlib.Core.Path.{_≡_};
 ghost use Prim.Native.Nat.{_+_, _<_, _≤_};
 ghost use lib.ListN.{length, getD, drop};
-ghost use Rattle.journal.specs.Command.{readCommand};
+ghost use Rattle.commands.specs.Command.{readCommand};
 ghost use Rattle.journal.specs.Reads.{readingOf};
 use crate::read::Taken;
 use crate::read::take_at;
@@ -15,21 +15,21 @@ pub struct Reader<'a> {
 }
 
 // The reader at a place of the journal.
-pub fn reader_at<'a>(journal: &'a [u8], at: usize) -> Reader<'a>
+pub(crate) fn reader_at<'a>(journal: &'a [u8], at: usize) -> Reader<'a>
     ensures { λ r. ⌜ (r .journal ≡ journal .entry) × (r .at ≡ at) ⌝ }
 {
     Reader { journal, at }
 }
 
 // The reader's place.
-pub fn place<'a>(r: Reader<'a>) -> usize
+pub(crate) fn place<'a>(r: Reader<'a>) -> usize
     ensures { λ n. ⌜ n ≡ r .entry .at ⌝ }
 {
     r.at
 }
 
 // What stands at the reader's place: an unknown byte, a command cut off by the journal's end, or a command.
-pub fn take<'a>(r: Reader<'a>) -> Taken
+pub(crate) fn take<'a>(r: Reader<'a>) -> Taken
     requires { ⌜ r .at < length (now (r .journal)) ⌝ }
     ensures { λ t. ⌜ readingOf t ≡ readCommand (getD (now (r .entry .journal)) (r .entry .at) 0) (drop (r .entry .at + 1) (now (r .entry .journal))) ⌝ }
 {
@@ -37,7 +37,7 @@ pub fn take<'a>(r: Reader<'a>) -> Taken
 }
 
 // The reader one command further: past the command byte and its operands' bytes.
-pub fn further<'a>(r: Reader<'a>, width: usize) -> Reader<'a>
+pub(crate) fn further<'a>(r: Reader<'a>, width: usize) -> Reader<'a>
     requires { ⌜ r .at + 1 + width ≤ length (now (r .journal)) ⌝ }
     ensures { λ q. ⌜ (q .journal ≡ r .entry .journal) × (q .at ≡ r .entry .at + 1 + width) ⌝ }
 {
@@ -48,7 +48,7 @@ pub fn further<'a>(r: Reader<'a>, width: usize) -> Reader<'a>
 }
 
 // What stands at a place of the journal, taken through a reader.
-pub fn taken_at(journal: &[u8], at: usize) -> Taken
+pub(crate) fn taken_at(journal: &[u8], at: usize) -> Taken
     requires { ⌜ at < length (now journal) ⌝ }
     ensures { λ r. ⌜ readingOf r ≡ readCommand (getD (now (journal .entry)) at 0) (drop (at + 1) (now (journal .entry))) ⌝ }
 {
@@ -56,7 +56,7 @@ pub fn taken_at(journal: &[u8], at: usize) -> Taken
 }
 
 // The place of the command after one at a place, with so many bytes of operands.
-pub fn place_after(journal: &[u8], at: usize, width: usize) -> usize
+pub(crate) fn place_after(journal: &[u8], at: usize, width: usize) -> usize
     requires { ⌜ at + 1 + width ≤ length (now journal) ⌝ }
     ensures { λ r. ⌜ r ≡ at + 1 + width ⌝ }
 {

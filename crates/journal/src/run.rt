@@ -6,8 +6,8 @@ ghost use lib.Dec.{eqb, ltb};
 ghost use lib.ListN.{length};
 ghost use Rattle.graph.specs.Network.{never};
 ghost use Rattle.naming.specs.Book.{emptyBook};
+ghost use Rattle.commands.specs.Run.{runWithin};
 ghost use Rattle.journal.specs.Reads.{meaning};
-ghost use Rattle.journal.specs.Run.{runWithin};
 ghost use Rattle.journal.specs.Steps.{capacitiesOf};
 ghost use Rattle.journal.specs.Runs.{refusedProgress, Underway, Ready, OrderPromise, RunOn, RunPromise};
 use crate::read::Order;
@@ -17,7 +17,7 @@ use crate::reader::taken_at;
 use crate::step::Stepped;
 use crate::step::step;
 use forest::Shape;
-use forest::table::Capacities;
+use table::words::Capacities;
 
 // How far a run has come: the network's size, the place of the next command, the commands accepted, the bytes of their answers, and the
 // number of the refusal that ended the run, 0 if none did.
@@ -96,7 +96,12 @@ fn goes_on(p: Progress, end: usize) -> bool
 }
 
 // The whole run.
-pub fn run(journal: &[u8], work: &mut [u32], answers: &mut [u8], caps: Capacities) -> Progress
+pub(crate) fn run(
+    journal: &[u8],
+    work: &mut [u32],
+    answers: &mut [u8],
+    caps: Capacities,
+) -> Progress
     requires { ⌜ (caps .vertices ≤ 4096) × (caps .edges ≤ 8192) × (caps .vertices * 24 + caps .edges * 8 ≤ length (now work)) × (length (now journal) ≤ 65536) ⌝ }
     ensures { λ r. ⌜ RunPromise caps (runWithin (length (now (answers .entry))) (capacitiesOf caps) (emptyBook never) (now (journal .entry))) r (now (work .entry)) (now (work .exit)) (now (answers .entry)) (now (answers .exit)) ⌝ }
 {

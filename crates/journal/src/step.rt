@@ -1,8 +1,9 @@
 // One command: the refusal that it meets first, or its answer.
 ghost use mathlib.Core.Path.{_≡_};
-ghost use Rattle.journal.specs.Command.{addCabinet, addSpan, districtName, ringName, sharedMesh, soleSpans, cutCabinets, isSole};
+ghost use Rattle.commands.specs.Answer.{answerBytes};
+ghost use Rattle.commands.specs.Command.{addCabinet, addSpan, districtName, ringName, sharedMesh, soleSpans, cutCabinets, isSole};
 ghost use Rattle.journal.specs.Reads.{meaning};
-ghost use Rattle.journal.specs.Steps.{Holds, StepPromise, answeredOf, oneUnknown, pairRefusal, sharedBytes};
+ghost use Rattle.journal.specs.Steps.{Holds, StepPromise, answeredOf, oneUnknown, pairRefusal, sharedAnswer};
 ghost use Rattle.journal.specs.Writes.{Wrote};
 use crate::notice::write_span;
 use crate::read::Order;
@@ -17,14 +18,14 @@ use forest::add_edge;
 use forest::add_vertex;
 use forest::bridge_block_of;
 use forest::bridges_between;
-use forest::component_name;
 use forest::component_of;
 use forest::cuts_between;
 use forest::is_bridge;
 use forest::query::Shared;
+use forest::same_component;
 use forest::shared_block;
-use forest::table::Edge;
-use forest::table::Vertex;
+use table::words::Edge;
+use table::words::Vertex;
 
 // What a command gives: the network's new size and the bytes of its answer, or the number of the refusal that it meets.
 pub enum Stepped {
@@ -133,7 +134,7 @@ fn ring_name(t: &[u32], out: &mut [u8], shape: Shape, a: Vertex) -> Stepped
 
 // The answer to 05.
 fn write_shared(out: &mut [u8], shared: Shared) -> Written
-    ensures { λ r. ⌜ Wrote (now (out .entry)) (now (out .exit)) r (sharedBytes shared) ⌝ }
+    ensures { λ r. ⌜ Wrote (now (out .entry)) (now (out .exit)) r (answerBytes (sharedAnswer shared)) ⌝ }
 {
     match shared {
         Shared::Block(name) => write_choice(out, 0x85, 1, name.0),
@@ -158,15 +159,17 @@ fn shared_mesh(t: &[u32], out: &mut [u8], shape: Shape, a: Vertex, b: Vertex) ->
 
 // The refusal of 06 and 07, 0 if there is none: an unknown cabinet, or cabinets of two districts.
 fn pair_refusal(t: &[u32], shape: Shape, a: Vertex, b: Vertex) -> u32
+    requires { ⌜ Holds shape (now t) ⌝ }
     ensures { λ r. ⌜ r ≡ pairRefusal shape (now (t .entry)) (a .0) (b .0) ⌝ }
 {
-    let caps = shape.caps;
     if one_unknown(shape, a, b) {
         return 6;
     }
-    let left = component_name(t, caps, a);
-    let right = component_name(t, caps, b);
-    if left.0 == right.0 { 0 } else { 10 }
+    if same_component(t, shape, a, b) {
+        0
+    } else {
+        10
+    }
 }
 
 // 06: the sole spans between two cabinets.
@@ -216,7 +219,7 @@ fn is_sole(t: &[u32], out: &mut [u8], shape: Shape, s: Edge) -> Stepped
 }
 
 // One command.
-pub fn step(t: &mut [u32], out: &mut [u8], shape: Shape, order: Order) -> Stepped
+pub(crate) fn step(t: &mut [u32], out: &mut [u8], shape: Shape, order: Order) -> Stepped
     requires { ⌜ Holds shape (now t) ⌝ }
     ensures { λ r. ⌜ StepPromise shape (meaning order) (now (t .entry)) (now (t .exit)) (now (out .entry)) (now (out .exit)) r ⌝ }
 {

@@ -5,11 +5,11 @@ ghost use Prim.Native.Nat.{_+_, _*_, _≤_, _<_};
 ghost use lib.ListN.{length, set};
 ghost use lib.Seq.{sets};
 ghost use Rattle.graph.specs.Below.{tabulate};
-ghost use Rattle.journal.specs.Bytes.{twoBytes, twoBytesEach};
+ghost use Rattle.commands.specs.Bytes.{twoBytes, twoBytesEach};
 ghost use Rattle.journal.specs.Writes.{Wrote, itemAt};
 use forest::bridge_at;
 use forest::cut_at;
-use forest::table::Capacities;
+use table::words::Capacities;
 
 // How many bytes were written, or that there was no room for them.
 pub enum Written {
@@ -23,15 +23,8 @@ pub enum Answered {
     Cabinets,
 }
 
-// The kind of a notice.
-pub enum Told {
-    District,
-    Ring,
-    Mesh,
-}
-
 // Stores a byte; nothing beyond the buffer's end.
-pub fn put_byte(out: &mut [u8], at: usize, b: u8)
+pub(crate) fn put_byte(out: &mut [u8], at: usize, b: u8)
     ensures { λ r. ⌜ now (out .exit) ≡ set (now (out .entry)) at b ⌝ }
 {
     if at < out.len() {
@@ -40,7 +33,7 @@ pub fn put_byte(out: &mut [u8], at: usize, b: u8)
 }
 
 // Stores a number in two bytes, high byte first.
-pub fn put_two(out: &mut [u8], at: usize, value: u32)
+pub(crate) fn put_two(out: &mut [u8], at: usize, value: u32)
     requires { ⌜ at ≤ length (now out) ⌝ }
     ensures { λ r. ⌜ now (out .exit) ≡ sets (now (out .entry)) at (twoBytes value) ⌝ }
 {
@@ -49,7 +42,7 @@ pub fn put_two(out: &mut [u8], at: usize, value: u32)
 }
 
 // An answer of a byte and a number.
-pub fn write_field(out: &mut [u8], code: u8, value: u32) -> Written
+pub(crate) fn write_field(out: &mut [u8], code: u8, value: u32) -> Written
     ensures { λ r. ⌜ Wrote (now (out .entry)) (now (out .exit)) r (code ∷ twoBytes value) ⌝ }
 {
     if out.len() < 3 {
@@ -61,7 +54,7 @@ pub fn write_field(out: &mut [u8], code: u8, value: u32) -> Written
 }
 
 // An answer of two bytes and a number.
-pub fn write_choice(out: &mut [u8], code: u8, flag: u8, value: u32) -> Written
+pub(crate) fn write_choice(out: &mut [u8], code: u8, flag: u8, value: u32) -> Written
     ensures { λ r. ⌜ Wrote (now (out .entry)) (now (out .exit)) r (code ∷ flag ∷ twoBytes value) ⌝ }
 {
     if out.len() < 4 {
@@ -74,7 +67,7 @@ pub fn write_choice(out: &mut [u8], code: u8, flag: u8, value: u32) -> Written
 }
 
 // An answer of two bytes.
-pub fn write_flag(out: &mut [u8], code: u8, flag: u8) -> Written
+pub(crate) fn write_flag(out: &mut [u8], code: u8, flag: u8) -> Written
     ensures { λ r. ⌜ Wrote (now (out .entry)) (now (out .exit)) r (code ∷ flag ∷ []) ⌝ }
 {
     if out.len() < 2 {
@@ -87,7 +80,6 @@ pub fn write_flag(out: &mut [u8], code: u8, flag: u8) -> Written
 
 // Item i of a list that is written down in the table.
 fn listed_item(t: &[u32], caps: Capacities, list: Answered, i: u32) -> u32
-    requires { ⌜ i < 4294967295 ⌝ }
     ensures { λ r. ⌜ r ≡ itemAt list caps (now (t .entry)) i ⌝ }
 {
     match list {
@@ -112,7 +104,7 @@ fn put_items(t: &[u32], caps: Capacities, out: &mut [u8], list: Answered, count:
 }
 
 // An answer of a byte, a count and a list that is written down in the table.
-pub fn write_list(
+pub(crate) fn write_list(
     t: &[u32],
     caps: Capacities,
     out: &mut [u8],

@@ -1,16 +1,15 @@
 -- Where some groups, given by a list of items in them, become one: each of their items gets the best of their names.
 use mathlib.Core.Bool.{Bool, true, false, _&&_, _||_, false≢true}
-use mathlib.Core.List.{List, [], _∷_, map, List·Memᴰ, List·Memᴰ·head, List·Memᴰ·tail, List·Memᴰ·cases-cons, List·Memᴰ·not-nil}
+use mathlib.Core.List.{List, [], _∷_, List·Memᴰ, List·Memᴰ·head, List·Memᴰ·tail, List·Memᴰ·cases-cons, List·Memᴰ·not-nil}
 use mathlib.Core.Logic.{_⊎_, inl, inr}
-use mathlib.Core.Path.{_≡_, refl, sym, _∙_, ap₂}
+use mathlib.Core.Path.{_≡_, refl, sym, _∙_}
 use Prim.Native.Nat.{ℕ, _<_}
-use Rattle.graph.specs.Lists.{isIn}
-use Rattle.graph.proofs.Truth.{or-cases, or-left, or-right, and-left, and-right, and-both, not-both, eqb-swap}
+use Rattle.graph.proofs.Truth.{or-cases, or-left, or-right, and-left, and-right, and-both, not-both}
 use Rattle.naming.specs.Rename.{Grouping, nameOf, Candidate, candidate, bestOf, rename}
 use Rattle.naming.proofs.Equivalent.{Equivalent}
 use Rattle.naming.proofs.Best.{BestOf, AtMost, best-name, best-of-list, best-determined}
 use Rattle.naming.proofs.Rename.{InGroup}
-use Rattle.naming.proofs.Naming.{Naming, candidate-same, renamed-best, group-by-name}
+use Rattle.naming.proofs.Naming.{Naming, candidate-same, renamed-best}
 
 -- Item x is in the group of one of the listed items.
 unfoldable pub inMerged : Grouping → List ℕ → ℕ → Bool
@@ -49,21 +48,6 @@ held groups (r ∷ rs) z x m h = go (held groups rs z x) (List·Memᴰ·cases-co
         → (groups r x || inMerged groups rs x) ≡ true
     go f (inl e) = or-left (rw e at h) (inMerged groups rs x)
     go f (inr k) = or-right (groups r x) (f k h)
-
--- an item is in the merged groups exactly if its name is that of a listed item
-pub merged-by-name : (n : ℕ) (groups : Grouping) (names : List ℕ) → Naming n groups names
-    → (rs : List ℕ)
-    → ((z : ℕ) → List·Memᴰ z rs → z < n)
-    → (x : ℕ)
-    → x < n
-    → inMerged groups rs x ≡ isIn (nameOf names x) (map (nameOf names) rs)
-unfolding inMerged isIn
-merged-by-name n groups names named [] small x h = refl
-merged-by-name n groups names named (r ∷ rs) small x h =
-    ap₂
-    _||_
-    (group-by-name n groups names named r x (small r (List·Memᴰ·head refl)) h ∙ eqb-swap (nameOf names r) (nameOf names x))
-    (merged-by-name n groups names named rs (λ z m. small z (List·Memᴰ·tail m)) x h)
 
 -- The groups before of the listed items become one, and no other group changes.
 abbrev pub Merges : ℕ → Grouping → Grouping → List ℕ → Type 0

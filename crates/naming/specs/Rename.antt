@@ -18,6 +18,10 @@ size n groups x = count n (groups x)
 unfoldable pub nameOf : List ℕ → ℕ → ℕ
 nameOf names x = getD names x 0
 
+-- The items that had a name before and have another now, rising.
+unfoldable pub changedItems : List ℕ → List ℕ → List ℕ
+changedItems old new = listed (length old) (λ x. not (eqb (nameOf old x) (nameOf new x)))
+
 -- What a group brings to a join: its size and its name.
 pub record Candidate : Type 0 where
   pub size : ℕ

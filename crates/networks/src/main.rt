@@ -1,16 +1,13 @@
 // Runs the operations of the working table on a few networks, and prints what they tell.
-ghost use mathlib.Core.Bool.{true};
-ghost use mathlib.Core.Path.{_≡_};
 ghost use Prim.Native.Nat.{_<_};
-ghost use Rattle.graph.specs.Groups.{component};
-ghost use Rattle.forest.specs.Valid.{Valid, networkOf};
+ghost use Rattle.forest.specs.Valid.{Valid};
 use forest::Group;
 use forest::Shape;
 use forest::query::Shared;
-use forest::table::Capacities;
-use forest::table::Edge;
-use forest::table::Vertex;
 use forest::tree::Growth;
+use table::words::Capacities;
+use table::words::Edge;
+use table::words::Vertex;
 
 // The lists that an operation leaves in the table: the items that changed their name, and what lies between two vertices.
 enum List {
@@ -35,9 +32,7 @@ fn say_group(label: &[u8], g: Group) {
 }
 
 // Prints item i of a list.
-fn say_item(t: &[u32], caps: Capacities, list: List, i: u32)
-    requires { ⌜ i < 4294967295 ⌝ }
-{
+fn say_item(t: &[u32], caps: Capacities, list: List, i: u32) {
     let x = match list {
         List::Components => forest::component_change(t, caps, i).0,
         List::BridgeBlocks => forest::bridge_block_change(t, caps, i).0,
@@ -123,10 +118,10 @@ fn grow_all(t: &mut [u32], apart: Shape, ends: &[u32]) -> Shape
 fn say_vertex(t: &[u32], shape: Shape, x: u32)
     requires { ⌜ Valid (shape .caps) (shape .vertices) (shape .edges) (now t) × (x < shape .vertices) ⌝ }
 {
-    let ring = forest::bridge_block_of(t, shape, Vertex(x));
+    let bridge_block = forest::bridge_block_of(t, shape, Vertex(x));
     say(b"vertex ", x);
     say_group(b": component ", forest::component_of(t, shape, Vertex(x)));
-    say_group(b", bridge-block ", ring);
+    say_group(b", bridge-block ", bridge_block);
     io::write_all(1, b"\n");
 }
 
@@ -179,22 +174,12 @@ fn say_shared(t: &[u32], shape: Shape, a: u32, b: u32)
     io::write_all(1, b"\n");
 }
 
-// Whether two vertices share a component.
-fn joined(t: &[u32], shape: Shape, a: u32, b: u32) -> bool
-    requires { ⌜ Valid (shape .caps) (shape .vertices) (shape .edges) (now t) × (a < shape .vertices) × (b < shape .vertices) ⌝ }
-    ensures { λ r. ⌜ (r ≡ true → component (networkOf (shape .caps) (shape .vertices) (shape .edges) (now (t .entry))) a b ≡ true) ⌝ }
-{
-    let left = forest::component_of(t, shape, Vertex(a)).name;
-    let right = forest::component_of(t, shape, Vertex(b)).name;
-    left.0 == right.0
-}
-
 // Prints the bridges and the cut vertices between two vertices, where they share a component.
 fn say_between(t: &mut [u32], shape: Shape, a: u32, b: u32)
     requires { ⌜ Valid (shape .caps) (shape .vertices) (shape .edges) (now t) × (a < shape .vertices) × (b < shape .vertices) ⌝ }
 {
     let caps = shape.caps;
-    if !joined(t, shape, a, b) {
+    if !forest::same_component(t, shape, Vertex(a), Vertex(b)) {
         return;
     }
     let bridges = forest::bridges_between(t, shape, Vertex(a), Vertex(b));

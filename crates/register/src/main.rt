@@ -1,6 +1,4 @@
 // The plant register as a program: standard input to standard output, with capacities of 256 cabinets and 512 spans.
-ghost use mathlib.Core.Path.{_≡_};
-ghost use Prim.Native.Nat.{_≤_};
 ghost use lib.ListN.{length};
 ghost use Rattle.register.specs.Input.{Within};
 use libc::STDIN_FILENO;
@@ -53,18 +51,12 @@ fn write_ending(refusal: u32, place: u32) {
     io::write_all(STDOUT_FILENO, &bytes);
 }
 
-fn wide(x: u32) -> usize
-    ensures { λ r. ⌜ r ≡ x ⌝ }
-{
-    x as usize
-}
-
 // Writes the answers, then what ends the output. A run that is refused at the start leaves the report at zeros.
 fn write_outcome(refusal: u32, answers: &[u8], report: &[u32]) {
     if report.len() < 4 {
         return;
     }
-    let size = wide(report[3]);
+    let size = report[3] as usize;
     if size <= answers.len() {
         io::write_all(STDOUT_FILENO, &answers[..size]);
         write_ending(refusal, report[1]);

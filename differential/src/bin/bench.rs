@@ -1,10 +1,12 @@
 //! Measures the engines against each other: journals of several shapes at three sizes.
 //!
 //!     bench [--quick]     with --quick one run of each, for a look
+//!     bench --only SHAPE  the last engine alone, on this shape at the greatest size, for two
+//!                         seconds: for a profiler
 //!
 //! All figures come from one process. Times are for looking; the ratios are what is compared.
 
-use differential::engine::{work_needed, Engine, REPORT_NUMBERS};
+use differential::engine::{work_needed, Call, Engine, REPORT_NUMBERS};
 use differential::incremental::Incremental;
 use differential::journals::Writer;
 use differential::layouts::{self, Layout};
@@ -105,9 +107,10 @@ fn best_time(engine: &dyn Engine, load: &Load, buffers: &mut Buffers, budget: Du
     loop {
         let work = &mut buffers.work[..work_needed(load.c, load.s)];
         work.fill(u32::MAX);
-        let answers = &mut buffers.answers;
+        let (journal, answers, report) = (&load.journal, &mut buffers.answers, &mut buffers.report);
+        let call = Call { c: load.c, s: load.s, journal, work, answers, report };
         let clock = Instant::now();
-        let number = engine.run(load.c, load.s, &load.journal, work, answers, &mut buffers.report);
+        let number = engine.run(call);
         best = best.min(clock.elapsed().as_secs_f64());
         assert_eq!(number, 0, "{} refuses a journal of the benchmark", engine.name());
         if start.elapsed() >= budget {
@@ -116,21 +119,26 @@ fn best_time(engine: &dyn Engine, load: &Load, buffers: &mut Buffers, budget: Du
     }
 }
 
-/// What one engine took for one journal.
+/// What one engine took for one journal, and its report.
 struct Figure {
     micros_per_command: f64,
-    answer_bytes: u32,
-    commands: u32,
+    report: [u32; REPORT_NUMBERS],
+}
+
+impl Figure {
+    fn commands(&self) -> u32 {
+        self.report[2]
+    }
+
+    fn bytes_per_command(&self) -> f64 {
+        f64::from(self.report[3]) / f64::from(self.commands())
+    }
 }
 
 fn measure(engine: &dyn Engine, load: &Load, buffers: &mut Buffers, budget: Duration) -> Figure {
     let seconds = best_time(engine, load, buffers, budget);
-    let commands = buffers.report[2];
-    Figure {
-        micros_per_command: 1e6 * seconds / f64::from(commands.max(1)),
-        answer_bytes: buffers.report[3],
-        commands,
-    }
+    let report = buffers.report;
+    Figure { micros_per_command: 1e6 * seconds / f64::from(report[2]), report }
 }
 
 fn engines() -> Vec<Box<dyn Engine>> {
@@ -138,7 +146,7 @@ fn engines() -> Vec<Box<dyn Engine>> {
         Box::new(Second::new()),
         Box::new(Incremental),
         #[cfg(feature = "register")]
-        Box::new(differential::register::Register),
+        Box::new(differential::register::Register::default()),
     ]
 }
 
@@ -152,16 +160,18 @@ fn shape_figures(
     for size in SIZES {
         let journal = shape(size).bytes;
         let load = Load { journal, c: size as u32, s: 2 * size as u32 };
-        let engines = engines();
-        figures.push(engines.iter().map(|e| measure(e.as_ref(), &load, buffers, budget)).collect());
+        let row: Vec<Figure> =
+            engines().iter().map(|e| measure(e.as_ref(), &load, buffers, budget)).collect();
+        assert!(row.iter().all(|figure| figure.report == row[0].report), "the reports differ");
+        figures.push(row);
     }
     figures
 }
 
 fn print_shape(name: &str, figures: &[Vec<Figure>]) {
     for (size, row) in SIZES.iter().zip(figures) {
-        print!("{name:<18} {size:>5} {:>6}", row[0].commands);
-        print!(" {:>8.1}", f64::from(row[0].answer_bytes) / f64::from(row[0].commands));
+        print!("{name:<18} {size:>5} {:>6}", row[0].commands());
+        print!(" {:>8.1}", row[0].bytes_per_command());
         for figure in row {
             print!(" {:>11.3}", figure.micros_per_command);
         }
@@ -186,10 +196,13 @@ fn print_growth(name: &str, figures: &[Vec<Figure>]) {
     println!();
 }
 
-fn print_heads() {
-    println!("Time per command in microseconds, the least of several runs in one process.");
+fn print_heads(quick: bool) {
+    let runs = if quick { "one run" } else { "the least of several runs" };
+    println!("Time per command in microseconds, {runs} of each journal, all in one process.");
     println!("The working table is not cleared first: it is filled with ones before each run,");
-    println!("outside the time. Clearing it at the end is part of the run and of the time.");
+    println!("outside the time. Clearing it at the end is part of the run and of the time. The");
+    println!("answers and the report of the run before are left in their buffers.");
+    println!("Ratios: sec is the recomputation, incr the hand-written version, reg the register.");
     println!();
     print!("{:<18} {:>5} {:>6} {:>8}", "shape", "size", "cmds", "bytes/c");
     for engine in engines() {
@@ -227,15 +240,29 @@ fn print_empty_runs(buffers: &mut Buffers, budget: Duration) {
     }
 }
 
+/// Runs the last engine on one shape, and prints its time.
+fn run_only(name: &str, buffers: &mut Buffers) {
+    let (_, shape) = SHAPES.iter().find(|(each, _)| *each == name).expect("no such shape");
+    let size = SIZES[SIZES.len() - 1];
+    let load = Load { journal: shape(size).bytes, c: size as u32, s: 2 * size as u32 };
+    let engine = engines().pop().expect("there are engines");
+    let figure = measure(engine.as_ref(), &load, buffers, Duration::from_secs(2));
+    println!("{}, {name}: {:.3} microseconds", engine.name(), figure.micros_per_command);
+}
+
 fn main() {
-    let quick = std::env::args().any(|word| word == "--quick");
-    let budget = Duration::from_millis(if quick { 0 } else { 300 });
+    let words: Vec<String> = std::env::args().collect();
+    let quick = words.iter().any(|word| word == "--quick");
+    let budget = Duration::from_millis(if quick { 0 } else { 1000 });
     let mut buffers = Buffers {
         work: vec![1; work_needed(4096, 8192)],
         answers: vec![1; ANSWER_ROOM],
         report: [0; REPORT_NUMBERS],
     };
-    print_heads();
+    if let Some(at) = words.iter().position(|word| word == "--only") {
+        return run_only(words.get(at + 1).map_or("", String::as_str), &mut buffers);
+    }
+    print_heads(quick);
     let mut all = Vec::new();
     for (name, shape) in SHAPES {
         let figures = shape_figures(shape, &mut buffers, budget);

@@ -184,7 +184,7 @@ impl Forest {
     }
 
     /// The bridges on the path found last: a block of one edge has that edge's number as name.
-    pub fn sole_spans(&self) -> impl Iterator<Item = u32> + '_ {
+    pub fn sole_spans(&self) -> impl Iterator<Item = u32> + Clone + '_ {
         let sides = self.path.vertices[..self.path.length].windows(2);
         let blocks = &self.path.blocks[..self.path.length - 1];
         let both = sides.zip(blocks);

@@ -3,12 +3,17 @@
 use super::groups::{groups, Labels, Network};
 use crate::kinds::{ByKind, Kind, KINDS};
 
-/// How a tie between groups of one size is broken. Document 01 knows one way; the other one is a
-/// fault put in on purpose, to see that it is found.
+/// A fault put in on purpose for one kind of group, to see that it is found.
 #[derive(Clone, Copy, PartialEq, Eq, Debug)]
-pub enum Ties {
-    LeastName,
-    GreatestNameOf(Kind),
+pub enum Fault {
+    /// Among groups of one size the greatest name wins.
+    GreatestName(Kind),
+    /// The smallest group gives the name.
+    SmallestGroup(Kind),
+    /// No notices are sent.
+    NoNotices(Kind),
+    /// Each notice is sent ten times.
+    TenNotices(Kind),
 }
 
 /// The network, a name for each of its items, and the groups of the network as it is.
@@ -17,16 +22,16 @@ pub struct Book {
     pub network: Network,
     pub names: ByKind<Vec<usize>>,
     pub groups: ByKind<Labels>,
-    ties: Ties,
+    fault: Option<Fault>,
 }
 
 impl Book {
-    pub fn empty(ties: Ties) -> Book {
+    pub fn empty(fault: Option<Fault>) -> Book {
         Book {
             network: Network::default(),
             names: ByKind::default(),
             groups: ByKind::default(),
-            ties,
+            fault,
         }
     }
 
@@ -51,10 +56,32 @@ impl Book {
         without.mesh.push(number);
         book.groups = groups(&book.network);
         for kind in KINDS {
-            let least_wins = book.ties != Ties::GreatestNameOf(kind);
-            rename(&without[kind], &book.groups[kind], &mut book.names[kind], least_wins);
+            let wins = book.contest(kind);
+            rename(&without[kind], &book.groups[kind], &mut book.names[kind], wins);
         }
         book
+    }
+
+    /// How often a notice of this kind is sent.
+    pub fn sendings(&self, kind: Kind) -> usize {
+        match self.fault {
+            Some(Fault::NoNotices(of)) if of == kind => 0,
+            Some(Fault::TenNotices(of)) if of == kind => 10,
+            _ => 1,
+        }
+    }
+
+    /// When one candidate wins over another: the largest group; among equals, the least name.
+    fn contest(&self, kind: Kind) -> fn(Candidate, Candidate) -> bool {
+        match self.fault {
+            Some(Fault::GreatestName(of)) if of == kind => |one, other| {
+                one.size > other.size || (one.size == other.size && one.name > other.name)
+            },
+            Some(Fault::SmallestGroup(of)) if of == kind => |one, other| one.size < other.size,
+            _ => |one, other| {
+                one.size > other.size || (one.size == other.size && one.name < other.name)
+            },
+        }
     }
 }
 
@@ -69,7 +96,12 @@ struct Candidate {
 /// Wherever one group taken with the span holds several taken without it, each item of that one
 /// group gets the name of the largest of the several; among equals, the least name. All other
 /// names stay.
-fn rename(without: &Labels, with: &Labels, names: &mut [usize], least_wins: bool) {
+fn rename(
+    without: &Labels,
+    with: &Labels,
+    names: &mut [usize],
+    wins: fn(Candidate, Candidate) -> bool,
+) {
     let sizes = sizes(without);
     let mut best: Vec<Option<Candidate>> = vec![None; names.len()];
     let mut several = vec![false; names.len()];
@@ -78,7 +110,7 @@ fn rename(without: &Labels, with: &Labels, names: &mut [usize], least_wins: bool
         let other = Candidate { group, size: sizes[group], name: names[item] };
         let so_far = best[with[item]].get_or_insert(other);
         several[with[item]] |= so_far.group != group;
-        if wins(other, *so_far, least_wins) {
+        if wins(other, *so_far) {
             *so_far = other;
         }
     }
@@ -86,17 +118,6 @@ fn rename(without: &Labels, with: &Labels, names: &mut [usize], least_wins: bool
         if let (Some(winner), true) = (best[with[item]], several[with[item]]) {
             names[item] = winner.name;
         }
-    }
-}
-
-fn wins(one: Candidate, other: Candidate, least_wins: bool) -> bool {
-    if one.size != other.size {
-        return one.size > other.size;
-    }
-    if least_wins {
-        one.name < other.name
-    } else {
-        one.name > other.name
     }
 }
 

@@ -23,6 +23,12 @@ pub struct Capacities {
     pub spans: usize,
 }
 
+impl Capacities {
+    pub fn new(c: u32, s: u32) -> Capacities {
+        Capacities { cabinets: c as usize, spans: s as usize }
+    }
+}
+
 /// The number of operands of a command byte; none for a byte that is no command.
 fn operand_count(byte: u8) -> Option<usize> {
     match byte {
@@ -143,8 +149,9 @@ fn span_answer(before: &Book, after: &Book) -> Vec<u8> {
         for (item, old) in before.names[kind].iter().enumerate() {
             let new = after.names[kind][item];
             if new != *old {
-                notices.extend(fields(kind.byte(), &[item, new]));
-                count += 1;
+                let sendings = after.sendings(kind);
+                notices.extend(fields(kind.byte(), &[item, new]).repeat(sendings));
+                count += sendings;
             }
         }
     }

@@ -1,18 +1,22 @@
 -- `bad_capacity` tells whether a capacity is out of its range.
 use borrow.Author.Tests.{le-leb, lt-leb}
+use Rattle.commands.specs.Entry.{goodCapacities}
 use Rattle.journal.proofs.EntryLaws.{below-not-at-most}
 use Rattle.journal.proofs.bad_capacity.Statement.{statement}
 use Rattle.journal.proofs.bad_capacity.Tie as tie
 
 returns : tie.Need-returns
+unfolding goodCapacities
 returns c = rw (lt-leb 1 (c .before .args .c) (c .if1 .taken))
 
 returns-2 : tie.Need-returns-2
+unfolding goodCapacities
 returns-2 c =
     let args = c .before .before .args in
     rw (le-leb 1 (args .c) (c .before .if1 .left), lt-leb (args .c) 4096 (c .if2 .taken))
 
 returns-3 : tie.Need-returns-3
+unfolding goodCapacities
 returns-3 c =
     let args = c .before .before .before .args in
     rw (
@@ -22,6 +26,7 @@ returns-3 c =
     )
 
 returns-4 : tie.Need-returns-4
+unfolding goodCapacities
 returns-4 c =
     let args = c .before .before .before .args in
     rw (

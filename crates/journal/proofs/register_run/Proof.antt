@@ -2,7 +2,7 @@
 use native.Mathlib.Omega.{arith}
 use borrow.Author.Needs.{needs}
 use lib.ListN.{length}
-use Rattle.journal.specs.Entry.{Buffers, workNeeded}
+use Rattle.commands.specs.Entry.{Buffers, workNeeded}
 use Rattle.journal.specs.Steps.{capacitiesOf}
 use Rattle.journal.proofs.EntryLaws.{promised-at-start, Begins, begins, promised-by-run}
 use Rattle.journal.proofs.register_run.Statement.{statement}
@@ -62,10 +62,7 @@ work-needed-requires : tie.Need-work-needed-requires
 work-needed-requires c κs = search needs
 
 clear-requires : tie.Need-clear-requires
-clear-requires c κs =
-    let at-run = c .before .before .before .before .before .before in
-    let b = begun (at-run .before .before .before) in
-    omega (arith, b .long-work, c .work-needed .ensures, at-run .run .ensures .same-beyond .as-long)
+clear-requires c κs = search needs
 
 fill-report-requires : tie.Need-fill-report-requires
 fill-report-requires c κs =

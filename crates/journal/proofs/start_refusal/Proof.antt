@@ -1,8 +1,8 @@
 -- `start_refusal` gives the number of the first line that applies before the journal is read: the branches are the lines in their order.
 use borrow.Author.Needs.{needs}
 use borrow.Author.Tests.{lt-ltb, le-ltb}
-use Rattle.journal.specs.Refusal.{firstThatApplies, refusalNumber}
-use Rattle.journal.specs.Entry.{goodCapacities, shortBuffers, startLines, numberOf}
+use Rattle.commands.specs.Refusal.{firstThatApplies, refusalNumber}
+use Rattle.commands.specs.Entry.{shortBuffers, startLines, numberOf}
 use Rattle.journal.proofs.start_refusal.Statement.{statement}
 use Rattle.journal.proofs.start_refusal.Tie as tie
 
@@ -10,14 +10,14 @@ bad-capacity-requires : tie.Need-bad-capacity-requires
 bad-capacity-requires c κs = search needs
 
 returns : tie.Need-returns
-unfolding startLines goodCapacities shortBuffers firstThatApplies numberOf refusalNumber
+unfolding startLines shortBuffers firstThatApplies numberOf refusalNumber
 returns c = rw (← c .before .bad-capacity .ensures, c .if1 .taken)
 
 work-needed-requires : tie.Need-work-needed-requires
 work-needed-requires c κs = search needs
 
 returns-2 : tie.Need-returns-2
-unfolding startLines goodCapacities shortBuffers firstThatApplies numberOf refusalNumber
+unfolding startLines shortBuffers firstThatApplies numberOf refusalNumber
 returns-2 c =
     let at-work-needed = c .before in
     let at-if1 = at-work-needed .before in
@@ -29,7 +29,7 @@ returns-2 c =
     )
 
 returns-3 : tie.Need-returns-3
-unfolding startLines goodCapacities shortBuffers firstThatApplies numberOf refusalNumber
+unfolding startLines shortBuffers firstThatApplies numberOf refusalNumber
 returns-3 c =
     let at-if2 = c .before in
     let at-work-needed = at-if2 .before in
@@ -43,7 +43,7 @@ returns-3 c =
     )
 
 returns-4 : tie.Need-returns-4
-unfolding startLines goodCapacities shortBuffers firstThatApplies numberOf refusalNumber
+unfolding startLines shortBuffers firstThatApplies numberOf refusalNumber
 returns-4 c =
     let at-if3 = c .before in
     let at-if2 = at-if3 .before in
@@ -59,7 +59,7 @@ returns-4 c =
     )
 
 returns-5 : tie.Need-returns-5
-unfolding startLines goodCapacities shortBuffers firstThatApplies numberOf refusalNumber
+unfolding startLines shortBuffers firstThatApplies numberOf refusalNumber
 returns-5 c =
     let at-if3 = c .before in
     let at-if2 = at-if3 .before in

@@ -1,7 +1,7 @@
 -- `work_needed` gives W.
 use mathlib.Core.Path.{refl}
 use borrow.Author.Needs.{needs}
-use Rattle.journal.specs.Entry.{workNeeded}
+use Rattle.commands.specs.Entry.{workNeeded}
 use Rattle.journal.proofs.work_needed.Statement.{statement}
 use Rattle.journal.proofs.work_needed.Tie as tie
 

@@ -2,19 +2,19 @@
 -- leaves as it was.
 use mathlib.Core.Bool.{true}
 use mathlib.Core.List.{List}
-use mathlib.Core.Path.{_≡_, ap}
+use mathlib.Core.Path.{_≡_, sym, _∙_, ap}
 use Prim.Native.Nat.{ℕ}
 use borrow.Author.Needs.{needs}
 use borrow.Author.Tests.{not-false}
 use Rattle.graph.specs.Groups.{component}
 use Rattle.naming.specs.Book.{Book}
-use Rattle.forest.specs.declared.table.Capacities.{Capacities}
+use Rattle.table.specs.declared.words.Capacities.{Capacities}
 use Rattle.forest.specs.Valid.{bookOf, networkOf}
 use Rattle.networks.proofs.say_between.Statement.{statement}
 use Rattle.networks.proofs.say_between.Tie as tie
 
-joined-requires : tie.Need-joined-requires
-joined-requires c κs = search needs
+same-component-requires : tie.Need-same-component-requires
+same-component-requires c κs = search needs
 
 same-length : tie.Need-same-length
 same-length c = search needs
@@ -24,9 +24,9 @@ returns c = search needs
 
 bridges-between-requires : tie.Need-bridges-between-requires
 bridges-between-requires c κs =
-    let at-joined = c .before .before in
-    let s = at-joined .before .before .before .before in
-    (s .pre .0, s .pre .1, s .pre .2, at-joined .joined .ensures (not-false _ (c .before .if1 .left)))
+    let at-same-component = c .before .before in
+    let s = at-same-component .before .before .before .before in
+    (s .pre .0, s .pre .1, s .pre .2, sym (at-same-component .same-component .ensures) ∙ not-false _ (c .before .if1 .left))
 
 slice-aggregate-say-list : tie.Need-slice-aggregate-say-list
 slice-aggregate-say-list c = search needs
@@ -44,13 +44,13 @@ cuts-between-requires : tie.Need-cuts-between-requires
 cuts-between-requires c κs =
     let at-bridges-between = c .before .before .before .before .before .before in
     let at-if1 = at-bridges-between .before .before in
-    let at-joined = at-if1 .before in
-    let s = at-joined .before .before .before .before in
+    let at-same-component = at-if1 .before in
+    let s = at-same-component .before .before .before .before in
     let written = at-bridges-between .bridges-between .ensures in (
       written .valid,
       s .pre .1,
       s .pre .2,
-      still-joined _ _ _ _ _ _ _ (written .book) (at-joined .joined .ensures (not-false _ (at-if1 .if1 .left))),
+      still-joined _ _ _ _ _ _ _ (written .book) (sym (at-same-component .same-component .ensures) ∙ not-false _ (at-if1 .if1 .left)),
     )
 
 slice-aggregate-say-list-2 : tie.Need-slice-aggregate-say-list-2
@@ -69,7 +69,7 @@ pub say-between-spec : {M : Type 1} → statement M
 say-between-spec =
     tie.close
     (tie.spec
-    joined-requires
+    same-component-requires
     same-length
     returns
     bridges-between-requires

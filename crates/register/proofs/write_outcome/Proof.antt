@@ -9,14 +9,14 @@ use Rattle.register.proofs.write_outcome.Statement.{statement}
 returns : tie.Need-returns
 returns c = search needs
 
-shared-slice-read-wide : tie.Need-shared-slice-read-wide
-shared-slice-read-wide c = search needs
+shared-slice-read-size : tie.Need-shared-slice-read-size
+shared-slice-read-size c = search needs
 
-wide-requires : tie.Need-wide-requires
-wide-requires c κs = search needs
+cast-size : tie.Need-cast-size
+cast-size c = omega (arith, c .shared-slice-known3 .given 3)
 
 slice-aggregate-write-all : tie.Need-slice-aggregate-write-all
-slice-aggregate-write-all c = sym (length-take-le (c .before .before .wide .result) (c .before .before .before .before .before .before .before .args .answers .now) (omega arith))
+slice-aggregate-write-all c = sym (length-take-le _ (c .before .before .before .before .before .before .args .answers .now) (omega arith))
 
 write-all-requires : tie.Need-write-all-requires
 write-all-requires c κs = search needs
@@ -38,8 +38,8 @@ write-outcome-spec =
     tie.close
     (tie.spec
     returns
-    shared-slice-read-wide
-    wide-requires
+    shared-slice-read-size
+    cast-size
     slice-aggregate-write-all
     write-all-requires
     shared-slice-read-write-ending

@@ -15,10 +15,9 @@ use Rattle.forest.proofs.climb.from_vertex.Reads as from-vertex
 use Rattle.forest.proofs.climb.from_vertex.Kinds as from-vertex-kinds
 use Rattle.forest.proofs.climb.+from_block+from_vertex.Lts-from_vertex as from-vertex-lts
 use Rattle.forest.proofs.climb.above.Reads as above-reads
-use Rattle.forest.proofs.climb.climber.Reads as climber-reads
+use Rattle.forest.proofs.climb.climber_up.Reads as climber-up-reads
 use Rattle.forest.proofs.climb.record_step.Reads as record-step-reads
 use Rattle.forest.proofs.climb.right_deeper.Reads as right-deeper-reads
-use Rattle.forest.proofs.climb.up.Reads as up-reads
 use Rattle.forest.proofs.climb.+from_block+from_vertex.{statement}
 use Rattle.forest.proofs.climb.+from_block+from_vertex.Tie.{close}
 
@@ -26,7 +25,7 @@ abbrev μ-from-block : Measures 1 from-block-kinds.ps ℕ
 μ-from-block κs a = 2 * a .1 .1 .1 .1 .1 .0 + 1
 
 abbrev μ-from-vertex : Measures 1 from-vertex-kinds.ps ℕ
-μ-from-vertex κs a = 2 * a .1 .1 .1 .0
+μ-from-vertex κs a = 2 * a .1 .1 .1 .1 .1 .1 .0
 
 -- what each is given at a measure, and what a call of it asks below one
 abbrev from-block-at : ℕ → In 1 from-block-kinds.ps
@@ -56,10 +55,8 @@ abbrev from-vertex-calls : ℕ → from-vertex-lts.Claims
 from-vertex-calls t = (
   right-deeper-reads.Asked,
   right-deeper-reads.Learnt,
-  climber-reads.Asked,
-  climber-reads.Learnt,
-  up-reads.Asked,
-  up-reads.Learnt,
+  climber-up-reads.Asked,
+  climber-up-reads.Learnt,
   from-block-below t,
   from-block.Post,
 )
@@ -73,7 +70,7 @@ module _ (t : ℕ) where
 
   from-block-from-vertex-requires : from-block-lts.Need-from-vertex-requires (from-block-calls t) (from-block-at t) from-block.Post
   from-block-from-vertex-requires c κs =
-      let at-record-step = c .before .before .before in
+      let at-record-step = c .before .before .before .before .before in
       let at-above = at-record-step .before .before in
       let s = at-above .before .before .before in
       let steps = recorded-steps _ _ _ _ (at-record-step .record-step .ensures .1) in
@@ -83,13 +80,13 @@ module _ (t : ℕ) where
 
   from-block-same-length : from-block-lts.Need-same-length (from-block-calls t) (from-block-at t) from-block.Post
   from-block-same-length c =
-      c .before .before .from-vertex .kept .0 ∙ c .before .before .before .before .before .before .record-step .kept .0
+      c .before .before .from-vertex .kept .0 ∙ c .before .before .before .before .before .before .before .before .record-step .kept .0
 
   from-block-returns : from-block-lts.Need-returns (from-block-calls t) (from-block-at t) from-block.Post
   unfolding blockTable blockTrail
   from-block-returns c =
       let at-from-vertex = c .before .before in
-      let at-record-step = at-from-vertex .before .before .before .before in
+      let at-record-step = at-from-vertex .before .before .before .before .before .before in
       let at-above = at-record-step .before .before in
       let steps = recorded-steps _ _ _ _ (at-record-step .record-step .ensures .1) in (
         rw (
@@ -120,26 +117,22 @@ module _ (t : ℕ) where
   from-vertex-right-deeper-requires : from-vertex-lts.Need-right-deeper-requires (from-vertex-calls t) (from-vertex-at t) from-vertex.Post
   from-vertex-right-deeper-requires c κs = search needs
 
-  from-vertex-climber-requires : from-vertex-lts.Need-climber-requires (from-vertex-calls t) (from-vertex-at t) from-vertex.Post
-  from-vertex-climber-requires c κs = search needs
-
-  from-vertex-up-requires : from-vertex-lts.Need-up-requires (from-vertex-calls t) (from-vertex-at t) from-vertex.Post
-  from-vertex-up-requires c κs = search needs
+  from-vertex-climber-up-requires : from-vertex-lts.Need-climber-up-requires (from-vertex-calls t) (from-vertex-at t) from-vertex.Post
+  from-vertex-climber-up-requires c κs = search needs
 
   from-vertex-same-length : from-vertex-lts.Need-same-length (from-vertex-calls t) (from-vertex-at t) from-vertex.Post
   from-vertex-same-length c = search needs
 
   from-vertex-returns-3 : from-vertex-lts.Need-returns-3 (from-vertex-calls t) (from-vertex-at t) from-vertex.Post
   from-vertex-returns-3 c =
-      let at-up = c .before in
-      let at-climber = at-up .before in
-      let at-right-deeper = at-climber .before .before in
-      let up = climber-up _ _ _ _ _ _ (at-right-deeper .right-deeper .ensures) (at-climber .climber .ensures) (at-up .up .ensures) in
+      let at-climber-up = c .before in
+      let at-right-deeper = at-climber-up .before .before in
+      let up = climber-up _ _ _ _ _ (at-right-deeper .right-deeper .ensures) (at-climber-up .climber-up .ensures) in
       let e = climb-root _ _ _ _ (sym up ∙ c .if3 .taken) in
       (sym (ap (λ x. x .table) e), sym (ap (λ x. x .trail) e), omega arith)
 
-  from-vertex-sub-t17 : from-vertex-lts.Need-sub-t17 (from-vertex-calls t) (from-vertex-at t) from-vertex.Post
-  from-vertex-sub-t17 c = omega arith
+  from-vertex-sub-t18 : from-vertex-lts.Need-sub-t18 (from-vertex-calls t) (from-vertex-at t) from-vertex.Post
+  from-vertex-sub-t18 c = omega arith
 
   from-vertex-sub-from-block : from-vertex-lts.Need-sub-from-block (from-vertex-calls t) (from-vertex-at t) from-vertex.Post
   from-vertex-sub-from-block c = omega arith
@@ -154,12 +147,11 @@ module _ (t : ℕ) where
   from-vertex-returns-4 c =
       let at-from-block = c .before .before in
       let at-if3 = at-from-block .before .before in
-      let at-up = at-if3 .before in
-      let at-climber = at-up .before in
-      let at-right-deeper = at-climber .before .before in
+      let at-climber-up = at-if3 .before in
+      let at-right-deeper = at-climber-up .before .before in
       let at-if2 = at-right-deeper .before .before in
       let at-if1 = at-if2 .before in
-      let up = climber-up _ _ _ _ _ _ (at-right-deeper .right-deeper .ensures) (at-climber .climber .ensures) (at-up .up .ensures) in (
+      let up = climber-up _ _ _ _ _ (at-right-deeper .right-deeper .ensures) (at-climber-up .climber-up .ensures) in (
         rw (at-from-block .from-block .ensures .0, at-right-deeper .right-deeper .ensures, up)
             (sym (climb-table _ _ _ _ (at-if2 .if2 .left) (at-if1 .if1 .left) (λ z. at-if3 .if3 .left (up ∙ z)))),
         rw (at-from-block .from-block .ensures .1, at-right-deeper .right-deeper .ensures, up)
@@ -188,11 +180,10 @@ pub +from-block+from-vertex-spec : {M : Type 1} → statement M
     (from-vertex-returns t)
     (from-vertex-returns-2 t)
     (from-vertex-right-deeper-requires t)
-    (from-vertex-climber-requires t)
-    (from-vertex-up-requires t)
+    (from-vertex-climber-up-requires t)
     (from-vertex-same-length t)
     (from-vertex-returns-3 t)
-    (from-vertex-sub-t17 t)
+    (from-vertex-sub-t18 t)
     (from-vertex-sub-from-block t)
     (from-vertex-from-block-requires t)
     (from-vertex-same-length-2 t)

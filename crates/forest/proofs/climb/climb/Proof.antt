@@ -16,8 +16,8 @@ set-word-requires c κs = search needs
 reach-of-requires : tie.Need-reach-of-requires
 reach-of-requires c κs = search needs
 
-from-vertex-requires : tie.Need-from-vertex-requires
-from-vertex-requires c κs =
+climb-on-requires : tie.Need-climb-on-requires
+climb-on-requires c κs =
     let most = reach-most _ _ _ _ _ (c .before .reach-of .ensures) in
     omega arith
 
@@ -25,12 +25,12 @@ kept-left-requires : tie.Need-kept-left-requires
 kept-left-requires c κs = search needs
 
 -- the path is short enough to be counted
-few : (c : tie.After-kept-left) → c .kept-left .result + c .before .before .before .before .from-vertex .result .right < 4294967295
+few : (c : tie.After-kept-left) → c .kept-left .result + c .before .before .before .before .climb-on .result .right < 4294967295
 few c =
-    let at-from-vertex = c .before .before .before .before in
+    let at-climb-on = c .before .before .before .before in
     let kept = kept-most _ _ _ _ (c .kept-left .ensures) in
-    let most = reach-most _ _ _ _ _ (at-from-vertex .before .before .reach-of .ensures) in
-    omega (arith, at-from-vertex .from-vertex .ensures .2)
+    let most = reach-most _ _ _ _ _ (at-climb-on .before .before .reach-of .ensures) in
+    omega (arith, at-climb-on .climb-on .ensures .2)
 
 join-requires : tie.Need-join-requires
 join-requires c κs = few (c .before)
@@ -46,23 +46,23 @@ unfolding climbTable climbRoute climbBoth
 returns c =
     let at-join = c .before .before .before in
     let at-kept-left = at-join .before .before in
-    let at-from-vertex = at-kept-left .before .before .before .before in
-    let at-reach-of = at-from-vertex .before .before in
+    let at-climb-on = at-kept-left .before .before .before .before in
+    let at-reach-of = at-climb-on .before .before in
     let at-set-word = at-reach-of .before .before .before .before in
     let at-vertex-area = at-set-word .before in (
       rw (
         at-join .join .ensures,
         at-kept-left .kept-left .ensures,
-        at-from-vertex .from-vertex .ensures .0,
-        at-from-vertex .from-vertex .ensures .1,
+        at-climb-on .climb-on .ensures .0,
+        at-climb-on .climb-on .ensures .1,
         at-reach-of .reach-of .ensures,
         at-set-word .set-word .ensures,
         at-vertex-area .vertex-area .ensures,
       ),
       rw (
         at-kept-left .kept-left .ensures,
-        at-from-vertex .from-vertex .ensures .0,
-        at-from-vertex .from-vertex .ensures .1,
+        at-climb-on .climb-on .ensures .0,
+        at-climb-on .climb-on .ensures .1,
         at-reach-of .reach-of .ensures,
         at-set-word .set-word .ensures,
         at-vertex-area .vertex-area .ensures,
@@ -76,7 +76,7 @@ climb-spec =
     vertex-area-requires
     set-word-requires
     reach-of-requires
-    from-vertex-requires
+    climb-on-requires
     kept-left-requires
     join-requires
     add-t23

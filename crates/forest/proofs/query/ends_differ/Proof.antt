@@ -10,8 +10,8 @@ edge-area-requires c κs = search needs
 word-requires : tie.Need-word-requires
 word-requires c κs = search needs
 
-rings-differ-requires : tie.Need-rings-differ-requires
-rings-differ-requires c κs = search needs
+bridge-blocks-differ-requires : tie.Need-bridge-blocks-differ-requires
+bridge-blocks-differ-requires c κs = search needs
 
 returns : tie.Need-returns
 unfolding bridgeIn
@@ -19,4 +19,4 @@ returns c = cc
 
 pub ends-differ-spec : {M : Type 1} → statement M
 ends-differ-spec =
-    tie.close (tie.spec edge-area-requires word-requires rings-differ-requires returns)
+    tie.close (tie.spec edge-area-requires word-requires bridge-blocks-differ-requires returns)

@@ -5,7 +5,7 @@ use native.Mathlib.Numerals.{add-one}
 use borrow.Author.Needs.{needs}
 use denote.Ref.{now}
 use Rattle.forest.specs.Climb.{pathVertex}
-use Rattle.forest.specs.Queries.{ringsDiffer, findTable, findCount}
+use Rattle.forest.specs.Queries.{bridgeBlocksDiffer, findTable, findCount}
 use Rattle.forest.proofs.query.find_one.Statement.{statement}
 use Rattle.forest.proofs.query.find_one.Tie as tie
 
@@ -24,8 +24,8 @@ add-word c = search needs
 word-requires-2 : tie.Need-word-requires-2
 word-requires-2 c κs = search needs
 
-rings-differ-requires : tie.Need-rings-differ-requires
-rings-differ-requires c κs = search needs
+bridge-blocks-differ-requires : tie.Need-bridge-blocks-differ-requires
+bridge-blocks-differ-requires c κs = search needs
 
 vertex-area-requires-3 : tie.Need-vertex-area-requires-3
 vertex-area-requires-3 c κs = search needs
@@ -46,10 +46,10 @@ same-length : tie.Need-same-length
 same-length c = search needs
 
 -- what is asked is whether the vertices at the two sides of step i are in different bridge-blocks
-asked : (c : tie.After-rings-differ) →
+asked : (c : tie.After-bridge-blocks-differ) →
     let s = c .before .before .before .before .before .before .before .before .before in
-    c .rings-differ .result
-    ≡ ringsDiffer
+    c .bridge-blocks-differ .result
+    ≡ bridgeBlocksDiffer
     (now (s .args .t))
     (s .args .caps)
     (pathVertex (now (s .args .t)) (s .args .caps) (s .args .i))
@@ -60,7 +60,7 @@ asked c =
     let at-word = at-vertex-area2 .before .before in
     let at-vertex-area = at-word .before in
     rw (
-      c .rings-differ .ensures,
+      c .bridge-blocks-differ .ensures,
       at-word2 .word2 .ensures,
       at-vertex-area2 .vertex-area2 .ensures,
       at-word .word .ensures,
@@ -104,7 +104,7 @@ find-one-spec =
     vertex-area-requires-2
     add-word
     word-requires-2
-    rings-differ-requires
+    bridge-blocks-differ-requires
     vertex-area-requires-3
     word-requires-3
     vertex-area-requires-4

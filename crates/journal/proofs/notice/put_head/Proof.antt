@@ -1,6 +1,7 @@
 -- `notice::put_head` writes the number of the span, its mesh name and the count of notices.
 use borrow.Author.Needs.{needs}
-use Rattle.journal.specs.Bytes.{twoBytes}
+use Rattle.commands.specs.Bytes.{twoBytes}
+use Rattle.journal.specs.Told.{headBytes}
 use Rattle.journal.proofs.notice.put_head.Statement.{statement}
 use Rattle.journal.proofs.notice.put_head.Tie as tie
 
@@ -20,7 +21,7 @@ same-length : tie.Need-same-length
 same-length c = search needs
 
 returns : tie.Need-returns
-unfolding twoBytes
+unfolding headBytes twoBytes
 returns c =
     let at-put-two3 = c .before .before in
     let at-put-two2 = at-put-two3 .before .before .before .before in

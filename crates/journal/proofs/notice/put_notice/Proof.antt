@@ -4,7 +4,8 @@ use Prim.Native.Nat.{_+_, suc}
 use native.Mathlib.Numerals.{add-one}
 use native.Mathlib.Omega.{arith}
 use borrow.Author.Needs.{needs}
-use Rattle.journal.specs.Bytes.{twoBytes}
+use Rattle.commands.specs.Bytes.{twoBytes}
+use Rattle.journal.specs.Told.{changeBytes}
 use Rattle.journal.proofs.notice.put_notice.Statement.{statement}
 use Rattle.journal.proofs.notice.put_notice.Tie as tie
 
@@ -27,7 +28,7 @@ same-length : tie.Need-same-length
 same-length c = search needs
 
 returns : tie.Need-returns
-unfolding twoBytes
+unfolding changeBytes twoBytes
 returns c =
     let at-put-two2 = c .before .before in
     let at-put-two = at-put-two2 .before .before .before .before in

@@ -8,7 +8,7 @@ use borrow.Author.Needs.{needs}
 use lib.ListN.{length}
 use lib.Seq.{sets}
 use Rattle.graph.specs.Below.{tabulate}
-use Rattle.journal.specs.Told.{changeBytes, changesBytes, noticesAt}
+use Rattle.journal.specs.Told.{changesBytes, noticesAt}
 use Rattle.journal.proofs.WriteSteps.{notices-more}
 use Rattle.journal.proofs.notice.put_notices.Statement.{statement}
 use Rattle.journal.proofs.notice.put_notices.Tie as tie
@@ -40,7 +40,6 @@ loop-less : tie.Need-loop-less Inv-loop μ-loop
 loop-less c = omega arith
 
 loop-again : tie.Need-loop-again Inv-loop μ-loop
-unfolding changeBytes
 loop-again c =
     let at-put-notice = c .before .before in
     let at-change-at = at-put-notice .before .before in

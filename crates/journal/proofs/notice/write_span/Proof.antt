@@ -2,12 +2,12 @@
 use Prim.Native.Nat.{_+_, _*_}
 use borrow.Author.Needs.{needs}
 use Rattle.journal.proofs.Sets.{wrote, wrote-nothing}
-use Rattle.journal.proofs.WriteSteps.{headBytes, noticeCount, length-span, span-written}
+use Rattle.journal.proofs.WriteSteps.{noticeCount, length-span, span-written}
 use Rattle.journal.proofs.notice.write_span.Statement.{statement}
 use Rattle.journal.proofs.notice.write_span.Tie as tie
 
-add-rings : tie.Need-add-rings
-add-rings c = search needs
+add-of-cabinets : tie.Need-add-of-cabinets
+add-of-cabinets c = search needs
 
 add-total : tie.Need-add-total
 add-total c = search needs
@@ -65,7 +65,6 @@ same-length : tie.Need-same-length
 same-length c = search needs
 
 returns-2 : tie.Need-returns-2
-unfolding headBytes
 returns-2 c =
     let at-put-notices3 = c .before .before in
     let at-put-notices2 = at-put-notices3 .before .before .before .before in
@@ -92,7 +91,7 @@ pub write-span-spec : {M : Type 1} → statement M
 write-span-spec =
     tie.close
     (tie.spec
-    add-rings
+    add-of-cabinets
     add-total
     cast-size
     mul-size

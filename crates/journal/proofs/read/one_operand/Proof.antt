@@ -1,7 +1,7 @@
 -- `read::one_operand` gives the command of 03, 04 or 08.
 use mathlib.Core.Logic.{⊎-elim}
 use mathlib.Core.Path.{refl}
-use Rattle.journal.specs.Command.{form}
+use Rattle.commands.specs.Command.{form}
 use Rattle.journal.specs.Reads.{meaning, ofOne}
 use Rattle.journal.proofs.read.one_operand.Statement.{statement}
 use Rattle.journal.proofs.read.one_operand.Tie as tie

@@ -5,7 +5,7 @@ use Prim.Native.Nat.{_+_}
 use native.Mathlib.Omega.{arith}
 use borrow.Author.Needs.{needs}
 use lib.ListN.{getD, drop}
-use Rattle.journal.specs.Command.{form, readForm, readCommand}
+use Rattle.commands.specs.Command.{form, readForm, readCommand}
 use Rattle.journal.specs.Reads.{meaning, readingOf}
 use Rattle.journal.proofs.ReadSteps.{one-of-two, one-of-three, read-unknown}
 use Rattle.journal.proofs.read.take_at.Statement.{statement}

@@ -1,7 +1,7 @@
 -- `read::two_operands` gives the command of 02, 05, 06 or 07.
 use mathlib.Core.Logic.{⊎-elim}
 use mathlib.Core.Path.{refl}
-use Rattle.journal.specs.Command.{form}
+use Rattle.commands.specs.Command.{form}
 use Rattle.journal.specs.Reads.{meaning, ofTwo}
 use Rattle.journal.proofs.read.two_operands.Statement.{statement}
 use Rattle.journal.proofs.read.two_operands.Tie as tie

@@ -35,7 +35,7 @@ bridges-between-requires c κs =
     let at-pair-refusal = at-if1 .before in
     let s = at-pair-refusal .before .before .before .before .before in
     let pair = pair-accepted (s .args .shape) (s .args .t .now) (s .pre) L.Spans (s .args .a .0) (s .args .b .0) (sym (at-pair-refusal .pair-refusal .ensures) ∙ at-if1 .if1 .left) in
-    (s .pre, pair .first-known, pair .second-known, pair .together)
+    (s .pre, pair .first-known, pair .second-known, pair .one-district)
 
 write-list-requires : tie.Need-write-list-requires
 write-list-requires c κs = search needs

@@ -1,6 +1,7 @@
 -- `step::write_shared` writes the name of a shared mesh, or that there is none.
 use borrow.Author.Needs.{needs}
-use Rattle.journal.specs.Steps.{sharedBytes}
+use Rattle.commands.specs.Answer.{answerBytes}
+use Rattle.journal.specs.Steps.{sharedAnswer}
 use Rattle.journal.proofs.step.write_shared.Statement.{statement}
 use Rattle.journal.proofs.step.write_shared.Tie as tie
 
@@ -20,7 +21,7 @@ same-length : tie.Need-same-length
 same-length c = search needs
 
 returns : tie.Need-returns
-unfolding sharedBytes
+unfolding sharedAnswer answerBytes
 returns c =
     let at-write-choice = c .before .before in
     rw (at-write-choice .before .before .before .shared .given .1) (at-write-choice .write-choice .ensures)
@@ -29,7 +30,7 @@ same-length-2 : tie.Need-same-length-2
 same-length-2 c = search needs
 
 returns-2 : tie.Need-returns-2
-unfolding sharedBytes
+unfolding sharedAnswer answerBytes
 returns-2 c =
     let at-write-choice2 = c .before .before in
     rw (at-write-choice2 .before .before .enum-told .given .1) (at-write-choice2 .write-choice2 .ensures)

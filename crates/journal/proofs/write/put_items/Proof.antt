@@ -4,10 +4,11 @@ use mathlib.Core.Path.{_≡_, refl, _∙_}
 use Prim.Native.Nat.{_+_, _*_, _-_, _≤_}
 use native.Mathlib.Numerals.{add-one}
 use native.Mathlib.Omega.{arith}
+use borrow.Author.Needs.{needs}
 use lib.ListN.{length}
 use lib.Seq.{sets}
 use Rattle.graph.specs.Below.{tabulate}
-use Rattle.journal.specs.Bytes.{twoBytesEach}
+use Rattle.commands.specs.Bytes.{twoBytesEach}
 use Rattle.journal.specs.Writes.{itemAt}
 use Rattle.journal.proofs.WriteSteps.{items-more}
 use Rattle.journal.proofs.write.put_items.Statement.{statement}
@@ -26,7 +27,7 @@ unfolding tabulate twoBytesEach
 loop-holds c = (refl, refl, omega arith, refl)
 
 listed-item-requires : tie.Need-listed-item-requires Inv-loop μ-loop
-listed-item-requires c κs = omega arith
+listed-item-requires c κs = search needs
 
 put-two-requires : tie.Need-put-two-requires Inv-loop μ-loop
 put-two-requires c κs = omega arith

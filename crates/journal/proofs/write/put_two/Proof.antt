@@ -1,7 +1,7 @@
 -- `write::put_two` stores the two bytes of a number, high byte first.
 use native.Mathlib.Numerals.{add-one}
 use borrow.Author.Needs.{needs}
-use Rattle.journal.specs.Bytes.{twoBytes}
+use Rattle.commands.specs.Bytes.{twoBytes}
 use Rattle.journal.proofs.write.put_two.Statement.{statement}
 use Rattle.journal.proofs.write.put_two.Tie as tie
 

@@ -1,7 +1,7 @@
 -- `write::write_choice` writes an answer of two bytes and a number, or nothing.
 use mathlib.Core.Path.{refl}
 use borrow.Author.Needs.{needs}
-use Rattle.journal.specs.Bytes.{twoBytes}
+use Rattle.commands.specs.Bytes.{twoBytes}
 use Rattle.journal.proofs.Sets.{wrote, wrote-nothing}
 use Rattle.journal.proofs.write.write_choice.Statement.{statement}
 use Rattle.journal.proofs.write.write_choice.Tie as tie

@@ -2,7 +2,7 @@
 use Prim.Native.Nat.{_+_, _*_}
 use native.Mathlib.Omega.{arith}
 use borrow.Author.Needs.{needs}
-use Rattle.journal.specs.Bytes.{twoBytes}
+use Rattle.commands.specs.Bytes.{twoBytes}
 use Rattle.journal.specs.Writes.{itemAt}
 use Rattle.journal.proofs.Sets.{wrote, wrote-nothing}
 use Rattle.journal.proofs.WriteSteps.{length-items}

@@ -1,0 +1,238 @@
+-- Reading is exact: from bytes an answer is read exactly where they begin with that answer's bytes.
+use mathlib.Core.Bool.{true, false}
+use mathlib.Core.List.{List, [], _∷_, _++_, append-assoc, append-nil}
+use mathlib.Core.Logic.{_↔_}
+use mathlib.Core.Option.{Option, none, some}
+use mathlib.Core.Path.{_≡_, refl, sym, _∙_, ap, subst₂}
+use Prim.Native.Nat.{ℕ, zero, suc, _-_}
+use native.Mathlib.Omega.{arith}
+use lib.ListN.{length, getD}
+use Rattle.commands.specs.Bytes.{number, twoBytes, twoBytesEach}
+use Rattle.commands.specs.Answer.{Kind, district, ring, mesh, kindByte, boolByte, Notice, noticeBytes, noticesBytes, Answer, cabinetAdded, spanAdded, districtNamed, ringNamed, meshShared, noMeshShared, soleSpansAre, cutCabinetsAre, soleIs, answerBytes}
+use Rattle.commands.specs.WholeRun.{EachNotice}
+use Rattle.commands.specs.Decode.{Decoded, malformed, decoded, Then, byteThen, fieldThen, fieldsThen, kindOf, kindThen, noticeThen, noticesThen, flagThen, noughtThen, decodeBody, decode}
+use Rattle.commands.proofs.Cases.{impossible}
+use Rattle.commands.proofs.Bytes.{allBytes, all-bytes-behind, first-is-byte, number-below, number-of-two-bytes, two-bytes-of-number}
+use Rattle.commands.proofs.Decode.{Small, EachSmall, NoticeFits, Fits, decode-answer}
+
+-- what was read so far, and the bytes that follow it
+record Read (all front more : List ℕ) : Type 0 where
+  is : all ≡ front ++ more
+  bytes : allBytes more ≡ true
+
+-- more of them read
+read-on : (all front taken more : List ℕ) → Read all front (taken ++ more) → Read all (front ++ taken) more
+read-on all front taken more r =
+    record { is = r .is ∙ sym (append-assoc front taken more); bytes = all-bytes-behind taken more (r .bytes) }
+
+at-byte : {all : List ℕ} (byte is : ℕ) (more : List ℕ) → Read all (byte ∷ []) more → byte ≡ is → Read all (is ∷ []) more
+at-byte byte is more r e = rw e at r
+
+kind-byte : (byte : ℕ) (kind : Kind) → kindOf byte ≡ some kind → byte ≡ kindByte kind
+unfolding kindOf kindByte
+kind-byte zero kind e = impossible (cc)
+kind-byte (suc zero) kind e = let same : district ≡ kind = cc in ap kindByte same
+kind-byte (suc (suc zero)) kind e = let same : ring ≡ kind = cc in ap kindByte same
+kind-byte (suc (suc (suc zero))) kind e = let same : mesh ≡ kind = cc in ap kindByte same
+kind-byte (suc (suc (suc (suc byte)))) kind e = impossible (cc)
+
+-- In this part: what holds of malformed bytes and of whatever is made of the things read holds of the whole reading.
+module _ (all : List ℕ) (P : Decoded → Type 0) (m : P malformed) where
+  then-byte : (k : Then ℕ) (front more : List ℕ) → Read all front more
+      → ((byte : ℕ) (rest : List ℕ) → Read all (front ++ byte ∷ []) rest → P (k byte rest)) → P (byteThen k more)
+  unfolding byteThen
+  then-byte k front [] r f = m
+  then-byte k front (byte ∷ rest) r f = f byte rest (read-on all front (byte ∷ []) rest r)
+
+  then-field : (k : Then ℕ) (front more : List ℕ) → Read all front more
+      → ((n : ℕ) (rest : List ℕ) → Small n → Read all (front ++ twoBytes n) rest → P (k n rest)) → P (fieldThen k more)
+  unfolding fieldThen byteThen
+  then-field k front [] r f = m
+  then-field k front (high ∷ []) r f = m
+  then-field k front (high ∷ low ∷ rest) r f =
+      let h = first-is-byte high (low ∷ rest) (r .bytes) in
+      let l = first-is-byte low rest (all-bytes-behind (high ∷ []) (low ∷ rest) (r .bytes)) in
+      f
+      (number high low)
+      rest
+      (number-below high low h l)
+      (rw (two-bytes-of-number high low h l) (read-on all front (high ∷ low ∷ []) rest r))
+
+  then-fields : (n : ℕ) (k : Then (List ℕ)) (front more : List ℕ) → Read all front more
+      → ((ns rest : List ℕ) → length ns ≡ n → EachSmall ns → Read all (front ++ twoBytesEach ns) rest → P (k ns rest))
+      → P (fieldsThen n k more)
+  unfolding fieldsThen twoBytesEach
+  then-fields zero k front more r f = f [] more refl tt (rw append-nil r)
+  then-fields (suc n) k front more r f =
+      then-field
+      (λ x. fieldsThen n (λ xs. k (x ∷ xs)))
+      front
+      more
+      r
+      (λ x rest s r′.
+      then-fields n (λ xs. k (x ∷ xs)) (front ++ twoBytes x) rest r′
+      (λ ns rest′ d small r″. f (x ∷ ns) rest′ (ap suc d) (s, small) (rw append-assoc at r″)))
+
+  then-kind : (k : Then Kind) (front more : List ℕ) → Read all front more
+      → ((kind : Kind) (rest : List ℕ) → Read all (front ++ kindByte kind ∷ []) rest → P (k kind rest)) → P (kindThen k more)
+  unfolding kindThen
+  then-kind k front more r f =
+      then-byte
+      (λ byte rest. elim (kindOf byte) [ none ↦ malformed | some kind ↦ k kind rest ])
+      front
+      more
+      r
+      (λ byte rest r′. go byte rest r′ (kindOf byte) refl)
+    where
+      go : (byte : ℕ) (rest : List ℕ) → Read all (front ++ byte ∷ []) rest → (o : Option Kind) → kindOf byte ≡ o
+          → P (elim o [ none ↦ malformed | some kind ↦ k kind rest ])
+      go byte rest r′ none e = m
+      go byte rest r′ (some kind) e = f kind rest (rw (kind-byte byte kind e) at r′)
+
+  then-notice : (k : Then Notice) (front more : List ℕ) → Read all front more
+      → ((t : Notice) (rest : List ℕ) → NoticeFits t → Read all (front ++ noticeBytes t) rest → P (k t rest)) → P (noticeThen k more)
+  unfolding noticeThen noticeBytes
+  then-notice k front more r f =
+      then-kind _ front more r
+      (λ kind rest r₁.
+      then-field _ (front ++ kindByte kind ∷ []) rest r₁
+      (λ item rest₁ s₁ r₂.
+      then-field _ ((front ++ kindByte kind ∷ []) ++ twoBytes item) rest₁ r₂
+      (λ name rest₂ s₂ r₃.
+      f (record { kind = kind; item = item; name = name }) rest₂ (s₁, s₂) (simp append-assoc at r₃))))
+
+  then-notices : (n : ℕ) (k : Then (List Notice)) (front more : List ℕ) → Read all front more
+      → ((ts : List Notice) (rest : List ℕ) → length ts ≡ n → EachNotice NoticeFits ts → Read all (front ++ noticesBytes ts) rest → P (k ts rest))
+      → P (noticesThen n k more)
+  unfolding noticesThen noticesBytes
+  then-notices zero k front more r f = f [] more refl tt (rw append-nil r)
+  then-notices (suc n) k front more r f =
+      then-notice
+      (λ t. noticesThen n (λ ts. k (t ∷ ts)))
+      front
+      more
+      r
+      (λ t rest s r′.
+      then-notices n (λ ts. k (t ∷ ts)) (front ++ noticeBytes t) rest r′
+      (λ ts rest′ d fit r″. f (t ∷ ts) rest′ (ap suc d) (s, fit) (rw append-assoc at r″)))
+
+  then-flag : (one none′ : List ℕ → Decoded) (front more : List ℕ) → Read all front more
+      → ((rest : List ℕ) → Read all (front ++ 1 ∷ []) rest → P (one rest))
+      → ((rest : List ℕ) → Read all (front ++ 0 ∷ []) rest → P (none′ rest))
+      → P (flagThen one none′ more)
+  unfolding flagThen
+  then-flag one none′ front more r f g = then-byte (λ byte. getD (none′ ∷ one ∷ []) byte (λ bytes. malformed)) front more r go
+    where
+      go : (byte : ℕ) (rest : List ℕ) → Read all (front ++ byte ∷ []) rest → P (getD (none′ ∷ one ∷ []) byte (λ bytes. malformed) rest)
+      go zero rest r′ = g rest r′
+      go (suc zero) rest r′ = f rest r′
+      go (suc (suc byte)) rest r′ = m
+
+  then-nought : (k : List ℕ → Decoded) (front more : List ℕ) → Read all front more
+      → ((rest : List ℕ) → Read all (front ++ twoBytes 0) rest → P (k rest))
+      → P (noughtThen k more)
+  unfolding noughtThen
+  then-nought k front more r f = then-field (λ n. getD (k ∷ []) n (λ bytes. malformed)) front more r (λ n rest s. go n rest)
+    where
+      go : (n : ℕ) (rest : List ℕ) → Read all (front ++ twoBytes n) rest → P (getD (k ∷ []) n (λ bytes. malformed) rest)
+      go zero rest r′ = f rest r′
+      go (suc n) rest r′ = m
+
+module _ (all : List ℕ) where
+  -- the bytes are those of the answer and then the rest, and the answer's numbers fit into them
+  pub record Spells (a : Answer) (rest : List ℕ) : Type 0 where
+    pub bytes-are : all ≡ answerBytes a ++ rest
+    pub fits : Fits a
+
+  abbrev Spelled : Decoded → Type 0
+  Spelled d = (a : Answer) (rest : List ℕ) → d ≡ decoded a rest → Spells a rest
+
+  bad : Spelled malformed
+  bad a rest e = impossible (cc)
+
+  spelled : (b : Answer) (more : List ℕ) → Read all (answerBytes b) more → Fits b → Spelled (decoded b more)
+  spelled b more r fits a rest e =
+      let same-answer : b ≡ a = cc in
+      let same-rest : more ≡ rest = cc in
+      subst₂ Spells same-answer same-rest (record { bytes-are = r .is; fits = fits })
+
+  one-field : (byte : ℕ) (f : ℕ → Answer) → ((n : ℕ) → byte ∷ twoBytes n ≡ answerBytes (f n)) → ((n : ℕ) → Small n → Fits (f n))
+      → (more : List ℕ) → Read all (byte ∷ []) more → Spelled (fieldThen (λ n. decoded (f n)) more)
+  one-field byte f are fit more r =
+      then-field all Spelled bad (λ n. decoded (f n)) (byte ∷ []) more r (λ n rest s r′. spelled (f n) rest (rw (are n) at r′) (fit n s))
+
+  counted : (byte : ℕ) (f : List ℕ → Answer) → ((ns : List ℕ) → byte ∷ twoBytes (length ns) ++ twoBytesEach ns ≡ answerBytes (f ns))
+      → ((ns : List ℕ) → Small (length ns) → EachSmall ns → Fits (f ns))
+      → (more : List ℕ) → Read all (byte ∷ []) more → Spelled (fieldThen (λ n. fieldsThen n (λ ns. decoded (f ns))) more)
+  unfolding twoBytes
+  counted byte f are fit more r =
+      then-field all Spelled bad _ (byte ∷ []) more r
+      (λ n rest s r₁.
+      then-fields all Spelled bad n (λ ns. decoded (f ns)) (byte ∷ twoBytes n) rest r₁
+      (λ ns rest₁ d small r₂. spelled (f ns) rest₁ (rw (are ns) at (rw (sym d) at r₂)) (fit ns (rw (sym d) at s) small)))
+
+  added : (more : List ℕ) → Read all (0x82 ∷ []) more
+      → Spelled (fieldThen (λ s. fieldThen (λ name. fieldThen (λ n. noticesThen n (λ ts. decoded (spanAdded s name ts))))) more)
+  unfolding answerBytes twoBytes
+  added more r =
+      then-field all Spelled bad _ (0x82 ∷ []) more r
+      (λ s rest small r₁.
+      then-field all Spelled bad _ (0x82 ∷ twoBytes s) rest r₁
+      (λ name rest₁ small₁ r₂.
+      then-field all Spelled bad _ (0x82 ∷ twoBytes s ++ twoBytes name) rest₁ r₂
+      (λ n rest₂ small₂ r₃.
+      then-notices all Spelled bad n (λ ts. decoded (spanAdded s name ts)) (0x82 ∷ twoBytes s ++ twoBytes name ++ twoBytes n) rest₂ r₃
+      (λ ts rest₃ d fit r₄. spelled (spanAdded s name ts) rest₃ (rw (sym d) at r₄) (small, small₁, rw (sym d) at small₂, fit)))))
+
+  body : (byte : ℕ) (more : List ℕ) → Read all (byte ∷ []) more → (i : ℕ) → byte - 0x80 ≡ i → Spelled (decodeBody byte more)
+  unfolding decodeBody answerBytes boolByte twoBytes
+  body byte more r zero e = rw e bad
+  body byte more r (suc zero) e = rw e (one-field 0x81 cabinetAdded (λ n. refl) (λ n s. s) more (at-byte byte 0x81 more r (omega arith)))
+  body byte more r (suc (suc zero)) e = rw e (added more (at-byte byte 0x82 more r (omega arith)))
+  body byte more r (suc (suc (suc zero))) e =
+      rw e (one-field 0x83 districtNamed (λ n. refl) (λ n s. s) more (at-byte byte 0x83 more r (omega arith)))
+  body byte more r (suc (suc (suc (suc zero)))) e =
+      rw e (one-field 0x84 ringNamed (λ n. refl) (λ n s. s) more (at-byte byte 0x84 more r (omega arith)))
+  body byte more r (suc (suc (suc (suc (suc zero))))) e =
+      rw e
+      (then-flag all Spelled bad
+      (fieldThen (λ name. decoded (meshShared name)))
+      (noughtThen (decoded noMeshShared))
+      (0x85 ∷ [])
+      more
+      (at-byte byte 0x85 more r (omega arith))
+      (λ rest r₁.
+      then-field all Spelled bad (λ name. decoded (meshShared name)) (0x85 ∷ 1 ∷ []) rest r₁
+      (λ name rest₁ s r₂. spelled (meshShared name) rest₁ r₂ s))
+      (λ rest r₁. then-nought all Spelled bad (decoded noMeshShared) (0x85 ∷ 0 ∷ []) rest r₁ (λ rest₁ r₂. spelled noMeshShared rest₁ r₂ tt)))
+  body byte more r (suc (suc (suc (suc (suc (suc zero)))))) e =
+      rw e (counted 0x86 soleSpansAre (λ ns. refl) (λ ns s f. (s, f)) more (at-byte byte 0x86 more r (omega arith)))
+  body byte more r (suc (suc (suc (suc (suc (suc (suc zero))))))) e =
+      rw e (counted 0x87 cutCabinetsAre (λ ns. refl) (λ ns s f. (s, f)) more (at-byte byte 0x87 more r (omega arith)))
+  body byte more r (suc (suc (suc (suc (suc (suc (suc (suc zero)))))))) e =
+      rw e
+      (then-flag all Spelled bad
+      (decoded (soleIs true))
+      (decoded (soleIs false))
+      (0x88 ∷ [])
+      more
+      (at-byte byte 0x88 more r (omega arith))
+      (λ rest r₁. spelled (soleIs true) rest r₁ tt)
+      (λ rest r₁. spelled (soleIs false) rest r₁ tt))
+  body byte more r (suc (suc (suc (suc (suc (suc (suc (suc (suc i))))))))) e = rw e bad
+
+  -- of bytes, an answer is read exactly where they are that answer's bytes and then the rest
+  pub read-exactly : allBytes all ≡ true → (a : Answer) (rest : List ℕ) → (decode all ≡ decoded a rest) ↔ Spells a rest
+  unfolding decode
+  read-exactly b a rest = (
+    then-byte all Spelled bad decodeBody [] all (record { is = refl; bytes = b }) (λ byte more r. body byte more r (byte - 0x80) refl) a rest,
+    λ s. ap decode (s .bytes-are) ∙ decode-answer a (s .fits) rest,
+  )
+
+  -- the count in an 82 is the number of notices read after it
+  pub read-span-added : allBytes all ≡ true → (s name : ℕ) (ts : List Notice) (rest : List ℕ)
+      → decode all ≡ decoded (spanAdded s name ts) rest → number (getD all 5 0) (getD all 6 0) ≡ length ts
+  unfolding answerBytes twoBytes
+  read-span-added b s name ts rest e =
+      let spelt = read-exactly b (spanAdded s name ts) rest .0 e in
+      rw (spelt .bytes-are) (number-of-two-bytes (length ts) (spelt .fits .2))

@@ -1,0 +1,105 @@
+-- What every accepted command keeps: the network stays within the capacities, and every edge joins two different vertices of it.
+use mathlib.Core.Bool.{Bool, true, _&&_}
+use mathlib.Core.List.{List}
+use mathlib.Core.Option.{Option, none}
+use mathlib.Core.Path.{_≡_}
+use Prim.Native.Nat.{ℕ, zero, suc, _≤_}
+use native.Mathlib.Nat.{not-suc-le-zero}
+use native.Mathlib.Omega.{arith}
+use lib.Dec.{ltb}
+use lib.ListN.{take}
+use Rattle.graph.specs.Lists.{allIn}
+use Rattle.graph.specs.Network.{Rule, Network, Edge, edgeCount, addVertex, addEdge, Proper}
+use Rattle.graph.proofs.Truth.{and-left, and-right, ltb-lt}
+use Rattle.graph.proofs.Joined.{edge-count-more}
+use Rattle.graph.proofs.VertexMore.{proper-vertex-more, proper-edge-more}
+use Rattle.naming.specs.Book.{Book, emptyBook, enterVertex, enterEdge, feed}
+use Rattle.commands.specs.Command.{Command, addCabinet, addSpan, districtName, ringName, sharedMesh, soleSpans, cutCabinets, isSole, addition}
+use Rattle.commands.specs.Refusal.{Refusal, Capacities, cabinetsOf, cabinetsKnown, hasEqualCabinets, isFull, refusalOf}
+use Rattle.commands.specs.Step.{after}
+use Rattle.commands.specs.Run.{Accepted}
+use Rattle.commands.proofs.Cases.{leb-gt}
+use Rattle.commands.proofs.Steps.{RunsTo, ends, refuses, accepts, was-accepted}
+use Rattle.commands.proofs.Place.{bookFed, fed-none, fed-more}
+use Rattle.commands.proofs.Causes.{NotRefused, not-refused-exactly}
+
+-- the network is within the capacities, and proper
+pub record WithinCapacities (caps : Capacities) (g : Network) : Type 0 where
+  pub cabinets-fit : g .vertices ≤ caps .cabinets
+  pub spans-fit : edgeCount g ≤ caps .spans
+  pub proper : Proper g
+
+-- an empty network is
+pub empty-fits : (caps : Capacities) (rule : Rule) → WithinCapacities caps (emptyBook rule .network)
+unfolding emptyBook edgeCount
+empty-fits caps rule =
+    record {
+      cabinets-fit = omega arith;
+      spans-fit = omega arith;
+      proper =
+          record {
+            left-known = λ s h. absurd (not-suc-le-zero h);
+            right-known = λ s h. absurd (not-suc-le-zero h);
+            no-loop = λ s h. absurd (not-suc-le-zero h);
+          };
+    }
+
+-- a cabinet more
+cabinet-more : (caps : Capacities) (b : Book) → WithinCapacities caps (b .network) → NotRefused caps b addCabinet → WithinCapacities caps (after b addCabinet .network)
+unfolding isFull after feed addition enterVertex addVertex edgeCount
+cabinet-more caps b fits n =
+    record {
+      cabinets-fit = leb-gt _ _ (n .not-full);
+      spans-fit = fits .spans-fit;
+      proper = proper-vertex-more (b .network) (fits .proper);
+    }
+
+-- a span more
+span-more : (caps : Capacities) (b : Book) (x y : ℕ) → WithinCapacities caps (b .network) → NotRefused caps b (addSpan x y)
+    → WithinCapacities caps (after b (addSpan x y) .network)
+unfolding isFull after feed addition enterEdge addEdge cabinetsKnown cabinetsOf allIn hasEqualCabinets
+span-more caps b x y fits n =
+    record {
+      cabinets-fit = fits .cabinets-fit;
+      spans-fit = rw (edge-count-more (b .network) new) (leb-gt _ _ (n .not-full));
+      proper =
+          proper-edge-more
+          (b .network)
+          new
+          (fits .proper)
+          (ltb-lt _ _ (and-left known-left (known-right && true) (n .cabinets-known)))
+          (ltb-lt _ _ (and-left known-right true (and-right known-left (known-right && true) (n .cabinets-known))))
+          (n .different-cabinets);
+    }
+  where
+    new : Edge
+    new = record { left = x; right = y }
+
+    known-left : Bool
+    known-left = ltb x (b .network .vertices)
+
+    known-right : Bool
+    known-right = ltb y (b .network .vertices)
+
+-- every command that is not refused keeps the network within the capacities, and proper
+pub kept : (caps : Capacities) (b : Book) (c : Command) → WithinCapacities caps (b .network) → refusalOf caps b c ≡ none → WithinCapacities caps (after b c .network)
+unfolding after addition feed
+kept caps b addCabinet fits e = cabinet-more caps b fits (not-refused-exactly caps b addCabinet .0 e)
+kept caps b (addSpan x y) fits e = span-more caps b x y fits (not-refused-exactly caps b (addSpan x y) .0 e)
+kept caps b (districtName x) fits e = fits
+kept caps b (ringName x) fits e = fits
+kept caps b (sharedMesh x y) fits e = fits
+kept caps b (soleSpans x y) fits e = fits
+kept caps b (cutCabinets x y) fits e = fits
+kept caps b (isSole s) fits e = fits
+
+-- so it is after every number of the accepted commands
+pub fits-after : (caps : Capacities) {b : Book} {journal : List ℕ} {l : List Accepted} {end : Option Refusal}
+    → RunsTo caps b journal l end → WithinCapacities caps (b .network) → (k : ℕ) → WithinCapacities caps (bookFed b (take k l) .network)
+fits-after caps {b} r fits zero = rw (fed-none b) fits
+fits-after caps (ends {b = b}) fits (suc k) = rw (fed-none b) fits
+fits-after caps (refuses {b = b} e) fits (suc k) = rw (fed-none b) fits
+fits-after caps (accepts {b = b} {a = a} {later = later} e rest) fits (suc k) =
+    rw
+    (fed-more b a (take k later))
+    (fits-after caps rest (kept caps b (a .command) fits (was-accepted caps b _ a e .not-refused)) k)

@@ -1,0 +1,77 @@
+-- The answers that a planner reads from the answer buffer on return are the definition's answers to the accepted commands.
+use mathlib.Core.List.{List, [], _∷_, _++_, map}
+use mathlib.Core.Logic.{_⊎_, inl, inr}
+use mathlib.Core.Option.{some}
+use mathlib.Core.Path.{_≡_, refl, _∙_, ap}
+use Prim.Native.Nat.{ℕ, zero, suc, _≤_}
+use lib.ListN.{length, take, drop, getElem?, length-map}
+use Rattle.graph.specs.Network.{Rule, MateRule}
+use Rattle.naming.specs.Book.{Book, emptyBook, feedAll}
+use Rattle.commands.specs.Command.{Command, addition}
+use Rattle.commands.specs.Refusal.{Refusal, Capacities}
+use Rattle.commands.specs.Step.{after, answer}
+use Rattle.commands.specs.Run.{Accepted, commandsOf, bytesOfAnswers}
+use Rattle.commands.specs.Entry.{refusedAtStart, acceptedCommands, over, Buffers, outcome, entryUnder}
+use Rattle.commands.specs.Decode.{decodeFirst}
+use Rattle.commands.proofs.Start.{good-exactly, ran-exactly, refused-or-ran}
+use Rattle.commands.proofs.Returned.{whole, within, WellStarted}
+use Rattle.commands.proofs.Cases.{impossible}
+use Rattle.commands.proofs.Decode.{AllFit, decode-first}
+use Rattle.commands.proofs.NameList.{answersFrom, first-answers}
+use Rattle.commands.proofs.RunBooks.{empty-sound, Answered, run-answered, answers-of-run}
+use Rattle.commands.proofs.AnswersFit.{all-answers-fit}
+
+-- there are as many answers as commands
+pub length-answers : (b : Book) (cs : List Command) → length (answersFrom b cs) ≡ length cs
+unfolding answersFrom
+length-answers b [] = refl
+length-answers b (c ∷ later) = ap suc (length-answers (after b c) later)
+
+-- each answer is the answer to its command from the book after those before it
+pub answer-at : (b : Book) (cs : List Command) (i : ℕ) (c : Command) → getElem? cs i ≡ some c
+    → getElem? (answersFrom b cs) i ≡ some (answer (feedAll b (map addition (take i cs))) c)
+unfolding answersFrom feedAll after
+answer-at b [] i c e = impossible (cc)
+answer-at b (d ∷ later) zero c e = cc
+answer-at b (d ∷ later) (suc i) c e = answer-at (after b d) later i c e
+
+-- commands that were accepted one after another, with answers that fit: their answers are read back, whatever follows the bytes
+read-accepted : (caps : Capacities) (b : Book) (l : List Accepted) → Answered caps b l → AllFit l → (rest : List ℕ)
+    → (k : ℕ) → k ≤ length (map (λ a. a .command) l)
+    → decodeFirst k (bytesOfAnswers l ++ rest) ≡ answersFrom b (take k (map (λ a. a .command) l))
+read-accepted caps b l w fit rest k h =
+    decode-first l fit k (rw length-map at h) rest
+    ∙ ap (take k) (answers-of-run caps b l w)
+    ∙ first-answers k b (map (λ a. a .command) l)
+
+module _ (rule : Rule) (caps : Capacities) (journal : List ℕ) (lent : Buffers) where
+  -- the accepted commands of the run
+  abbrev pub accepted : List Command
+  accepted = acceptedCommands (whole rule caps journal lent)
+
+  -- the answer buffer on return
+  abbrev pub answerBuffer : List ℕ
+  answerBuffer = entryUnder rule caps journal lent .buffers .answers
+
+  -- the first k answers that the buffer holds are those to the first k commands
+  pub read-back : MateRule rule → (k : ℕ) → k ≤ length accepted
+      → decodeFirst k answerBuffer ≡ answersFrom (emptyBook rule) (take k accepted)
+  unfolding entryUnder outcome over acceptedCommands commandsOf bytesOfAnswers
+  read-back r k h = go (refused-or-ran rule caps journal (length (lent .work)) (length (lent .answers)) (length (lent .report))) h
+    where
+      start : Book
+      start = emptyBook rule
+
+      taken : List Accepted
+      taken = within rule caps journal lent .accepted
+
+      go : ((refusal : Refusal) × (whole rule caps journal lent ≡ refusedAtStart refusal)) ⊎ WellStarted rule caps journal lent
+          → k ≤ length accepted
+          → decodeFirst k (outcome rule caps lent (whole rule caps journal lent) .buffers .answers) ≡ answersFrom start (take k accepted)
+      go (inl (refusal, e)) h = rw e (read-accepted caps start [] tt tt (lent .answers) k (rw e at h))
+      go (inr well) h =
+          let w = run-answered (length (lent .answers)) caps start journal in
+          let range = good-exactly caps .0 (well .good-capacities) in
+          let fit = all-answers-fit caps range start taken (empty-sound caps rule r) w in
+          let runs = ran-exactly rule caps journal (length (lent .work)) (length (lent .answers)) (length (lent .report)) .1 well in
+          rw runs (read-accepted caps start taken w fit (drop (length (bytesOfAnswers taken)) (lent .answers)) k (rw runs at h))

@@ -1,0 +1,77 @@
+-- The answers read back from bytes, as a planner reads them. Bytes that are no answer end the reading.
+use mathlib.Core.Bool.{true, false}
+use mathlib.Core.List.{List, [], _∷_}
+use mathlib.Core.Option.{Option, none, some}
+use Prim.Native.Nat.{ℕ, zero, suc, _-_}
+use lib.ListN.{getD}
+use Rattle.commands.specs.Bytes.{number}
+use Rattle.commands.specs.Answer.{Kind, district, ring, mesh, Notice, Answer, cabinetAdded, spanAdded, districtNamed, ringNamed, meshShared, noMeshShared, soleSpansAre, cutCabinetsAre, soleIs}
+
+-- An answer and the bytes that follow it.
+pub data Decoded : Type 0 where
+  malformed : Decoded
+  decoded : Answer → List ℕ → Decoded
+
+-- What is made of the bytes that follow something read.
+abbrev pub Then : Type 0 → Type 0
+Then A = A → List ℕ → Decoded
+
+unfoldable pub byteThen : Then ℕ → List ℕ → Decoded
+byteThen k [] = malformed
+byteThen k (byte ∷ bytes) = k byte bytes
+
+unfoldable pub fieldThen : Then ℕ → List ℕ → Decoded
+fieldThen k = byteThen (λ high. byteThen (λ low. k (number high low)))
+
+-- So many fields, one after another.
+unfoldable pub fieldsThen : ℕ → Then (List ℕ) → List ℕ → Decoded
+fieldsThen zero k = k []
+fieldsThen (suc n) k = fieldThen (λ x. fieldsThen n (λ xs. k (x ∷ xs)))
+
+unfoldable pub kindOf : ℕ → Option Kind
+kindOf byte = getD (none ∷ some district ∷ some ring ∷ some mesh ∷ []) byte none
+
+unfoldable pub kindThen : Then Kind → List ℕ → Decoded
+kindThen k = byteThen (λ byte bytes. elim (kindOf byte) [ none ↦ malformed | some kind ↦ k kind bytes ])
+
+unfoldable pub noticeThen : Then Notice → List ℕ → Decoded
+noticeThen k =
+    kindThen (λ kind. fieldThen (λ item. fieldThen (λ name. k (record { kind = kind; item = item; name = name }))))
+
+-- So many notices, one after another.
+unfoldable pub noticesThen : ℕ → Then (List Notice) → List ℕ → Decoded
+noticesThen zero k = k []
+noticesThen (suc n) k = noticeThen (λ t. noticesThen n (λ ts. k (t ∷ ts)))
+
+-- A byte that is 1 or 0 chooses.
+unfoldable pub flagThen : (List ℕ → Decoded) → (List ℕ → Decoded) → List ℕ → Decoded
+flagThen one none′ = byteThen (λ byte. getD (none′ ∷ one ∷ []) byte (λ bytes. malformed))
+
+-- Two bytes that are 0.
+unfoldable pub noughtThen : (List ℕ → Decoded) → List ℕ → Decoded
+noughtThen k = fieldThen (λ n. getD (k ∷ []) n (λ bytes. malformed))
+
+-- The answers by their byte, from 80 on: 81 to 88. Every other byte is malformed.
+unfoldable pub decodeBody : ℕ → List ℕ → Decoded
+decodeBody byte =
+    getD
+    ((λ bytes. malformed)
+    ∷ fieldThen (λ k. decoded (cabinetAdded k))
+    ∷ fieldThen (λ s. fieldThen (λ name. fieldThen (λ n. noticesThen n (λ ts. decoded (spanAdded s name ts)))))
+    ∷ fieldThen (λ name. decoded (districtNamed name))
+    ∷ fieldThen (λ name. decoded (ringNamed name))
+    ∷ flagThen (fieldThen (λ name. decoded (meshShared name))) (noughtThen (decoded noMeshShared))
+    ∷ fieldThen (λ n. fieldsThen n (λ ss. decoded (soleSpansAre ss)))
+    ∷ fieldThen (λ n. fieldsThen n (λ cs. decoded (cutCabinetsAre cs)))
+    ∷ flagThen (decoded (soleIs true)) (decoded (soleIs false))
+    ∷ [])
+    (byte - 0x80)
+    (λ bytes. malformed)
+
+unfoldable pub decode : List ℕ → Decoded
+decode = byteThen decodeBody
+
+-- The first k answers that the bytes hold.
+unfoldable pub decodeFirst : ℕ → List ℕ → List Answer
+decodeFirst zero bytes = []
+decodeFirst (suc k) bytes = elim (decode bytes) [ malformed ↦ [] | decoded a rest ↦ a ∷ decodeFirst k rest ]

@@ -1,0 +1,15 @@
+pub mod Bytes
+pub mod Command
+pub mod Refusal
+pub mod Answer
+pub mod Step
+pub mod Run
+pub mod Entry
+pub mod Register
+pub mod Decode
+pub mod NameList
+pub mod WholeRun
+pub mod Histories
+pub mod Computed
+pub mod HistoriesShown
+pub mod EntryShown

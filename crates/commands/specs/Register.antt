@@ -1,0 +1,45 @@
+-- The register of document 01: the entry at its rule of mates, and the program around it.
+use mathlib.Core.List.{List, [], _∷_, _++_}
+use mathlib.Core.Option.{Option, none, some}
+use Prim.Native.Nat.{ℕ}
+use Rattle.graph.specs.Network.{Rule, never}
+use Rattle.commands.specs.Bytes.{fourBytes}
+use Rattle.commands.specs.Refusal.{Refusal, Capacities, refusalNumber}
+use Rattle.commands.specs.Run.{bytesOfAnswers, placeAfter}
+use Rattle.commands.specs.Entry.{Whole, refusedAtStart, ran, Buffers, Outcome, wholeRun, workNeeded, reportOf, entryUnder}
+
+-- No other span is lost with a span.
+unfoldable pub registerRule : Rule
+registerRule = never
+
+unfoldable pub register : Capacities → List ℕ → Buffers → Outcome
+register = entryUnder registerRule
+
+-- The program's capacities.
+unfoldable pub programCapacities : Capacities
+programCapacities = record { cabinets = 256; spans = 512 }
+
+-- What the program writes after the answers: 80, or FF, the refusal's number and its place.
+unfoldable pub ending : Option Refusal → ℕ → List ℕ
+ending none place = 0x80 ∷ []
+ending (some r) place = 0xFF ∷ refusalNumber r ∷ fourBytes place
+
+unfoldable pub programOutput : Whole → List ℕ
+programOutput (refusedAtStart r) = ending (some r) 0
+programOutput (ran run) = bytesOfAnswers (run .accepted) ++ ending (run .refusal) (placeAfter (run .accepted))
+
+-- The program's run of its input, with an answer buffer of 65,536 bytes.
+unfoldable pub programRun : List ℕ → Whole
+programRun input = wholeRun registerRule programCapacities input (workNeeded programCapacities) 65536 6
+
+-- The bytes that the program writes for those that it reads.
+unfoldable pub program : List ℕ → List ℕ
+program input = programOutput (programRun input)
+
+-- The six numbers of the report of that run: none where it is refused at the start.
+unfoldable pub wholeReport : Whole → List ℕ
+wholeReport (refusedAtStart r) = []
+wholeReport (ran run) = reportOf registerRule run
+
+unfoldable pub programReport : List ℕ → List ℕ
+programReport input = wholeReport (programRun input)

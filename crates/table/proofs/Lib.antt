@@ -1,0 +1,11 @@
+pub mod Cells
+pub mod Fits
+pub mod Halves
+pub mod MergeAbsorb
+pub mod MergeAbsorbed
+pub mod MergeBest
+pub mod MergeKept
+pub mod MergeLaw
+pub mod MergeOutcome
+pub mod MergeRename
+pub mod MergeSteps

@@ -1,0 +1,292 @@
+-- Absorbing the groups of listed items: the winner's size becomes that of all of them, theirs 0, and the pass holds their items.
+use mathlib.Core.Bool.{Bool, true, false, not, cond, _&&_, _||_}
+use mathlib.Core.List.{List}
+use mathlib.Core.Logic.{_⊎_, inl, inr}
+use mathlib.Core.Path.{_≡_, refl, sym, _∙_, ap}
+use Prim.Native.Nat.{ℕ, zero, suc, _+_, _%_, _^_, _≤_, _<_, min, max}
+use native.Mathlib.Nat.{mod-eq-of-lt}
+use native.Mathlib.Omega.{arith}
+use lib.Dec.{eqb}
+use Rattle.graph.specs.Below.{count}
+use Rattle.graph.proofs.Truth.{true-or-false, not-both, or-cases, or-left, or-right, and-left, and-right, and-both, eqb-eq, eqb-ne, ne-eqb, eqb-swap}
+use Rattle.graph.proofs.Below.{count-same}
+use Rattle.naming.specs.Rename.{Grouping, size}
+use Rattle.naming.proofs.Count.{count-at-most}
+use Rattle.naming.proofs.Naming.{group-by-name}
+use Rattle.table.specs.declared.words.Area.{Area}
+use Rattle.table.specs.declared.merge.Pass.{Pass}
+use Rattle.table.specs.Layout.{cell, put}
+use Rattle.table.specs.Merge.{nameIn, sizeIn, rangeIn, leastOf, greatestOf, widened}
+use Rattle.table.specs.Merge.{absorbTable, absorbPass}
+use Rattle.table.specs.KindValid.{namesIn, KindValid}
+use Rattle.table.proofs.Cells.{HasColumns, length-put, cell-put-same, cell-put-other-column, cell-put-other-item}
+use Rattle.table.proofs.MergeKept.{Kept, kept-trans, kept-put, kept-columns}
+use Rattle.table.proofs.MergeBest.{name-in-list}
+
+-- two tests that never both pass below n count together what either counts
+count-either : (n : ℕ) (p q : ℕ → Bool) → ((i : ℕ) → i < n → p i ≡ true → q i ≡ true → ⊥)
+    → count n p + count n q ≡ count n (λ i. p i || q i)
+unfolding count
+count-either zero p q apart = omega arith
+count-either (suc n) p q apart =
+    step (p n) (q n) (apart n (omega arith)) (count n p) (count n q) (count n (λ i. p i || q i))
+    (count-either n p q (λ i h. apart i (omega arith)))
+  where
+    step : (a b : Bool) → (a ≡ true → b ≡ true → ⊥) → (c d e : ℕ) → c + d ≡ e
+        → cond a (suc c) c + cond b (suc d) d ≡ cond (a || b) (suc e) e
+    step true true f c d e h = absurd (f refl refl)
+    step true false f c d e h = omega arith
+    step false true f c d e h = omega arith
+    step false false f c d e h = h
+
+-- a test that fails adds nothing, one that passes settles it, and bracketing does not matter
+pub or-false : (a : Bool) → (a || false) ≡ a
+or-false true = refl
+or-false false = refl
+
+or-true : (a : Bool) → (a || true) ≡ true
+or-true true = refl
+or-true false = refl
+
+pub or-assoc : (a b c : Bool) → ((a || b) || c) ≡ (a || (b || c))
+or-assoc true b c = refl
+or-assoc false b c = refl
+
+-- Item x is in a group that is absorbed: in a merged group, and not in the winner's.
+abbrev pub loses : (ℕ → Bool) → List ℕ → Area → ℕ → ℕ → Bool
+loses merged t area w x = merged x && not (eqb (nameIn t area x) w)
+
+-- What table and pass are once the groups of the items that pass the test have been absorbed.
+pub record Absorbing (t₀ : List ℕ) (area : Area) (n : ℕ) (before : Grouping) (w : ℕ) (merged : ℕ → Bool) (t : List ℕ) (p : Pass) : Type 0 where
+  pub kept : Kept area t₀ t
+  pub names : (x : ℕ) → x < area .size → nameIn t area x ≡ nameIn t₀ area x
+  pub ranges : (x : ℕ) → x < area .size → rangeIn t area x ≡ rangeIn t₀ area x
+  -- the test passes for all items of a group or for none
+  pub whole : (x y : ℕ) → x < n → y < n → nameIn t₀ area x ≡ nameIn t₀ area y → merged x ≡ true → merged y ≡ true
+  pub winner : sizeIn t area w ≡ count n (λ x. eqb (nameIn t₀ area x) w || merged x)
+  pub others : (x : ℕ) → x < n → eqb (nameIn t₀ area x) w ≡ false
+      → sizeIn t area (nameIn t₀ area x) ≡ cond (merged x) 0 (size n before x)
+  pub from-least : (x : ℕ) → x < n → loses merged t₀ area w x ≡ true → p .from ≤ x
+  pub to-greatest : (x : ℕ) → x < n → loses merged t₀ area w x ≡ true → x < p .to
+  pub to-known : p .to ≤ n
+
+-- What storing the winner's new size and 0 for another group leaves in the table.
+module _ (t : List ℕ) (area : Area) (columns : HasColumns t area 4) (w name v : ℕ) (wide : w < area .size) (wide′ : name < area .size)
+    (differ : name ≡ w → ⊥) where
+  abbrev given : List ℕ
+  given = put t area 1 w v
+
+  abbrev taken : List ℕ
+  taken = put given area 1 name 0
+
+  winner-size : sizeIn taken area w ≡ v
+  winner-size = cell-put-other-item given area 1 name 0 w differ ∙ cell-put-same t area 4 1 w v columns (omega arith) wide
+
+  taken-size : sizeIn taken area name ≡ 0
+  taken-size =
+      cell-put-same given area 4 1 name 0 (rw (length-put t area 1 w v) columns) (omega arith) wide′
+
+  other-size : (y : ℕ) → (w ≡ y → ⊥) → (name ≡ y → ⊥) → sizeIn taken area y ≡ sizeIn t area y
+  other-size y d e = cell-put-other-item given area 1 name 0 y e ∙ cell-put-other-item t area 1 w v y d
+
+  other-column : (c x : ℕ) → x < area .size → (1 ≡ c → ⊥) → cell taken area c x ≡ cell t area c x
+  other-column c x h d = cell-put-other-column given area 1 name 0 c x wide′ h d ∙ cell-put-other-column t area 1 w v c x wide h d
+
+  taken-kept : Kept area t taken
+  taken-kept = kept-trans (kept-put area t 1 w v (omega arith) wide) (kept-put area given 1 name 0 (omega arith) wide′)
+
+-- Over a valid table t₀, with the winner w.
+module _ (t₀ : List ℕ) (area : Area) (n : ℕ) (columns : HasColumns t₀ area 4) (fits : n ≤ area .size) (small : n < 65536)
+    (before : Grouping) (valid : KindValid t₀ area n before) (w : ℕ) (known : w < n) where
+  abbrev name : ℕ → ℕ
+  name x = nameIn t₀ area x
+
+  abbrev wins : ℕ → Bool
+  wins x = eqb (nameIn t₀ area x) w
+
+  -- a name is below n
+  pub name-below : (x : ℕ) → x < n → name x < n
+  name-below x h = rw (name-in-list t₀ area n x h) at (valid .named .name-below x h)
+
+  name-within : (x : ℕ) → x < n → name x < area .size
+  name-within x h = omega (arith, name-below x h)
+
+  -- items share a group exactly if they share a name
+  pub grouped : (x y : ℕ) → x < n → y < n → before x y ≡ eqb (name x) (name y)
+  grouped x y h k =
+      rw
+      (name-in-list t₀ area n x h, name-in-list t₀ area n y k)
+      at
+      (group-by-name n before (namesIn t₀ area n) (valid .named) x y h k)
+
+  module _ (merged : ℕ → Bool) (t : List ℕ) (p : Pass) (s : Absorbing t₀ area n before w merged t p) (i : ℕ) (h : i < n) where
+    abbrev more : ℕ → Bool
+    more x = merged x || before i x
+
+    whole-more : (x y : ℕ) → x < n → y < n → name x ≡ name y → more x ≡ true → more y ≡ true
+    whole-more x y k l e m = go (or-cases (merged x) (before i x) m)
+      where
+        go : (merged x ≡ true) ⊎ (before i x ≡ true) → more y ≡ true
+        go (inl m) = or-left (s .whole x y k l e m) (before i y)
+        go (inr b) = or-right (merged y) (grouped i y h l ∙ (rw e at (sym (grouped i x h k) ∙ b)))
+
+    -- the winner's own group: nothing changes
+    absorb-winner : name i ≡ w → Absorbing t₀ area n before w more t p
+    absorb-winner e =
+        record {
+          kept = s .kept;
+          names = s .names;
+          ranges = s .ranges;
+          whole = whole-more;
+          winner = s .winner ∙ count-same n _ _ (λ x k. rw (same x k) (twice (wins x) (merged x)));
+          others = λ x k d. rw (same x k, d, or-false (merged x)) (s .others x k d);
+          from-least = λ x k m. s .from-least x k (rw (same x k, apart (wins x) (merged x)) at m);
+          to-greatest = λ x k m. s .to-greatest x k (rw (same x k, apart (wins x) (merged x)) at m);
+          to-known = s .to-known;
+        }
+      where
+        same : (x : ℕ) → x < n → before i x ≡ wins x
+        same x k = grouped i x h k ∙ (rw e (eqb-swap w (name x)))
+
+        twice : (a m : Bool) → (a || m) ≡ (a || (m || a))
+        twice true m = refl
+        twice false true = refl
+        twice false false = refl
+
+        apart : (a m : Bool) → ((m || a) && not a) ≡ (m && not a)
+        apart true true = refl
+        apart true false = refl
+        apart false true = refl
+        apart false false = refl
+
+    -- another group: it gives its size to the winner
+    module _ (differ : name i ≡ w → ⊥) where
+      abbrev sum : ℕ
+      sum = sizeIn t area w + sizeIn t area (name i)
+
+      still : HasColumns t area 4
+      still = kept-columns (s .kept) columns
+
+      wide : w < area .size
+      wide = omega arith
+
+      shares : (x : ℕ) → x < n → before i x ≡ true → name i ≡ name x
+      shares x k b = eqb-eq (name i) (name x) (sym (grouped i x h k) ∙ b)
+
+      -- a group that was absorbed before brings 0, another its size
+      sum-is : sum ≡ count n (λ x. wins x || more x)
+      unfolding size
+      sum-is = go (true-or-false (merged i))
+        where
+          brings : (b : Bool) → merged i ≡ b → sizeIn t area (name i) ≡ cond b 0 (size n before i)
+          brings b e = rw (← e) (s .others i h (ne-eqb (name i) w differ))
+
+          again : merged i ≡ true → (x : ℕ) → x < n → (wins x || merged x) ≡ (wins x || more x)
+          again e x k = inside (true-or-false (before i x))
+            where
+              inside : (before i x ≡ true) ⊎ (before i x ≡ false) → (wins x || merged x) ≡ (wins x || (merged x || before i x))
+              inside (inl b) = rw (b, s .whole i x h k (shares x k b) e)
+              inside (inr b) = rw (b, or-false (merged x))
+
+          apart : merged i ≡ false → (x : ℕ) → x < n → (wins x || merged x) ≡ true → before i x ≡ true → ⊥
+          apart e x k m b = either (or-cases (wins x) (merged x) m)
+            where
+              either : (wins x ≡ true) ⊎ (merged x ≡ true) → ⊥
+              either (inl a) = differ (shares x k b ∙ eqb-eq (name x) w a)
+              either (inr a) = not-both (s .whole x i k h (sym (shares x k b)) a) e
+
+          go : (merged i ≡ true) ⊎ (merged i ≡ false) → sum ≡ count n (λ x. wins x || more x)
+          go (inl e) = rw (s .winner, brings true e) (omega (arith, count-same n _ _ (again e)))
+          go (inr e) =
+              rw
+              (s .winner, brings false e)
+              (count-either n (λ x. wins x || merged x) (before i) (apart e)
+              ∙ count-same n _ _ (λ x k. or-assoc (wins x) (merged x) (before i x)))
+
+      abbrev after-table : List ℕ
+      after-table = put (put t area 1 w (sum % 2 ^ 32)) area 1 (name i) 0
+
+      abbrev after-pass : Pass
+      after-pass = widened p (rangeIn t area (name i))
+
+      range-is : (x : ℕ) → x < n → before i x ≡ true → rangeIn t area (name i) ≡ rangeIn t₀ area (name x)
+      range-is x k b = s .ranges (name i) (name-within i h) ∙ ap (rangeIn t₀ area) (shares x k b)
+
+      absorb-loser : Absorbing t₀ area n before w more after-table after-pass
+      unfolding widened
+      absorb-loser =
+          record {
+            kept = kept-trans (s .kept) (taken-kept t area still w (name i) (sum % 2 ^ 32) wide (name-within i h) differ);
+            names = λ x k. column 0 x k (λ e. omega arith) ∙ s .names x k;
+            ranges = λ x k. column 2 x k (λ e. omega arith) ∙ s .ranges x k;
+            whole = whole-more;
+            winner = winner-size t area still w (name i) (sum % 2 ^ 32) wide (name-within i h) differ ∙ no-wrap;
+            others = others-more;
+            from-least = λ x k m. low x k (loser x m);
+            to-greatest = λ x k m. high x k (loser x m);
+            to-known = ends;
+          }
+        where
+          column : (c x : ℕ) → x < area .size → (1 ≡ c → ⊥) → cell after-table area c x ≡ cell t area c x
+          column = other-column t area still w (name i) (sum % 2 ^ 32) wide (name-within i h) differ
+
+          no-wrap : sum % 2 ^ 32 ≡ count n (λ x. wins x || more x)
+          no-wrap = mod-eq-of-lt (omega (arith, sum-is, count-at-most n (λ x. wins x || more x))) ∙ sum-is
+
+          others-more : (x : ℕ) → x < n → wins x ≡ false → sizeIn after-table area (name x) ≡ cond (more x) 0 (size n before x)
+          others-more x k d = go (true-or-false (before i x))
+            where
+              go : (before i x ≡ true) ⊎ (before i x ≡ false)
+                  → sizeIn after-table area (name x) ≡ cond (merged x || before i x) 0 (size n before x)
+              go (inl b) =
+                  rw
+                  (b, or-true (merged x), ← shares x k b)
+                  (taken-size t area still w (name i) (sum % 2 ^ 32) wide (name-within i h) differ)
+              go (inr b) =
+                  rw
+                  (b, or-false (merged x))
+                  (other-size
+                  t
+                  area
+                  still
+                  w
+                  (name i)
+                  (sum % 2 ^ 32)
+                  wide
+                  (name-within i h)
+                  differ
+                  (name x)
+                  (λ e. eqb-ne (name x) w d (sym e))
+                  (eqb-ne (name i) (name x) (sym (grouped i x h k) ∙ b))
+                  ∙ s .others x k d)
+
+          -- an item of an absorbed group was in one before, or is in the one absorbed now
+          loser : (x : ℕ) → loses more t₀ area w x ≡ true → (loses merged t₀ area w x ≡ true) ⊎ (before i x ≡ true)
+          loser x m = go (or-cases (merged x) (before i x) (and-left (more x) (not (wins x)) m))
+            where
+              go : (merged x ≡ true) ⊎ (before i x ≡ true) → (loses merged t₀ area w x ≡ true) ⊎ (before i x ≡ true)
+              go (inl a) = inl (and-both a (and-right (more x) (not (wins x)) m))
+              go (inr b) = inr b
+
+          low : (x : ℕ) → x < n → (loses merged t₀ area w x ≡ true) ⊎ (before i x ≡ true)
+              → min (p .from) (leastOf (rangeIn t area (name i))) ≤ x
+          low x k (inl m) = omega (arith, s .from-least x k m)
+          low x k (inr b) = rw (range-is x k b) (omega (arith, valid .from-least x k))
+
+          high : (x : ℕ) → x < n → (loses merged t₀ area w x ≡ true) ⊎ (before i x ≡ true)
+              → x < max (p .to) (greatestOf (rangeIn t area (name i)) + 1)
+          high x k (inl m) = omega (arith, s .to-greatest x k m)
+          high x k (inr b) = rw (range-is x k b) (omega (arith, valid .to-greatest x k))
+
+          ends : max (p .to) (greatestOf (rangeIn t area (name i)) + 1) ≤ n
+          ends = rw (s .ranges (name i) (name-within i h)) (omega (arith, s .to-known, valid .range-known i h))
+
+    -- one group more is absorbed
+    pub absorb-one : Absorbing t₀ area n before w more (absorbTable t area w (name i)) (absorbPass t area w (name i) p)
+    unfolding absorbTable absorbPass
+    absorb-one = go (true-or-false (eqb (name i) w))
+      where
+        go : (eqb (name i) w ≡ true) ⊎ (eqb (name i) w ≡ false)
+            → Absorbing t₀ area n before w more (absorbTable t area w (name i)) (absorbPass t area w (name i) p)
+        go (inl e) = rw e (absorb-winner (eqb-eq (name i) w e))
+        go (inr e) = rw e (absorb-loser (eqb-ne (name i) w e))

@@ -1,0 +1,119 @@
+//! Engines that are wrong on purpose. The comparison must find each of them.
+
+use crate::engine::{work_needed, Call, Engine};
+use crate::kinds::KINDS;
+use crate::second::book::Fault;
+use crate::second::Second;
+use std::ops::BitXor;
+
+/// What a right run left, with the number that it returned.
+struct Left<'a> {
+    call: Call<'a>,
+    number: u32,
+}
+
+impl Left<'_> {
+    fn refused_at_start(&self) -> bool {
+        (1..=3).contains(&self.number)
+    }
+
+    /// This place, if the run was refused at the start.
+    fn refused(&self, at: usize) -> Option<usize> {
+        self.refused_at_start().then_some(at)
+    }
+
+    /// This place, if the run was not refused at the start.
+    fn ran(&self, at: usize) -> Option<usize> {
+        (!self.refused_at_start()).then_some(at)
+    }
+
+    /// The place behind the last answer byte.
+    fn behind_answers(&self) -> Option<usize> {
+        self.ran(3).map(|at| self.call.report[at] as usize)
+    }
+
+    /// The last byte of the answer buffer, if more than one is behind the answers.
+    fn end_of_answers(&self) -> Option<usize> {
+        let end = self.call.answers.len().checked_sub(1);
+        end.filter(|&end| self.behind_answers().is_some_and(|behind| behind < end))
+    }
+
+    /// W.
+    fn work(&self) -> usize {
+        work_needed(self.call.c, self.call.s)
+    }
+}
+
+/// Changes the entry at this place, if there is one.
+fn change<T: Copy + From<u8> + BitXor<Output = T>>(at: Option<usize>, buffer: &mut [T]) {
+    if let Some(entry) = at.and_then(|at| buffer.get_mut(at)) {
+        *entry = *entry ^ T::from(1);
+    }
+}
+
+/// What is wrong, and how it is made so.
+type Spoil = (&'static str, fn(&mut Left));
+
+const SPOILS: [Spoil; 17] = [
+    ("another number returned", |left| left.number += 1),
+    ("another refusal reported", |left| change(left.ran(0), left.call.report)),
+    ("another place reported", |left| change(left.ran(1), left.call.report)),
+    ("another count of commands", |left| change(left.ran(2), left.call.report)),
+    ("another count of answer bytes", |left| change(left.ran(3), left.call.report)),
+    ("another count of cabinets", |left| change(left.ran(4), left.call.report)),
+    ("another count of spans", |left| change(left.ran(5), left.call.report)),
+    ("a number beyond the report's six", |left| change(left.ran(6), left.call.report)),
+    ("the last answer byte", |left| {
+        change(left.behind_answers().and_then(|at| at.checked_sub(1)), left.call.answers)
+    }),
+    ("the byte behind the answers", |left| change(left.behind_answers(), left.call.answers)),
+    ("the end of the answer buffer", |left| change(left.end_of_answers(), left.call.answers)),
+    ("a table not cleared at first", |left| change(left.ran(0), left.call.work)),
+    ("a table not cleared at last", |left| change(left.ran(left.work() - 1), left.call.work)),
+    ("a number beyond W", |left| change(left.ran(left.work()), left.call.work)),
+    ("a report after refusal at the start", |left| change(left.refused(0), left.call.report)),
+    ("a table after refusal at the start", |left| change(left.refused(0), left.call.work)),
+    ("an answer after refusal at the start", |left| change(left.refused(0), left.call.answers)),
+];
+
+/// A right engine whose outcome is spoiled.
+struct Spoiled(Spoil);
+
+impl Engine for Spoiled {
+    fn name(&self) -> &'static str {
+        self.0 .0
+    }
+
+    fn run(&self, mut call: Call) -> u32 {
+        let number = Second::new().run(call.lend());
+        let mut left = Left { call, number };
+        (self.0 .1)(&mut left);
+        left.number
+    }
+}
+
+/// Engines that the comparison with the second implementation must find.
+pub fn engines() -> Vec<(String, Box<dyn Engine>)> {
+    let mut engines: Vec<(String, Box<dyn Engine>)> = Vec::new();
+    let against = against_demand_3().into_iter().map(|(fault, _)| fault);
+    for fault in KINDS.into_iter().map(Fault::GreatestName).chain(against) {
+        engines.push((format!("{fault:?}"), Box::new(Second::with_fault(fault))));
+    }
+    for spoil in SPOILS {
+        engines.push((spoil.0.to_string(), Box::new(Spoiled(spoil))));
+    }
+    engines
+}
+
+/// Faults that demand 3 must find where the second implementation has them too, and what is said
+/// then.
+pub fn against_demand_3() -> Vec<(Fault, &'static str)> {
+    let of_kind = |kind| {
+        [
+            (Fault::SmallestGroup(kind), "does not double"),
+            (Fault::NoNotices(kind), "the name list differs from the naming book"),
+            (Fault::TenNotices(kind), "allowed"),
+        ]
+    };
+    KINDS.into_iter().flat_map(of_kind).collect()
+}
