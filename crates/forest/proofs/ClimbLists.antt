@@ -71,41 +71,41 @@ fresh-less x (p ∷ ps) q qs w = ((w .0 .0, less (w .0 .1)), fresh-less (p .to) 
     less : Each P (ps ++ q ∷ qs) → Each P (ps ++ qs)
     less v = each-append P ps qs (each-first P ps (q ∷ qs) v) (each-second P ps (q ∷ qs) v .1)
 
--- the vertices that the steps visit from x on
-visits : ℕ → List Step → ℕ → Bool
-visits x [] z = eqb x z
-visits x (p ∷ ps) z = eqb x z || visits (p .to) ps z
+-- the steps from x on come by vertex z
+comesBy : ℕ → List Step → ℕ → Bool
+comesBy x [] z = eqb x z
+comesBy x (p ∷ ps) z = eqb x z || comesBy (p .to) ps z
 
-visited-differs : (x : ℕ) (ps : List Step) (c z : ℕ) → x ≢ c → Each (λ q. q .to ≢ c) ps → visits x ps z ≡ true → z ≢ c
-unfolding visits
+visited-differs : (x : ℕ) (ps : List Step) (c z : ℕ) → x ≢ c → Each (λ q. q .to ≢ c) ps → comesBy x ps z ≡ true → z ≢ c
+unfolding comesBy
 visited-differs x [] c z d w e k = d (eqb-eq x z e ∙ k)
-visited-differs x (p ∷ ps) c z d w e k = go (visited-differs (p .to) ps c z (w .0) (w .1)) (or-cases (eqb x z) (visits (p .to) ps z) e)
+visited-differs x (p ∷ ps) c z d w e k = go (visited-differs (p .to) ps c z (w .0) (w .1)) (or-cases (eqb x z) (comesBy (p .to) ps z) e)
   where
-    go : (visits (p .to) ps z ≡ true → z ≢ c) → (eqb x z ≡ true) ⊎ (visits (p .to) ps z ≡ true) → ⊥
+    go : (comesBy (p .to) ps z ≡ true → z ≢ c) → (eqb x z ≡ true) ⊎ (comesBy (p .to) ps z ≡ true) → ⊥
     go ih (inl h) = d (eqb-eq x z h ∙ k)
     go ih (inr h) = ih h k
 
-visited-many : (n x : ℕ) (ps : List Step) → Fresh x ps → x < n → Each (λ q. q .to < n) ps → suc (length ps) ≤ count n (visits x ps)
-unfolding visits
-visited-many n x [] w h k = count-positive n (visits x []) x h (eqb-same x)
+visited-many : (n x : ℕ) (ps : List Step) → Fresh x ps → x < n → Each (λ q. q .to < n) ps → suc (length ps) ≤ count n (comesBy x ps)
+unfolding comesBy
+visited-many n x [] w h k = count-positive n (comesBy x []) x h (eqb-same x)
 visited-many n x (p ∷ ps) w h k =
-    omega (arith, one, visited-many n (p .to) ps (w .1) (k .0) (k .1), count-disjoint n (eqb x) (visits (p .to) ps) (visits x (p ∷ ps)) first second apart)
+    omega (arith, one, visited-many n (p .to) ps (w .1) (k .0) (k .1), count-disjoint n (eqb x) (comesBy (p .to) ps) (comesBy x (p ∷ ps)) first second apart)
   where
     one : 1 ≤ count n (eqb x)
     one = count-positive n (eqb x) x h (eqb-same x)
 
-    first : (z : ℕ) → eqb x z ≡ true → visits x (p ∷ ps) z ≡ true
-    first z e = or-left e (visits (p .to) ps z)
+    first : (z : ℕ) → eqb x z ≡ true → comesBy x (p ∷ ps) z ≡ true
+    first z e = or-left e (comesBy (p .to) ps z)
 
-    second : (z : ℕ) → visits (p .to) ps z ≡ true → visits x (p ∷ ps) z ≡ true
+    second : (z : ℕ) → comesBy (p .to) ps z ≡ true → comesBy x (p ∷ ps) z ≡ true
     second z e = or-right (eqb x z) e
 
-    apart : (z : ℕ) → eqb x z ≡ true → visits (p .to) ps z ≡ true → ⊥
+    apart : (z : ℕ) → eqb x z ≡ true → comesBy (p .to) ps z ≡ true → ⊥
     apart z e f = visited-differs (p .to) ps x z (w .0 .0) (w .0 .1) f (sym (eqb-eq x z e))
 
 -- steps that visit different vertices below n are fewer than n
 pub fresh-short : (n x : ℕ) (ps : List Step) → Fresh x ps → x < n → Each (λ q. q .to < n) ps → length ps < n
-fresh-short n x ps w h k = omega (arith, visited-many n x ps w h k, count-at-most n (visits x ps))
+fresh-short n x ps w h k = omega (arith, visited-many n x ps w h k, count-at-most n (comesBy x ps))
 
 module _ (g : Network) where
   -- The step leads from vertex x within one block.

@@ -15,7 +15,7 @@ use Rattle.graph.specs.BlockPath.{BlockPath}
 use Rattle.graph.proofs.Truth.{not-both, eq-eqb, eqb-swap}
 use Rattle.graph.proofs.BlockVertices.{block-outlives-vertex}
 use Rattle.graph.proofs.SharedBlock.{shared-block-some, shared-block-found}
-use Rattle.graph.proofs.BlockPath.{onward, stays, visits-next, start-fresh, visited-differs, end-visited}
+use Rattle.graph.proofs.BlockPath.{onward, stays, steps-to-next, start-fresh, visited-differs, end-visited}
 use Rattle.graph.proofs.BlockPath.{block-component, path-parts-at-vertex}
 use Rattle.graph.proofs.BlockPathExists.{component-block-path}
 
@@ -50,7 +50,7 @@ module _ (g : Network) (proper : Proper g) where
       absurd
       (not-both
       (w (p .to) (eqb-swap (p .to) x ∙ o .away) n)
-      (path-parts-at-vertex g proper path (p .to) (visits-next (p .to) p (q ∷ ps) refl) n))
+      (path-parts-at-vertex g proper path (p .to) (steps-to-next (p .to) p (q ∷ ps) refl) n))
 
   -- two vertices share a block exactly if they share a component and outlive the loss of any other vertex
   pub shares-block-exactly : (x y : ℕ) → eqb x y ≡ false → OnOneBlock g x y ↔ OutliveVertices g x y

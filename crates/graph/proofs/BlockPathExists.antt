@@ -14,7 +14,8 @@ use Rattle.graph.proofs.Truth.{true-or-false, not-both, and-both, not-o
 use Rattle.graph.proofs.Walks.{leads-none, leads-first, joins-swap, component-walk}
 use Rattle.graph.proofs.Joins.{joins-touches}
 use Rattle.graph.proofs.BlockVertices.{end-on-block, on-same-block}
-use Rattle.graph.proofs.BlockPath.{visits, onward, onward-path, no-steps, visits-first, visits-none, avoids-first, avoids-rest, path-component}
+use Rattle.graph.proofs.Steps.{stepsTo}
+use Rattle.graph.proofs.BlockPath.{onward, onward-path, no-steps, steps-to-first, steps-to-none, avoids-first, avoids-rest, path-component}
 
 -- some block path leads from a to b
 abbrev pub SomeBlockPath : Network → ℕ → ℕ → Type 0
@@ -22,15 +23,15 @@ SomeBlockPath g a b = (ps : List Step) × BlockPath g a ps b
 
 module _ (g : Network) where
   -- from a vertex that a block path leads to, the rest of it leads on
-  path-from : {y b : ℕ} {ps : List Step} → BlockPath g y ps b → (x : ℕ) → visits x ps ≡ true → SomeBlockPath g x b
-  path-from {ps = []} path x v = absurd (not-both v (visits-none x))
+  path-from : {y b : ℕ} {ps : List Step} → BlockPath g y ps b → (x : ℕ) → stepsTo x ps ≡ true → SomeBlockPath g x b
+  path-from {ps = []} path x v = absurd (not-both v (steps-to-none x))
   path-from {y} {b} {ps = p ∷ ps} path x v =
       ⊎-elim (λ q. (ps, subst (λ z. BlockPath g z ps b) q (onward path .rest))) (path-from (onward path .rest) x)
-      (visits-first x p ps v)
+      (steps-to-first x p ps v)
 
   -- a block path can start from any other vertex of its first block that it does not come by
   other-start : {y b : ℕ} {p : Step} {ps : List Step} → BlockPath g y (p ∷ ps) b → (x : ℕ) → onBlock g (p .along) x ≡ true
-      → visits x (p ∷ ps) ≡ false → BlockPath g x (p ∷ ps) b
+      → stepsTo x (p ∷ ps) ≡ false → BlockPath g x (p ∷ ps) b
   other-start {p = p} {ps = ps} path x on n =
       let o = onward path in
       onward-path
@@ -46,18 +47,18 @@ module _ (g : Network) where
 
   -- a block that has the start of a block path leads there from any vertex of it that the path does not come by
   path-before : {y b : ℕ} {ps : List Step} → BlockPath g y ps b → (s x : ℕ) → s < edgeCount g
-      → onBlock g s x ≡ true → onBlock g s y ≡ true → eqb x y ≡ false → visits x ps ≡ false → SomeBlockPath g x b
+      → onBlock g s x ≡ true → onBlock g s y ≡ true → eqb x y ≡ false → stepsTo x ps ≡ false → SomeBlockPath g x b
   unfolding blocksDiffer
   path-before {y} {b} {ps} path s x h e f d n = go ps path n
     where
-      before : (ps : List Step) → BlockPath g y ps b → visits x ps ≡ false
+      before : (ps : List Step) → BlockPath g y ps b → stepsTo x ps ≡ false
           → blocksDiffer g (record { along = s; to = y } ∷ ps) ≡ true → SomeBlockPath g x b
       before ps path n differ = (
         record { along = s; to = y } ∷ ps,
         onward-path (record { known = h; on-start = e; on-end = f; away = d; no-return = n; rest = path }) differ,
       )
 
-      go : (ps : List Step) → BlockPath g y ps b → visits x ps ≡ false → SomeBlockPath g x b
+      go : (ps : List Step) → BlockPath g y ps b → stepsTo x ps ≡ false → SomeBlockPath g x b
       go [] path n = before [] path n refl
       go (p ∷ ps) path n =
           ⊎-elim (λ k. (p ∷ ps, other-start path x (sym (on-same-block g s (p .along) x k) ∙ e) n))
@@ -67,9 +68,9 @@ module _ (g : Network) where
   -- where a block has vertices x and y and a block path leads on from y, some block path leads on from x
   pub longer-block-path : (s x y b : ℕ) → s < edgeCount g → onBlock g s x ≡ true → onBlock g s y ≡ true
       → SomeBlockPath g y b → SomeBlockPath g x b
-  longer-block-path s x y b h e f (ps, path) = go (true-or-false (eqb x y)) (true-or-false (visits x ps))
+  longer-block-path s x y b h e f (ps, path) = go (true-or-false (eqb x y)) (true-or-false (stepsTo x ps))
     where
-      go : (eqb x y ≡ true) ⊎ (eqb x y ≡ false) → (visits x ps ≡ true) ⊎ (visits x ps ≡ false) → SomeBlockPath g x b
+      go : (eqb x y ≡ true) ⊎ (eqb x y ≡ false) → (stepsTo x ps ≡ true) ⊎ (stepsTo x ps ≡ false) → SomeBlockPath g x b
       go (inl q) v = (ps, subst (λ z. BlockPath g z ps b) (sym (eqb-eq x y q)) path)
       go (inr d) (inl v) = path-from path x v
       go (inr d) (inr n) = path-before path s x h e f d n

@@ -17,7 +17,8 @@ use Rattle.graph.proofs.Gathered.{gathered, gathered-ways, gathered-bef
 use Rattle.graph.proofs.Block.{block-equivalence, block-refl, block-sym, block-trans, link-block}
 use Rattle.graph.proofs.Ends.{touches-left, touches-right, other-end-touches, other-end-differs, other-end-ways, at-link, ends-joined-without}
 use Rattle.graph.proofs.BlockVertices.{end-on-block, blocks-meet}
-use Rattle.graph.proofs.BlockPath.{visits, Onward, onward, stays, visits-none, visits-first, visits-later, start-fresh, visited-differs, end-visited, other-end-visited}
+use Rattle.graph.proofs.Steps.{stepsTo}
+use Rattle.graph.proofs.BlockPath.{Onward, onward, stays, steps-to-none, steps-to-first, steps-to-later, start-fresh, visited-differs, end-visited, other-end-visited}
 use Rattle.graph.proofs.BlockPath.{one-step, path-outlives-vertex, later-outlives}
 use Rattle.graph.proofs.Grows.{new-below, joined-without-grows, block-grows, on-block-grows, block-next}
 use Rattle.graph.proofs.EdgeMore.{block-more-least}
@@ -41,10 +42,10 @@ module _ (g : Network) (r : Proper g) where
   -- an edge at a vertex of a block path before its end is in a block of the path if it leads, without that vertex, to the end
   pub leads-to-end : {a b : ℕ} {ps : List Step} → BlockPath g a ps b → (t c y : ℕ)
       → onBlock g t c ≡ true → onBlock g t y ≡ true → eqb y c ≡ false → eqb c b ≡ false
-      → (a ≡ c) ⊎ (visits c ps ≡ true) → joined g (without g c) y b ≡ true → onPath g ps t ≡ true
+      → (a ≡ c) ⊎ (stepsTo c ps ≡ true) → joined g (without g c) y b ≡ true → onPath g ps t ≡ true
   unfolding anyStep
   leads-to-end {a} {b} {ps = []} path t c y tc ty n d (inl q) j = absurd (not-both (eq-eqb c b (sym q ∙ stays path)) d)
-  leads-to-end {a} {b} {ps = []} path t c y tc ty n d (inr v) j = absurd (not-both v (visits-none c))
+  leads-to-end {a} {b} {ps = []} path t c y tc ty n d (inr v) j = absurd (not-both v (steps-to-none c))
   leads-to-end {a} {b} {ps = p ∷ ps} path t c y tc ty n d (inl q) j =
       or-left
       (subst
@@ -54,22 +55,22 @@ module _ (g : Network) (r : Proper g) where
       tc n j)
       (onPath g ps t)
   leads-to-end {a} {b} {ps = p ∷ ps} path t c y tc ty n d (inr v) j =
-      or-right (block g (p .along) t) (leads-to-end (onward path .rest) t c y tc ty n d (visits-first c p ps v) j)
+      or-right (block g (p .along) t) (leads-to-end (onward path .rest) t c y tc ty n d (steps-to-first c p ps v) j)
 
   -- and an edge at a vertex of a block path behind its start if it leads, without that vertex, to the start
   pub leads-to-start : {a b : ℕ} {ps : List Step} → BlockPath g a ps b → (t c y : ℕ)
       → onBlock g t c ≡ true → onBlock g t y ≡ true → eqb y c ≡ false
-      → visits c ps ≡ true → joined g (without g c) y a ≡ true → onPath g ps t ≡ true
+      → stepsTo c ps ≡ true → joined g (without g c) y a ≡ true → onPath g ps t ≡ true
   unfolding anyStep
-  leads-to-start {a} {b} {ps = []} path t c y tc ty n v j = absurd (not-both v (visits-none c))
+  leads-to-start {a} {b} {ps = []} path t c y tc ty n v j = absurd (not-both v (steps-to-none c))
   leads-to-start {a} {b} {ps = p ∷ ps} path t c y tc ty n v j =
-      go (visits-first c p ps v) (λ w k. leads-to-start (o .rest) t c y tc ty n w k)
+      go (steps-to-first c p ps v) (λ w k. leads-to-start (o .rest) t c y tc ty n w k)
     where
       o : Onward g a p ps b
       o = onward path
 
-      go : (p .to ≡ c) ⊎ (visits c ps ≡ true)
-          → (visits c ps ≡ true → joined g (without g c) y (p .to) ≡ true → onPath g ps t ≡ true)
+      go : (p .to ≡ c) ⊎ (stepsTo c ps ≡ true)
+          → (stepsTo c ps ≡ true → joined g (without g c) y (p .to) ≡ true → onPath g ps t ≡ true)
           → onPath g (p ∷ ps) t ≡ true
       go (inl q) f =
           or-left
@@ -112,7 +113,7 @@ module _ (g : Network) (e : Edge) (r : Proper g) (r′ : Proper (addEdge g e)) w
   grows-along : {x b : ℕ} {ps : List Step} → BlockPath g x ps b → (s w : ℕ)
       → onBlock (addEdge g e) s x ≡ true → onBlock (addEdge g e) s w ≡ true → eqb w x ≡ false
       → (eqb x b ≡ false → joined (addEdge g e) (without (addEdge g e) x) w b ≡ true)
-      → ((c : ℕ) → visits c ps ≡ true → eqb c b ≡ false → joined (addEdge g e) (without (addEdge g e) c) x b ≡ true)
+      → ((c : ℕ) → stepsTo c ps ≡ true → eqb c b ≡ false → joined (addEdge g e) (without (addEdge g e) c) x b ≡ true)
       → (t : ℕ) → onPath g ps t ≡ true → block (addEdge g e) s t ≡ true
   unfolding anyStep
   grows-along {ps = []} path s w sx sw n j i t k = absurd (false≢true k)
@@ -120,11 +121,11 @@ module _ (g : Network) (e : Edge) (r : Proper g) (r′ : Proper (addEdge g e)) w
       block-trans (addEdge g e) s (p .along) t first
       (go (or-cases (block g (p .along) t) (onPath g ps t) k)
       (grows-along (o .rest) (p .along) x (on-block-grows g e _ _ (o .on-end)) (on-block-grows g e _ _ (o .on-start)) (o .away)
-      (i (p .to) (or-left (eqb-same (p .to)) (visits (p .to) ps)))
+      (i (p .to) (or-left (eqb-same (p .to)) (stepsTo (p .to) ps)))
       (λ c v d.
       joined-trans (addEdge g e) _ (p .to) x b
       (joined-sym (addEdge g e) _ x (p .to) (joined-without-grows g e c x (p .to) (later-outlives g r o c v)))
-      (i c (visits-later c p ps v) d))
+      (i c (steps-to-later c p ps v) d))
       t))
     where
       o : Onward g x p ps b
@@ -195,7 +196,7 @@ module _ (g : Network) (e : Edge) (r : Proper g) (r′ : Proper (addEdge g e)) w
   grows-condensed {ps} path =
       block-more-least (λ s t. condensed g ps s t ≡ true) (gathered-equivalence (block g) (joinsPath g ps) (block-equivalence g) (joins-path-block g ps)) g e
       (gathered-before (block g) (joinsPath g ps))
-      (λ s t c h k f l n i j. between s t c h k f l n i j (true-or-false (visits c ps)))
+      (λ s t c h k f l n i j. between s t c h k f l n i j (true-or-false (stepsTo c ps)))
       (λ t c k at-new l j.
       gathered-both (block g) (joinsPath g ps) (edgeCount g) t
       (or-left (eqb-same (edgeCount g)) (onPath g ps (edgeCount g)))
@@ -207,12 +208,12 @@ module _ (g : Network) (e : Edge) (r : Proper g) (r′ : Proper (addEdge g e)) w
       on-other : (t c : ℕ) → t < edgeCount g → onBlock g t (otherEnd (edge g t) c) ≡ true
       on-other t c k = end-on-block g t _ k (other-end-touches (edge g t) c)
 
-      to-start : (t c : ℕ) → t < edgeCount g → touches (edge g t) c ≡ true → visits c ps ≡ true
+      to-start : (t c : ℕ) → t < edgeCount g → touches (edge g t) c ≡ true → stepsTo c ps ≡ true
           → joined g (without g c) (otherEnd (edge g t) c) (e .left) ≡ true → onPath g ps t ≡ true
       to-start t c k l v j = leads-to-start g r path t c _ (end-on-block g t c k l) (on-other t c k) (away t c k) v j
 
       to-end : (t c : ℕ) → t < edgeCount g → touches (edge g t) c ≡ true → eqb c (e .right) ≡ false
-          → (e .left ≡ c) ⊎ (visits c ps ≡ true)
+          → (e .left ≡ c) ⊎ (stepsTo c ps ≡ true)
           → joined g (without g c) (otherEnd (edge g t) c) (e .right) ≡ true → onPath g ps t ≡ true
       to-end t c k l d v j = leads-to-end g r path t c _ (end-on-block g t c k l) (on-other t c k) (away t c k) d v j
 
@@ -221,13 +222,13 @@ module _ (g : Network) (e : Edge) (r : Proper g) (r′ : Proper (addEdge g e)) w
           → joined g (without g c) (otherEnd e c) (otherEnd (edge g t) c) ≡ true → onPath g ps t ≡ true
       at-end t c k l (inl (p, q)) j = to-end t c k l (rw p at differ) (inl p) (joined-sym g _ _ _ (rw (← q) at j))
       at-end t c k l (inr (p, q)) j =
-          to-start t c k l (subst (λ x. visits x ps ≡ true) p (other-end-visited path differ)) (joined-sym g _ _ _ (rw (← q) at j))
+          to-start t c k l (subst (λ x. stepsTo x ps ≡ true) p (other-end-visited path differ)) (joined-sym g _ _ _ (rw (← q) at j))
 
       between : (s t c : ℕ) → s < edgeCount g → t < edgeCount g → touches (edge g s) c ≡ true → touches (edge g t) c ≡ true
           → touches e c ≡ false
           → joined g (without g c) (otherEnd (edge g s) c) (e .left) ≡ true
           → joined g (without g c) (e .right) (otherEnd (edge g t) c) ≡ true
-          → (visits c ps ≡ true) ⊎ (visits c ps ≡ false)
+          → (stepsTo c ps ≡ true) ⊎ (stepsTo c ps ≡ false)
           → condensed g ps s t ≡ true
       between s t c h k f l n i j (inl v) =
           gathered-both (block g) (joinsPath g ps) s t

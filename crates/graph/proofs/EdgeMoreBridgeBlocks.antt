@@ -20,7 +20,8 @@ use Rattle.graph.proofs.Steps.{any-more}
 use Rattle.graph.proofs.Losses.{AtEnd, joined-or-at-ends}
 use Rattle.graph.proofs.BridgeBlock.{in-bridge-block, bridge-block-refl, bridge-block-sym, bridge-block-trans}
 use Rattle.graph.proofs.BridgeBlock.{bridge-block-equivalence, bridge-block-is-joined-off-bridges, bridge-parts-bridge-blocks}
-use Rattle.graph.proofs.BlockPath.{visits, visits-next, visits-later, end-on-path, path-component}
+use Rattle.graph.proofs.Steps.{stepsTo}
+use Rattle.graph.proofs.BlockPath.{steps-to-next, steps-to-later, end-on-path, path-component}
 use Rattle.graph.proofs.MateEdges.{mates-joins}
 use Rattle.graph.proofs.Joins.{joins-carries}
 use Rattle.graph.proofs.Travel.{first-mate}
@@ -36,21 +37,21 @@ onBridgeBlocks g a ps x = bridgeBlock g a x || anyStep (λ p. bridgeBlock g (p .
 -- a vertex of the path, and that x lies in its bridge-block
 pub record OnBridgeBlocks (g : Network) (a : ℕ) (ps : List Step) (x : ℕ) : Type 0 where
   pub vertex : ℕ
-  pub on-path : (a ≡ vertex) ⊎ (visits vertex ps ≡ true)
+  pub on-path : (a ≡ vertex) ⊎ (stepsTo vertex ps ≡ true)
   pub shares : bridgeBlock g vertex x ≡ true
 
 -- some step leads to a vertex that passes the test
 some-visited : (f : ℕ → Bool) (ps : List Step) → anyStep (λ p. f (p .to)) ps ≡ true
-    → (v : ℕ) × (visits v ps ≡ true) × (f v ≡ true)
+    → (v : ℕ) × (stepsTo v ps ≡ true) × (f v ≡ true)
 unfolding anyStep
 some-visited f [] e = absurd (false≢true e)
 some-visited f (p ∷ ps) e = go (or-cases (f (p .to)) (anyStep (λ q. f (q .to)) ps) e) (some-visited f ps)
   where
     go : (f (p .to) ≡ true) ⊎ (anyStep (λ q. f (q .to)) ps ≡ true)
-        → (anyStep (λ q. f (q .to)) ps ≡ true → (v : ℕ) × (visits v ps ≡ true) × (f v ≡ true))
-        → (v : ℕ) × (visits v (p ∷ ps) ≡ true) × (f v ≡ true)
-    go (inl k) r = (p .to, visits-next (p .to) p ps refl, k)
-    go (inr k) r = let w = r k in (w .0, visits-later (w .0) p ps (w .1), w .2)
+        → (anyStep (λ q. f (q .to)) ps ≡ true → (v : ℕ) × (stepsTo v ps ≡ true) × (f v ≡ true))
+        → (v : ℕ) × (stepsTo v (p ∷ ps) ≡ true) × (f v ≡ true)
+    go (inl k) r = (p .to, steps-to-next (p .to) p ps refl, k)
+    go (inr k) r = let w = r k in (w .0, steps-to-later (w .0) p ps (w .1), w .2)
 
 module _ (g : Network) (a : ℕ) (ps : List Step) where
   -- where x lies in the bridge-block of a vertex of the path, here is one
@@ -71,7 +72,7 @@ module _ (g : Network) (a : ℕ) (ps : List Step) where
       (r .on-path)
 
   -- a vertex of the path lies on the path's bridge-blocks
-  path-on-bridge-blocks : (x : ℕ) → (a ≡ x) ⊎ (visits x ps ≡ true) → onBridgeBlocks g a ps x ≡ true
+  path-on-bridge-blocks : (x : ℕ) → (a ≡ x) ⊎ (stepsTo x ps ≡ true) → onBridgeBlocks g a ps x ≡ true
   path-on-bridge-blocks x w = bridge-blocks-on x (record { vertex = x; on-path = w; shares = bridge-block-refl g x })
 
   -- whole bridge-blocks lie on the path's bridge-blocks
@@ -128,19 +129,19 @@ module _ (g : Network) (e : Edge) (proper : Proper g) (rule : MateRule (g .rule)
       each s (inr q) = rw q (loss-new g e rule none x y ∙ c)
 
   module _ {ps : List Step} (path : BlockPath g (e .left) ps (e .right)) where
-    visited-component : (v : ℕ) → visits v ps ≡ true → component g (e .left) v ≡ true
+    visited-component : (v : ℕ) → stepsTo v ps ≡ true → component g (e .left) v ≡ true
     unfolding component
     visited-component = joined-through-path g proper path nothing (path-component path)
 
     -- whichever edge is lost, a vertex of the path is joined to one of its ends
-    near-end : (s v : ℕ) → visits v ps ≡ true
+    near-end : (s v : ℕ) → stepsTo v ps ≡ true
         → (joined g (lossOf g s) (e .left) v ≡ true) ⊎ (joined g (lossOf g s) (e .right) v ≡ true)
     near-end s v w =
         ⊎-elim (λ j. inl (joined-through-path g proper path (lossOf g s) j v w)) (λ k. k)
         (two-of-three g rule s (e .left) (e .right) v (path-component path) (visited-component v w))
 
     -- every vertex of the path shares a bridge-block with its start after
-    bridge-blocks-meet : (v : ℕ) → (e .left ≡ v) ⊎ (visits v ps ≡ true) → bridgeBlock (addEdge g e) (e .left) v ≡ true
+    bridge-blocks-meet : (v : ℕ) → (e .left ≡ v) ⊎ (stepsTo v ps ≡ true) → bridgeBlock (addEdge g e) (e .left) v ≡ true
     bridge-blocks-meet v (inl q) =
         subst (λ u. bridgeBlock (addEdge g e) (e .left) u ≡ true) q (bridge-block-refl (addEdge g e) (e .left))
     bridge-blocks-meet v (inr w) = in-bridge-block-more (e .left) v (visited-component v w)

@@ -26,7 +26,8 @@ use Rattle.graph.proofs.BridgeBlock.{bridge-block-lasts}
 use Rattle.graph.proofs.BridgesBetween.{bridge-between-least, bridge-between-parts, bridge-between-known, bridges-between-unique}
 use Rattle.graph.proofs.Parting.{parts-apart}
 use Rattle.graph.proofs.Travel.{first-mate, first-mate-least, other-first-mate}
-use Rattle.graph.proofs.BlockPath.{visits, Onward, onward, stays, visits-next, visits-later, later-outlives, path-component, path-outlives-vertex}
+use Rattle.graph.proofs.Steps.{stepsTo}
+use Rattle.graph.proofs.BlockPath.{Onward, onward, stays, steps-to-next, steps-to-later, later-outlives, path-component, path-outlives-vertex}
 use Rattle.graph.proofs.BridgeVertices.{bridge-mates, on-bridge-joins, bridge-of-block-vertices}
 
 -- the least edge of each block of a path from a whose two path vertices lie in different bridge-blocks, in the order of the path
@@ -54,8 +55,8 @@ pub record PathBridge (g : Network) (a : ℕ) (ps : List Step) (b t : ℕ) : Typ
   pub start : ℕ
   pub end : ℕ
   pub over : joins (edge g t) start end ≡ true
-  pub on-start : (a ≡ start) ⊎ (visits start ps ≡ true)
-  pub on-end : visits end ps ≡ true
+  pub on-start : (a ≡ start) ⊎ (stepsTo start ps ≡ true)
+  pub on-end : stepsTo end ps ≡ true
   pub parted : joined g (lossOf g t) a b ≡ false
 
 module _ (g : Network) (proper : Proper g) (rule : MateRule (g .rule)) where
@@ -105,8 +106,8 @@ module _ (g : Network) (proper : Proper g) (rule : MateRule (g .rule)) where
         start = q .start;
         end = q .end;
         over = q .over;
-        on-start = inr (⊎-elim (visits-next (q .start) p ps) (visits-later (q .start) p ps) (q .on-start));
-        on-end = visits-later (q .end) p ps (q .on-end);
+        on-start = inr (⊎-elim (steps-to-next (q .start) p ps) (steps-to-later (q .start) p ps) (q .on-start));
+        on-end = steps-to-later (q .end) p ps (q .on-end);
         parted = joined-from g (lossOf g t) a (p .to) b (later-bridge-kept o t q) ∙ q .parted;
       }
 
@@ -132,7 +133,7 @@ module _ (g : Network) (proper : Proper g) (rule : MateRule (g .rule)) where
             end = p .to;
             over = first-mate-joins (p .along) a (p .to) (first-step-joins o n);
             on-start = inl refl;
-            on-end = visits-next (p .to) p ps refl;
+            on-end = steps-to-next (p .to) p ps refl;
             parted = sym (joined-to g (lossOf g s) a (p .to) b (first-step-rest o n)) ∙ first-step-parted o n;
           }
 

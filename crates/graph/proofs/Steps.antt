@@ -32,9 +32,13 @@ none-of-either f h (p ∷ ps) a b =
     or-neither (or-neither (or-neither-left (f p) (anyStep f ps) a) (or-neither-left (h p) (anyStep h ps) b))
     (none-of-either f h ps (or-neither-right (f p) (anyStep f ps) a) (or-neither-right (h p) (anyStep h ps) b))
 
+-- some step leads to vertex c
+abbrev pub stepsTo : ℕ → List Step → Bool
+stepsTo c ps = anyStep (λ q. eqb (q .to) c) ps
+
 -- the walk from vertex x comes by vertex v
 abbrev pub visits : ℕ → List Step → ℕ → Bool
-visits x ps v = eqb x v || anyStep (λ q. eqb (q .to) v) ps
+visits x ps v = eqb x v || stepsTo v ps
 
 -- two walks on end come by the vertices of the one and of the other
 pub visits-append : (x : ℕ) (ps qs : List Step) (v : ℕ)

@@ -53,8 +53,8 @@ returns-2 c =
         at-set-word2 .set-word2 .ensures,
         at-set-word .set-word .ensures,
         at-wrapping-add-u32 .wrapping-add-u32 .ensures,
-        at-word2 .word2 .ensures,
-        at-word .word .ensures,
+        ← at-word2 .word2 .ensures,
+        ← at-word .word .ensures,
       ),
       rw (e, c .widen .ensures, at-word3 .word3 .ensures),
     )
