@@ -4,7 +4,6 @@ use mathlib.Core.List.{List}
 use mathlib.Core.Option.{Option, none}
 use mathlib.Core.Path.{_≡_}
 use Prim.Native.Nat.{ℕ, zero, suc, _≤_}
-use native.Mathlib.Nat.{not-suc-le-zero}
 use native.Mathlib.Omega.{arith}
 use lib.Dec.{ltb}
 use lib.ListN.{take}
@@ -14,6 +13,7 @@ use Rattle.graph.proofs.Truth.{and-left, and-right, ltb-lt}
 use Rattle.graph.proofs.Joined.{edge-count-more}
 use Rattle.graph.proofs.VertexMore.{proper-vertex-more, proper-edge-more}
 use Rattle.naming.specs.Book.{Book, emptyBook, enterVertex, enterEdge, feed}
+use Rattle.naming.proofs.Book.{empty-proper}
 use Rattle.commands.specs.Command.{Command, addCabinet, addSpan, districtName, ringName, sharedMesh, soleSpans, cutCabinets, isSole, addition}
 use Rattle.commands.specs.Refusal.{Refusal, Capacities, cabinetsOf, cabinetsKnown, hasEqualCabinets, isFull, refusalOf}
 use Rattle.commands.specs.Step.{after}
@@ -36,12 +36,7 @@ empty-fits caps rule =
     record {
       cabinets-fit = omega arith;
       spans-fit = omega arith;
-      proper =
-          record {
-            left-known = λ s h. absurd (not-suc-le-zero h);
-            right-known = λ s h. absurd (not-suc-le-zero h);
-            no-loop = λ s h. absurd (not-suc-le-zero h);
-          };
+      proper = empty-proper rule;
     }
 
 -- a cabinet more

@@ -33,9 +33,7 @@ noticesBytes (t ∷ ts) = noticeBytes t ++ noticesBytes ts
 -- The items that had a name before and have another now, rising, each with its new name.
 unfoldable pub changes : Kind → List ℕ → List ℕ → List Notice
 changes kind old new =
-    map
-    (λ x. record { kind = kind; item = x; name = nameOf new x })
-    (changedItems old new)
+    map (λ x. record { kind = kind; item = x; name = nameOf new x }) (changedItems old new)
 
 -- The notices of a command, from the names before it and after it: by kind, then item.
 unfoldable pub notices : Book → Book → List Notice
@@ -44,6 +42,7 @@ notices b b′ =
     ++ changes ring (b .bridgeBlocks) (b′ .bridgeBlocks)
     ++ changes mesh (b .blocks) (b′ .blocks)
 
+-- An added span is answered with its number, its mesh name and the notices; lists are in travelling order.
 pub data Answer : Type 0 where
   cabinetAdded : ℕ → Answer
   spanAdded : ℕ → ℕ → List Notice → Answer

@@ -12,7 +12,7 @@ use Rattle.graph.proofs.Truth.{true-or-false, true-of-not-false, and-left, eq-e
 use Rattle.table.specs.declared.words.Capacities.{Capacities}
 use Rattle.forest.specs.declared.climb.Trail.{Trail}
 use Rattle.forest.specs.Climb.{upOf, blockOf, pathEdge, rightEdge, aboveEdge, rightDeeper, climbing, recordTable, recordTrail}
-use Rattle.forest.specs.Climb.{Climbed, climbFrom, blockTable, blockTrail, sameLast, keptLeft, joinOne, joinFrom, reach}
+use Rattle.forest.specs.Climb.{Climbed, climbFrom, climbFromBlock, sameLast, keptLeft, joinOne, joinFrom, reach}
 
 cond-same : (b : Bool) (x : Climbed) → cond b x x ≡ x
 cond-same true x = refl
@@ -59,17 +59,11 @@ module _ (t : List ℕ) (caps : Capacities) (r : Trail) where
   climb-suc k d n = rw (ne-eqb (r .a .0) (r .b .0) d, ne-eqb (upOf t caps (climbing t caps r)) 0 n)
 
   -- so it does what the climb from the block of that edge does
-  pub climb-table : (k : ℕ) → k ≢ 0 → r .a .0 ≢ r .b .0 → upOf t caps (climbing t caps r) ≢ 0 →
-      climbFrom k t caps r .table ≡ blockTable (k - 1) t caps r (upOf t caps (climbing t caps r) - 1) (rightDeeper t caps r)
-  unfolding blockTable
-  climb-table zero z d n = absurd (z refl)
-  climb-table (suc k) z d n = rw (climb-suc k d n, sub-one (suc k))
-
-  pub climb-trail : (k : ℕ) → k ≢ 0 → r .a .0 ≢ r .b .0 → upOf t caps (climbing t caps r) ≢ 0 →
-      climbFrom k t caps r .trail ≡ blockTrail (k - 1) t caps r (upOf t caps (climbing t caps r) - 1) (rightDeeper t caps r)
-  unfolding blockTrail
-  climb-trail zero z d n = absurd (z refl)
-  climb-trail (suc k) z d n = rw (climb-suc k d n, sub-one (suc k))
+  pub climb-by-block : (k : ℕ) → k ≢ 0 → r .a .0 ≢ r .b .0 → upOf t caps (climbing t caps r) ≢ 0 →
+      climbFrom k t caps r ≡ climbFromBlock (k - 1) t caps r (upOf t caps (climbing t caps r) - 1) (rightDeeper t caps r)
+  unfolding climbFromBlock
+  climb-by-block zero z d n = absurd (z refl)
+  climb-by-block (suc k) z d n = rw (climb-suc k d n, sub-one (suc k))
 
   -- the left side keeps all its steps where a side has none
   pub kept-no-left : r .left ≡ 0 → r .left ≡ keptLeft t caps r

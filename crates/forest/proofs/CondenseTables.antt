@@ -27,9 +27,10 @@ use Rattle.forest.specs.Tree.{pathVertices, pathEdges, endsTable, enterB
 use Rattle.forest.specs.Valid.{networkOf, ForestValid, Valid}
 use Rattle.forest.proofs.KindWords.{SameWords, name-known, names-same, one-group, kind-same}
 use Rattle.forest.proofs.Networks.{network-same, edge-count, vertex-count}
-use Rattle.forest.proofs.Frames.{among, Frame, _then_, frame-edge, same-bridge-blocks, same-blocks}
+use Rattle.forest.proofs.Frames.{among, Frame, _then_, frame-edge, same-bridge-blocks, same-blocks, frame-more}
 use Rattle.forest.proofs.ClimbLaw.{Climbs, climb-law}
-use Rattle.forest.proofs.CondenseFrames.{frame-more, frame-merge-bridge-blocks, frame-merge-blocks, valid-kept}
+use Rattle.forest.proofs.ValidFrame.{valid-kept}
+use Rattle.forest.proofs.CondenseFrames.{frame-merge-bridge-blocks, frame-merge-blocks}
 use Rattle.forest.proofs.CondensePath.{edgesOf, verticesOf}
 use Rattle.forest.proofs.CondenseBridgeBlocks.{bridge-blocks-merged}
 use Rattle.forest.proofs.CondenseBlocks.{blocks-merged, with-new, blocks-names, blocks-valid}

@@ -1,5 +1,5 @@
 -- Tables that differ in some columns only.
-use mathlib.Core.Bool.{Bool, true, false, _||_}
+use mathlib.Core.Bool.{Bool, true, false, _&&_, _||_}
 use mathlib.Core.List.{List, [], _∷_}
 use mathlib.Core.Path.{_≡_, refl, sym, _∙_, ap, subst}
 use Prim.Native.Nat.{ℕ, zero, suc, _+_, _*_, _≤_, _<_}
@@ -7,7 +7,7 @@ use native.Mathlib.Nat.{mul-le-mul-right}
 use native.Mathlib.Omega.{arith}
 use lib.Dec.{eqb}
 use lib.ListN.{length, getD}
-use Rattle.graph.proofs.Truth.{not-both}
+use Rattle.graph.proofs.Truth.{not-both, or-neither, and-left, and-right, ne-eqb}
 use Rattle.table.specs.declared.words.Capacities.{Capacities}
 use Rattle.table.specs.Layout.{place, cell, put, vertexArea, bridgeBlockArea, edgeArea}
 use Rattle.table.proofs.Cells.{length-put, cell-put-other-column, getD-put-outside, cell-edge-after-vertex, cell-vertex-after-edge, cell-bridge-block, put-bridge-block}
@@ -55,6 +55,30 @@ module _ {caps : Capacities} {vs es : List ℕ} where
 -- a column that is listed is none that is not
 pub other-column : (cs : List ℕ) (c d : ℕ) → among cs c ≡ true → among cs d ≡ false → c ≡ d → ⊥
 other-column cs c d h o e = not-both (subst (λ (k : ℕ). among cs k ≡ true) e h) o
+
+-- Every column of the first list is in the second.
+abbrev pub within : List ℕ → List ℕ → Bool
+within [] ds = true
+within (c ∷ cs) ds = among ds c && within cs ds
+
+-- a column outside a list is outside every list that it holds
+outside-less : (cs ds : List ℕ) (c : ℕ) → within cs ds ≡ true → among ds c ≡ false → among cs c ≡ false
+outside-less [] ds c w o = refl
+outside-less (d ∷ cs) ds c w o =
+    or-neither
+    (ne-eqb c d (λ e. other-column ds d c (and-left (among ds d) (within cs ds) w) o (sym e)))
+    (outside-less cs ds c (and-right (among ds d) (within cs ds) w) o)
+
+-- a frame of some columns is one of more
+pub frame-more : {caps : Capacities} {vs es vs′ es′ : List ℕ} {t t′ : List ℕ} → Frame caps vs es t t′
+    → within vs vs′ ≡ true → within es es′ ≡ true → Frame caps vs′ es′ t t′
+frame-more {caps} {vs} {es} {vs′} {es′} f p q =
+    record {
+      same-length = f .same-length;
+      vertex-word = λ c x h l o. f .vertex-word c x h l (outside-less vs vs′ c p o);
+      edge-word = λ d s h l o. f .edge-word d s h l (outside-less es es′ d q o);
+      beyond = f .beyond;
+    }
 
 -- a word stored for a vertex
 pub frame-vertex : (caps : Capacities) (vs es : List ℕ) (t : List ℕ) (c x v : ℕ) → c < 24 → x < caps .vertices → among vs c ≡ true

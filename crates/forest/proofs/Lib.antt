@@ -2,7 +2,6 @@ pub mod AddEdge
 pub mod AddVertex
 pub mod Beyond
 pub mod ClimbJoin
-pub mod ClimbKept
 pub mod ClimbLaw
 pub mod ClimbLists
 pub mod ClimbPath

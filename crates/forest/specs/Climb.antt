@@ -76,15 +76,10 @@ climbFrom (suc k) t caps r =
     (cond (eqb above 0) (record { table = t; trail = r }) next)
 
 -- The climb that goes on from the block of an edge.
-unfoldable pub blockTable : ℕ → List ℕ → Capacities → Trail → ℕ → Bool → List ℕ
-blockTable k t caps r e right =
+unfoldable pub climbFromBlock : ℕ → List ℕ → Capacities → Trail → ℕ → Bool → Climbed
+climbFromBlock k t caps r e right =
     let v = aboveEdge t caps e in
-    climbFrom k (recordTable t caps r e v right) caps (recordTrail r v right) .table
-
-unfoldable pub blockTrail : ℕ → List ℕ → Capacities → Trail → ℕ → Bool → Trail
-blockTrail k t caps r e right =
-    let v = aboveEdge t caps e in
-    climbFrom k (recordTable t caps r e v right) caps (recordTrail r v right) .trail
+    climbFrom k (recordTable t caps r e v right) caps (recordTrail r v right)
 
 -- Both sides came up through one block: then the left side's last step is dropped.
 unfoldable pub sameLast : List ℕ → Capacities → Trail → Bool

@@ -4,7 +4,7 @@ ghost use mathlib.Core.Bool.{cond, not, _&&_};
 ghost use Prim.Native.Nat.{_+_, _≤_, _<_, min};
 ghost use lib.Dec.{eqb, ltb};
 ghost use Rattle.forest.specs.Climb.{upOf, depthOf, blockOf, topOf, aboveEdge, rightDeeper, recordTable, recordTrail};
-ghost use Rattle.forest.specs.Climb.{climbFrom, blockTable, blockTrail, keptLeft, joinOne, joinFrom, reach, climbTable, climbRoute};
+ghost use Rattle.forest.specs.Climb.{climbFrom, climbFromBlock, keptLeft, joinOne, joinFrom, reach, climbTable, climbRoute};
 use table::words::Capacities;
 use table::words::DEPTH;
 use table::words::Edge;
@@ -176,7 +176,7 @@ fn from_block(
     remaining: u32,
 ) -> Trail
     requires { ⌜ r .left + r .right + remaining + 1 < 4294967295 ⌝ }
-    ensures { λ r′. ⌜ (now (t .exit) ≡ blockTable remaining (now (t .entry)) caps r (e .0) «on_right») × (r′ ≡ blockTrail remaining (now (t .entry)) caps r (e .0) «on_right») × (r′ .left + r′ .right ≤ r .left + r .right + remaining + 1) ⌝ }
+    ensures { λ r′. ⌜ (now (t .exit) ≡ climbFromBlock remaining (now (t .entry)) caps r (e .0) «on_right» .table) × (r′ ≡ climbFromBlock remaining (now (t .entry)) caps r (e .0) «on_right» .trail) × (r′ .left + r′ .right ≤ r .left + r .right + remaining + 1) ⌝ }
 {
     let v = above(t, caps, e);
     let next = record_step(t, caps, r, e, v, on_right);

@@ -20,8 +20,8 @@ use Rattle.forest.specs.Promise.{SameBeyond}
 use Rattle.journal.specs.declared.run.Progress.{Progress}
 use Rattle.journal.specs.declared.step.Stepped.{Stepped}
 use Rattle.journal.specs.declared.step.Stepped.the-variants as S
-use Rattle.journal.specs.Steps.{capacitiesOf, Expected, refuse, accept, expected, shapeOf, Stepping, bookIn, StepPromise}
-use Rattle.journal.specs.Runs.{leftOf, Underway, Ready, refusedProgress, writtenBehind, RunAccepted, Ordering, OrderPromise, RunOn}
+use Rattle.journal.specs.Steps.{capacitiesOf, Expected, refuse, accept, expected, shapeOf, StepMeets, bookIn, StepPromise}
+use Rattle.journal.specs.Runs.{leftOf, Underway, Ready, refusedProgress, writtenBehind, RunAccepted, OrderMeets, OrderPromise, RunOn}
 use Rattle.journal.proofs.RunLeft.{accepted-fits, within-unknown, within-cut-off, within-expects-refusal, within-expects-answer}
 
 -- the words beyond the table's are as before where the table is
@@ -99,7 +99,7 @@ module _ (p p′ : Progress) (journal : List ℕ) where
         where
           go : (x : Expected)
               → expected (capacitiesOf (p .shape .caps)) (bookIn (p .shape) t) (length answers - p .written) c ≡ x
-              → Ordering p p′ t new answers newAnswers c width x → RunOn p p′ journal t new answers newAnswers
+              → OrderMeets p p′ t new answers newAnswers c width x → RunOn p p′ journal t new answers newAnswers
           go (refuse r) e w =
               inl
               (record {
@@ -144,7 +144,7 @@ module _ (p : Progress) (c : Command) (width : ℕ) (old new answers newRoom : L
   expectedHere = expected (capacitiesOf (p .shape .caps)) (bookIn (p .shape) old) (length answers - p .written) c
 
   -- the step is promised for the length of what is lent, which is the room that is left
-  step-in-room : Stepping (p .shape .caps) (after (bookIn (p .shape) old) c) old new (drop (p .written) answers) newRoom result expectedHere
+  step-in-room : StepMeets (p .shape .caps) (after (bookIn (p .shape) old) c) old new (drop (p .written) answers) newRoom result expectedHere
   step-in-room = rw (room-is (p .written) answers, length-drop (p .written) answers) at promise
 
   -- a written answer fits the room
@@ -152,7 +152,7 @@ module _ (p : Progress) (c : Command) (width : ℕ) (old new answers newRoom : L
   size-fits next size e = go expectedHere refl step-in-room
     where
       go : (x : Expected) → expectedHere ≡ x
-          → Stepping (p .shape .caps) (after (bookIn (p .shape) old) c) old new (drop (p .written) answers) newRoom result x
+          → StepMeets (p .shape .caps) (after (bookIn (p .shape) old) c) old new (drop (p .written) answers) newRoom result x
           → size ≤ length answers - p .written
       go (refuse r) d w = impossible (cc (w .number))
       go (accept a) d w =
@@ -190,8 +190,8 @@ module _ (p : Progress) (c : Command) (width : ℕ) (old new answers newRoom : L
           }
 
       go : (x : Expected)
-          → Stepping (p .shape .caps) (after (bookIn (p .shape) old) c) old new (drop (p .written) answers) newRoom result x
-          → Ordering p further old new answers (withRoom (p .written) answers newRoom) c width x
+          → StepMeets (p .shape .caps) (after (bookIn (p .shape) old) c) old new (drop (p .written) answers) newRoom result x
+          → OrderMeets p further old new answers (withRoom (p .written) answers newRoom) c width x
       go (refuse r) w = impossible (cc (w .number))
       go (accept a) w =
           let shape-is : next ≡ shapeOf (p .shape .caps) (after (bookIn (p .shape) old) c) = cc (w .done) in
@@ -214,8 +214,8 @@ module _ (p : Progress) (c : Command) (width : ℕ) (old new answers newRoom : L
   order-refused number e p′ d = go expectedHere step-in-room
     where
       go : (x : Expected)
-          → Stepping (p .shape .caps) (after (bookIn (p .shape) old) c) old new (drop (p .written) answers) newRoom result x
-          → Ordering p p′ old new answers (withRoom (p .written) answers newRoom) c width x
+          → StepMeets (p .shape .caps) (after (bookIn (p .shape) old) c) old new (drop (p .written) answers) newRoom result x
+          → OrderMeets p p′ old new answers (withRoom (p .written) answers newRoom) c width x
       go (refuse r) w =
           let same : number ≡ refusalNumber r = cc (w .number) in
           record {

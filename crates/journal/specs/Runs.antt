@@ -21,7 +21,7 @@ unfoldable pub leftOf : Progress → List ℕ → ℕ → List ℕ → Run
 leftOf p journal room t =
     runWithin (room - p .written) (capacitiesOf (p .shape .caps)) (bookIn (p .shape) t) (drop (p .place) journal)
 
--- A run that is under way: at a command, with a table that holds its network and an answer buffer as long as what is written.
+-- A run that is under way: at a command, with a table that holds its network and an answer buffer at least as long as what is written.
 pub record Underway (p : Progress) (journal work answers : List ℕ) : Type 0 where
   pub at-command : p .place < length journal
   pub short : length journal ≤ 65536
@@ -42,7 +42,7 @@ unfoldable pub refusedProgress : Progress → ℕ → Progress
 refusedProgress p number =
     record { shape = p .shape; place = p .place; commands = p .commands; written = p .written; refusal = number }
 
--- The answers behind what is written, with the next answer at their front.
+-- The answer buffer with the next answer behind what is written.
 unfoldable pub writtenBehind : ℕ → List ℕ → List ℕ → List ℕ
 writtenBehind written bytes answers = take written answers ++ over bytes (drop written answers)
 
@@ -64,15 +64,16 @@ pub record RunAccepted (p p′ : Progress) (old new oldAnswers newAnswers : List
   pub book-is : bookIn (p′ .shape) new ≡ after (bookIn (p .shape) old) (a .command)
   pub same-beyond : SameBeyond (p .shape .caps) old new
 
-abbrev pub Ordering : Progress → Progress → List ℕ → List ℕ → List ℕ → List ℕ → Command → ℕ → Expected → Type 0
-Ordering p p′ old new oldAnswers newAnswers c width (refuse r) = RunRefused p p′ old new oldAnswers newAnswers r
-Ordering p p′ old new oldAnswers newAnswers c width (accept a) =
+-- The run after a command meets what is expected of the command.
+abbrev pub OrderMeets : Progress → Progress → List ℕ → List ℕ → List ℕ → List ℕ → Command → ℕ → Expected → Type 0
+OrderMeets p p′ old new oldAnswers newAnswers c width (refuse r) = RunRefused p p′ old new oldAnswers newAnswers r
+OrderMeets p p′ old new oldAnswers newAnswers c width (accept a) =
     RunAccepted p p′ old new oldAnswers newAnswers (record { command = c; answer = a; width = width })
 
 -- What a command read whole makes of the run: just what is expected of it, with the room that is left.
 abbrev pub OrderPromise : Progress → Progress → List ℕ → List ℕ → List ℕ → List ℕ → Command → ℕ → Type 0
 OrderPromise p p′ old new oldAnswers newAnswers c width =
-    Ordering
+    OrderMeets
     p
     p′
     old
@@ -95,6 +96,7 @@ pub record RunContinues (p p′ : Progress) (journal old new oldAnswers newAnswe
   pub left-is : leftOf p journal (length oldAnswers) old ≡ andThen next (leftOf p′ journal (length oldAnswers) new)
   pub accepted : RunAccepted p p′ old new oldAnswers newAnswers next
 
+-- The run is one command further: it ends there, or goes on.
 abbrev pub RunOn : Progress → Progress → List ℕ → List ℕ → List ℕ → List ℕ → List ℕ → Type 0
 RunOn p p′ journal old new oldAnswers newAnswers =
     RunStops p p′ journal old new oldAnswers newAnswers ⊎ RunContinues p p′ journal old new oldAnswers newAnswers

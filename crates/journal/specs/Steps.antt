@@ -64,9 +64,10 @@ pub record StepAccepted (caps : Forest.Capacities) (b : Book) (old new oldOut ne
   pub book : bookOf caps (b .network .vertices) (edgeCount (b .network)) new ≡ b
   pub same-beyond : SameBeyond caps old new
 
-abbrev pub Stepping : Forest.Capacities → Book → List ℕ → List ℕ → List ℕ → List ℕ → Stepped → Expected → Type 0
-Stepping caps b old new oldOut newOut result (refuse r) = StepRefused caps old new oldOut newOut result r
-Stepping caps b old new oldOut newOut result (accept a) = StepAccepted caps b old new oldOut newOut result a
+-- A step meets what is expected of it: it is refused so, or it answers so.
+abbrev pub StepMeets : Forest.Capacities → Book → List ℕ → List ℕ → List ℕ → List ℕ → Stepped → Expected → Type 0
+StepMeets caps b old new oldOut newOut result (refuse r) = StepRefused caps old new oldOut newOut result r
+StepMeets caps b old new oldOut newOut result (accept a) = StepAccepted caps b old new oldOut newOut result a
 
 -- A written answer ends a step; one for which there was no room is refusal 11.
 unfoldable pub answeredOf : Shape → Written → Stepped
@@ -101,7 +102,7 @@ Holds shape t = Valid (shape .caps) (shape .vertices) (shape .edges) t
 -- What a step promises: just what is expected of the command.
 abbrev pub StepPromise : Shape → Command → List ℕ → List ℕ → List ℕ → List ℕ → Stepped → Type 0
 StepPromise shape c old new oldOut newOut result =
-    Stepping
+    StepMeets
     (shape .caps)
     (after (bookIn shape old) c)
     old

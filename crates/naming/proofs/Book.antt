@@ -128,17 +128,22 @@ laws-after a =
       blocks-named = a .blocks-advance .named;
     }
 
+-- an empty network is proper
+pub empty-proper : (rule : Rule) → Proper (emptyBook rule .network)
+unfolding emptyBook edgeCount
+empty-proper rule =
+    record {
+      left-known = λ s h. absurd (not-suc-le-zero h);
+      right-known = λ s h. absurd (not-suc-le-zero h);
+      no-loop = λ s h. absurd (not-suc-le-zero h);
+    }
+
 -- an empty book keeps the laws
 pub empty-book-laws : (rule : Rule) → MateRule rule → BookLaws (emptyBook rule)
 unfolding emptyBook edgeCount
 empty-book-laws rule r =
     record {
-      proper =
-          record {
-            left-known = λ s h. absurd (not-suc-le-zero h);
-            right-known = λ s h. absurd (not-suc-le-zero h);
-            no-loop = λ s h. absurd (not-suc-le-zero h);
-          };
+      proper = empty-proper rule;
       mate-rule = r;
       components-named = naming-none (component (emptyBook rule .network));
       bridge-blocks-named = naming-none (bridgeBlock (emptyBook rule .network));

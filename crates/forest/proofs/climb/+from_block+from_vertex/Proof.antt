@@ -6,8 +6,8 @@ use native.Mathlib.Omega.{arith}
 use borrow.Author.Needs.{needs}
 use borrow.Fn.Kinds.{In}
 use borrow.Fn.PlainCycle.{Measures, is, falls, and}
-use Rattle.forest.specs.Climb.{blockTable, blockTrail}
-use Rattle.forest.proofs.ClimbSteps.{recorded-steps, climb-none, climb-met, climb-root, climber-up, climb-table, climb-trail}
+use Rattle.forest.specs.Climb.{climbFromBlock}
+use Rattle.forest.proofs.ClimbSteps.{recorded-steps, climb-none, climb-met, climb-root, climber-up, climb-by-block}
 use Rattle.forest.proofs.climb.from_block.Reads as from-block
 use Rattle.forest.proofs.climb.from_block.Kinds as from-block-kinds
 use Rattle.forest.proofs.climb.+from_block+from_vertex.Lts-from_block as from-block-lts
@@ -83,7 +83,7 @@ module _ (t : ℕ) where
       c .before .before .from-vertex .kept .0 ∙ c .before .before .before .before .before .before .before .before .record-step .kept .0
 
   from-block-returns : from-block-lts.Need-returns (from-block-calls t) (from-block-at t) from-block.Post
-  unfolding blockTable blockTrail
+  unfolding climbFromBlock
   from-block-returns c =
       let at-from-vertex = c .before .before in
       let at-record-step = at-from-vertex .before .before .before .before .before .before in
@@ -151,11 +151,10 @@ module _ (t : ℕ) where
       let at-right-deeper = at-climber-up .before .before in
       let at-if2 = at-right-deeper .before .before in
       let at-if1 = at-if2 .before in
-      let up = climber-up _ _ _ _ _ (at-right-deeper .right-deeper .ensures) (at-climber-up .climber-up .ensures) in (
-        rw (at-from-block .from-block .ensures .0, at-right-deeper .right-deeper .ensures, up)
-            (sym (climb-table _ _ _ _ (at-if2 .if2 .left) (at-if1 .if1 .left) (λ z. at-if3 .if3 .left (up ∙ z)))),
-        rw (at-from-block .from-block .ensures .1, at-right-deeper .right-deeper .ensures, up)
-            (sym (climb-trail _ _ _ _ (at-if2 .if2 .left) (at-if1 .if1 .left) (λ z. at-if3 .if3 .left (up ∙ z)))),
+      let up = climber-up _ _ _ _ _ (at-right-deeper .right-deeper .ensures) (at-climber-up .climber-up .ensures) in
+      let e = sym (climb-by-block _ _ _ _ (at-if2 .if2 .left) (at-if1 .if1 .left) (λ z. at-if3 .if3 .left (up ∙ z))) in (
+        rw (at-from-block .from-block .ensures .0, at-right-deeper .right-deeper .ensures, up) (ap (λ x. x .table) e),
+        rw (at-from-block .from-block .ensures .1, at-right-deeper .right-deeper .ensures, up) (ap (λ x. x .trail) e),
         omega (arith, at-from-block .from-block .ensures .2),
       )
 
