@@ -7,8 +7,8 @@ use native.Mathlib.Omega.{arith}
 use lib.Dec.{ltb}
 use lib.ListN.{length}
 use Rattle.graph.specs.Lists.{allIn}
-use Rattle.graph.proofs.Truth.{and-left, and-right, and-both, ltb-lt, lt-ltb}
-use Rattle.commands.specs.Bytes.{number, twoBytes, fourBytes, twoBytesEach}
+use Rattle.graph.proofs.Truth.{and-left, and-right, ltb-lt}
+use Rattle.commands.specs.Bytes.{number, twoBytes, twoBytesEach}
 
 -- the two bytes of a number below 65,536 give the number
 pub number-of-two-bytes : (n : ℕ) → n < 65536 → number (n / 256 % 256) (n % 256) ≡ n
@@ -25,17 +25,7 @@ pub two-bytes-of-number : (high low : ℕ) → high < 256 → low < 256 → twoB
 unfolding number twoBytes
 two-bytes-of-number high low h l = ap₂ (λ (x y : ℕ). x ∷ y ∷ []) (omega arith) (omega arith)
 
--- how many bytes there are
-pub length-two-bytes : (n : ℕ) → length (twoBytes n) ≡ 2
-unfolding twoBytes
-length-two-bytes n = refl
-
--- four for a number in four bytes
-pub length-four-bytes : (n : ℕ) → length (fourBytes n) ≡ 4
-unfolding fourBytes twoBytes
-length-four-bytes n = refl
-
--- two for each number of a list
+-- each number of a list takes two bytes
 pub length-two-bytes-each : (ns : List ℕ) → length (twoBytesEach ns) ≡ 2 * length ns
 unfolding twoBytesEach twoBytes
 length-two-bytes-each [] = refl
@@ -44,15 +34,6 @@ length-two-bytes-each (n ∷ ns) = omega (arith, length-two-bytes-each ns)
 -- every number of the list is a byte: it is below 256
 pub allBytes : List ℕ → Bool
 allBytes = allIn (λ b. ltb b 256)
-
--- bytes behind bytes are bytes
-pub all-bytes-append : (xs ys : List ℕ) → allBytes xs ≡ true → allBytes ys ≡ true → allBytes (xs ++ ys) ≡ true
-unfolding allBytes allIn
-all-bytes-append [] ys p q = q
-all-bytes-append (x ∷ xs) ys p q =
-    and-both
-    (and-left (ltb x 256) (allBytes xs) p)
-    (all-bytes-append xs ys (and-right (ltb x 256) (allBytes xs) p) q)
 
 -- the first of them is one
 pub first-is-byte : (x : ℕ) (xs : List ℕ) → allBytes (x ∷ xs) ≡ true → x < 256
@@ -64,21 +45,3 @@ pub all-bytes-behind : (xs ys : List ℕ) → allBytes (xs ++ ys) ≡ true → a
 unfolding allBytes allIn
 all-bytes-behind [] ys p = p
 all-bytes-behind (x ∷ xs) ys p = all-bytes-behind xs ys (and-right (ltb x 256) (allBytes (xs ++ ys)) p)
-
--- a number in two bytes, in four bytes, and each number of a list in two bytes: all are bytes
-pub all-bytes-two-bytes : (n : ℕ) → allBytes (twoBytes n) ≡ true
-unfolding allBytes allIn twoBytes
-all-bytes-two-bytes n =
-    and-both
-    (lt-ltb (n / 256 % 256) 256 (omega arith))
-    (and-both (lt-ltb (n % 256) 256 (omega arith)) refl)
-
-pub all-bytes-four-bytes : (n : ℕ) → allBytes (fourBytes n) ≡ true
-unfolding fourBytes
-all-bytes-four-bytes n =
-    all-bytes-append (twoBytes (n / 65536)) (twoBytes n) (all-bytes-two-bytes (n / 65536)) (all-bytes-two-bytes n)
-
-pub all-bytes-each : (ns : List ℕ) → allBytes (twoBytesEach ns) ≡ true
-unfolding twoBytesEach
-all-bytes-each [] = unfold allBytes allIn in refl
-all-bytes-each (n ∷ ns) = all-bytes-append (twoBytes n) (twoBytesEach ns) (all-bytes-two-bytes n) (all-bytes-each ns)

@@ -1,12 +1,10 @@
 -- What every accepted command keeps: the network stays within the capacities, and every edge joins two different vertices of it.
 use mathlib.Core.Bool.{Bool, true, _&&_}
-use mathlib.Core.List.{List}
-use mathlib.Core.Option.{Option, none}
+use mathlib.Core.Option.{none}
 use mathlib.Core.Path.{_≡_}
-use Prim.Native.Nat.{ℕ, zero, suc, _≤_}
+use Prim.Native.Nat.{ℕ, _≤_}
 use native.Mathlib.Omega.{arith}
 use lib.Dec.{ltb}
-use lib.ListN.{take}
 use Rattle.graph.specs.Lists.{allIn}
 use Rattle.graph.specs.Network.{Rule, Network, Edge, edgeCount, addVertex, addEdge, Proper}
 use Rattle.graph.proofs.Truth.{and-left, and-right, ltb-lt}
@@ -15,12 +13,9 @@ use Rattle.graph.proofs.VertexMore.{proper-vertex-more, proper-edge-more}
 use Rattle.naming.specs.Book.{Book, emptyBook, enterVertex, enterEdge, feed}
 use Rattle.naming.proofs.Book.{empty-proper}
 use Rattle.commands.specs.Command.{Command, addCabinet, addSpan, districtName, ringName, sharedMesh, soleSpans, cutCabinets, isSole, addition}
-use Rattle.commands.specs.Refusal.{Refusal, Capacities, cabinetsOf, cabinetsKnown, hasEqualCabinets, isFull, refusalOf}
+use Rattle.commands.specs.Refusal.{Capacities, cabinetsOf, cabinetsKnown, hasEqualCabinets, isFull, refusalOf}
 use Rattle.commands.specs.Step.{after}
-use Rattle.commands.specs.Run.{Accepted}
 use Rattle.commands.proofs.Cases.{leb-gt}
-use Rattle.commands.proofs.Steps.{RunsTo, ends, refuses, accepts, was-accepted}
-use Rattle.commands.proofs.Place.{bookFed, fed-none, fed-more}
 use Rattle.commands.proofs.Causes.{NotRefused, not-refused-exactly}
 
 -- the network is within the capacities, and proper
@@ -87,14 +82,3 @@ kept caps b (sharedMesh x y) fits e = fits
 kept caps b (soleSpans x y) fits e = fits
 kept caps b (cutCabinets x y) fits e = fits
 kept caps b (isSole s) fits e = fits
-
--- so it is after every number of the accepted commands
-pub fits-after : (caps : Capacities) {b : Book} {journal : List ℕ} {l : List Accepted} {end : Option Refusal}
-    → RunsTo caps b journal l end → WithinCapacities caps (b .network) → (k : ℕ) → WithinCapacities caps (bookFed b (take k l) .network)
-fits-after caps {b} r fits zero = rw (fed-none b) fits
-fits-after caps (ends {b = b}) fits (suc k) = rw (fed-none b) fits
-fits-after caps (refuses {b = b} e) fits (suc k) = rw (fed-none b) fits
-fits-after caps (accepts {b = b} {a = a} {later = later} e rest) fits (suc k) =
-    rw
-    (fed-more b a (take k later))
-    (fits-after caps rest (kept caps b (a .command) fits (was-accepted caps b _ a e .not-refused)) k)

@@ -2,6 +2,7 @@ pub mod Cases
 pub mod Room
 pub mod Reading
 pub mod Steps
+pub mod Over
 pub mod Place
 pub mod Table
 pub mod Causes
@@ -14,6 +15,7 @@ pub mod Bytes
 pub mod Decode
 pub mod DecodeExact
 pub mod SizedBook
+pub mod NoticeBytes
 pub mod Notices
 pub mod NoticeOrder
 pub mod NameList
@@ -23,5 +25,6 @@ pub mod AnswersFit
 pub mod NoticeBound
 pub mod ReadBack
 pub mod WholeRun
+pub mod AnswersTell
 pub mod Answers
 pub mod RunBound

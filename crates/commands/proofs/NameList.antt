@@ -7,23 +7,24 @@ use mathlib.Core.Path.{_≡_, refl, sym, _∙_, ap, ap₂}
 use Prim.Native.Nat.{ℕ, zero, suc, _<_}
 use native.Mathlib.Omega.{arith}
 use lib.Dec.{eqb, ltb}
-use lib.ListN.{length, take, List·getD-append}
-use lib.Seq.{getD-at}
+use lib.ListN.{length, take}
 use Rattle.graph.specs.Below.{tabulate}
 use Rattle.graph.specs.Lists.{isIn}
 use Rattle.graph.specs.Network.{Edge, Rule, edgeCount, addVertex, addEdge}
 use Rattle.graph.specs.Block.{sharedBlock}
 use Rattle.graph.proofs.Truth.{true-or-false, eqb-eq, lt-ltb, ge-ltb}
+use Rattle.graph.proofs.Joined.{edge-count-more}
 use Rattle.naming.specs.Rename.{nameOf, changedItems}
 use Rattle.naming.specs.Book.{Book, emptyBook, enterVertex, enterEdge, feed, feedAll}
 use Rattle.commands.specs.Command.{Command, addCabinet, addSpan, districtName, ringName, sharedMesh, soleSpans, cutCabinets, isSole, addition}
 use Rattle.commands.specs.Answer.{Kind, district, ring, mesh, Notice, changes, notices, Answer}
 use Rattle.commands.specs.Step.{after, spanAnswer, meshAnswer, answer}
 use Rattle.commands.specs.NameList.{Named, NameList, noNames, setName, setNameOf, applyNotices, addCabinetNamed, addSpanNamed, hear, hearAll, named, namesOf}
-use Rattle.commands.proofs.SizedBook.{SizedBook, length-snoc, sized-after}
-use Rattle.commands.proofs.Notices.{changed}
+use Rattle.commands.proofs.SizedBook.{SizedBook, sized-after}
+use Rattle.commands.proofs.Notices.{changes-told, changed}
 use Rattle.graph.proofs.Members.{is-in-listed}
 use Rattle.naming.proofs.Listed.{tabulate-same, map-tabulate}
+use Rattle.naming.proofs.Naming.{nameOf-old, nameOf-new}
 
 -- the numbers below n, each with the name that a function gives it
 abbrev entries : ℕ → (ℕ → ℕ) → List Named
@@ -128,8 +129,8 @@ apply-append (t ∷ ts) us l = apply-append ts us (setNameOf (t .kind) (t .item)
 -- the notices of one kind, heard one by one
 apply-changes : (kind : Kind) (old new : List ℕ) (l : NameList)
     → applyNotices (changes kind old new) l ≡ onKind kind (setNames (nameOf new) (changed old new)) l
-unfolding changes changedItems
-apply-changes kind old new l = apply-of-kind kind (nameOf new) (changed old new) l
+unfolding changedItems
+apply-changes kind old new l = rw (changes-told kind old new) (apply-of-kind kind (nameOf new) (changed old new) l)
 
 -- the new span under its answered name, and then the notices, turn the names before into the names after
 pub hear-notices : (b b′ : Book) → SizedBook b → b′ .network .vertices ≡ b .network .vertices
@@ -148,15 +149,6 @@ hear-notices b b′ s v m =
       meshes = set-changed-and-new (b .blocks) (b′ .blocks) (edgeCount (b .network)) (s .blocks-sized) i;
     })
 
--- the name of an old item, and of the one entered last
-name-of-old : (l : List ℕ) (name x : ℕ) → x < length l → nameOf (l ++ name ∷ []) x ≡ nameOf l x
-unfolding nameOf
-name-of-old l name x h = List·getD-append l (name ∷ []) 0 x h
-
-name-of-last : (l : List ℕ) (name n : ℕ) → length l ≡ n → nameOf (l ++ name ∷ []) n ≡ name
-unfolding nameOf
-name-of-last l name n s = getD-at l name [] 0 n s
-
 -- one item more, named last
 named-one-more : (l : List ℕ) (name n : ℕ) → length l ≡ n
     → named n l ++ record { item = n; name = name } ∷ [] ≡ named (suc n) (l ++ name ∷ [])
@@ -164,8 +156,8 @@ unfolding named tabulate
 named-one-more l name n s =
     ap₂ {A = List Named} {B = ℕ}
     (λ l name′. l ++ record { item = n; name = name′ } ∷ [])
-    (tabulate-same n _ _ (λ x h. ap (λ name′. record { item = x; name = name′ }) (sym (name-of-old l name x (omega arith)))))
-    (sym (name-of-last l name n s))
+    (tabulate-same n _ _ (λ x h. ap (λ name′. record { item = x; name = name′ }) (sym (nameOf-old l name x (omega arith)))))
+    (sym (nameOf-new l name n s))
 
 hear-cabinet : (b : Book) → SizedBook b → addCabinetNamed (b .network .vertices) (namesOf b) ≡ namesOf (enterVertex b)
 unfolding addCabinetNamed namesOf enterVertex addVertex edgeCount
@@ -185,7 +177,7 @@ hear-span b s e =
     (enterEdge b e)
     s
     (unfold enterEdge addEdge in refl)
-    (unfold enterEdge addEdge edgeCount in length-snoc (b .network .edges) e)
+    (unfold enterEdge in edge-count-more (b .network) e)
 
 hear-mesh : (l : NameList) (b : Book) (o : Option ℕ) → hear l (meshAnswer b o) ≡ l
 unfolding hear meshAnswer

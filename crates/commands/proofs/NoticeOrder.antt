@@ -11,10 +11,10 @@ use Rattle.graph.specs.Below.{count}
 use Rattle.graph.proofs.Truth.{false-of-not, not-both, or-left, or-right, or-neither, and-both, lt-ltb, ge-ltb}
 use Rattle.naming.specs.Rename.{nameOf, changedItems}
 use Rattle.naming.specs.Book.{Book}
-use Rattle.commands.specs.Answer.{Kind, district, ring, mesh, kindByte, Notice, changes, notices}
+use Rattle.commands.specs.Answer.{Kind, district, ring, mesh, kindByte, Notice, notices}
 use Rattle.commands.specs.WholeRun.{EachNotice, sameKind, countNotices, itemsOf}
 use Rattle.commands.proofs.SizedBook.{SizedBook, namesIn, sized-names}
-use Rattle.commands.proofs.Notices.{toldOf, told, told-ind, each-append, each-told, changesOf, by-kind, differs, changed, isAmong, sameNotice, same-notice}
+use Rattle.commands.proofs.Notices.{toldOf, told, changes-told, told-ind, each-append, each-told, changesOf, by-kind, differs, changed, isAmong, sameNotice, same-notice}
 
 -- the first notice is of an earlier kind, or of one kind with the other and of a lower item
 unfoldable pub isBefore : Notice → Notice → Bool
@@ -63,14 +63,15 @@ rising-told kind g p =
 -- the notices of an earlier kind are before those of a later
 kinds-before : (b b′ : Book) (k l : Kind) → ltb (kindByte k) (kindByte l) ≡ true
     → EachNotice (BeforeEach (changesOf l b b′)) (changesOf k b b′)
-unfolding changes changedItems isBefore
+unfolding changedItems isBefore
 kinds-before b b′ k l e =
     let told-k = toldOf k (nameOf (namesIn k b′)) in
     let told-l = toldOf l (nameOf (namesIn l b′)) in
-    each-told
+    rw (changes-told k (namesIn k b) (namesIn k b′), changes-told l (namesIn l b) (namesIn l b′))
+    (each-told
     told-k
     (differs (namesIn k b) (namesIn k b′))
-    (BeforeEach (changesOf l b b′))
+    (BeforeEach (told told-l (differs (namesIn l b) (namesIn l b′)) (length (namesIn l b))))
     (length (namesIn k b))
     (λ x h d.
     each-told
@@ -78,7 +79,7 @@ kinds-before b b′ k l e =
     (differs (namesIn l b) (namesIn l b′))
     (λ u. isBefore (told-k x) u ≡ true)
     (length (namesIn l b))
-    (λ y h′ d′. or-left e (sameKind k l && ltb x y)))
+    (λ y h′ d′. or-left e (sameKind k l && ltb x y))))
 
 -- the notices rise by kind, then item
 pub notices-rise : (b b′ : Book) → Rising (notices b b′)
@@ -104,8 +105,8 @@ notices-rise b b′ =
   where
     of : (kind : Kind) → Rising (changesOf kind b b′)
     of kind =
-        unfold changes in
-        rising-told kind (nameOf (namesIn kind b′)) (differs (namesIn kind b) (namesIn kind b′)) (length (namesIn kind b))
+        rw (changes-told kind (namesIn kind b) (namesIn kind b′))
+        (rising-told kind (nameOf (namesIn kind b′)) (differs (namesIn kind b) (namesIn kind b′)) (length (namesIn kind b)))
 
 -- no notice is before itself
 pub not-before-self : (t : Notice) → isBefore t t ≡ false
@@ -156,14 +157,16 @@ count-other kind other g e (x ∷ xs) = rw e (count-other kind other g e xs)
 module _ (b b′ : Book) (s : SizedBook b) where
   own : (kind : Kind)
       → countNotices kind (changesOf kind b b′) ≡ count (itemsOf kind (b .network)) (differs (namesIn kind b) (namesIn kind b′))
-  unfolding changes changedItems
+  unfolding changedItems
   own kind =
-      rw (← sized-names b s kind)
+      rw (changes-told kind (namesIn kind b) (namesIn kind b′), ← sized-names b s kind)
       (count-own kind (nameOf (namesIn kind b′)) (differs (namesIn kind b) (namesIn kind b′)) (length (namesIn kind b)))
 
   others : (kind other : Kind) → sameKind kind other ≡ false → countNotices kind (changesOf other b b′) ≡ 0
-  unfolding changes changedItems
-  others kind other e = count-other kind other (nameOf (namesIn other b′)) e (changed (namesIn other b) (namesIn other b′))
+  unfolding changedItems
+  others kind other e =
+      rw (changes-told other (namesIn other b) (namesIn other b′))
+      (count-other kind other (nameOf (namesIn other b′)) e (changed (namesIn other b) (namesIn other b′)))
 
   -- the notices of a kind are as many as the items of that kind whose name is another now
   pub count-notices : (kind : Kind)

@@ -10,9 +10,9 @@ use lib.ListN.{length}
 use Rattle.graph.specs.Below.{listed}
 use Rattle.graph.specs.Lists.{isIn}
 use Rattle.graph.proofs.Truth.{true-or-false, and-left, and-right, eqb-eq, false-of-not-true}
-use Rattle.naming.specs.Rename.{nameOf, changedItems}
+use Rattle.naming.specs.Rename.{Change, nameOf, changedItems, changesBetween}
 use Rattle.naming.specs.Book.{Book}
-use Rattle.commands.specs.Answer.{Kind, district, ring, mesh, Notice, changes, notices}
+use Rattle.commands.specs.Answer.{Kind, district, ring, mesh, Notice, changeNotice, changes, notices}
 use Rattle.commands.specs.WholeRun.{EachNotice, sameKind, itemsOf}
 use Rattle.commands.proofs.SizedBook.{SizedBook, namesIn, sized-names}
 use Rattle.graph.proofs.Members.{is-in-listed}
@@ -63,6 +63,15 @@ each-told f p P =
     (λ n q ih h. each-append P (told f p n) (f n ∷ []) (ih (λ x l. h x (omega arith))) (h n (omega arith) q, tt))
     (λ n q ih h. ih (λ x l. h x (omega arith)))
 
+-- the notices of a kind, by the items that changed
+pub changes-told : (kind : Kind) (old new : List ℕ) → changes kind old new ≡ map (toldOf kind (nameOf new)) (changedItems old new)
+unfolding changes changesBetween changeNotice
+changes-told kind old new = go (changedItems old new)
+  where
+    go : (l : List ℕ) → map (changeNotice kind) (map (λ x. let c : Change = record { item = x; name = nameOf new x } in c) l) ≡ map (toldOf kind (nameOf new)) l
+    go [] = refl
+    go (x ∷ l) = ap (λ r. toldOf kind (nameOf new) x ∷ r) (go l)
+
 -- the notices of one kind
 abbrev pub changesOf : Kind → Book → Book → List Notice
 changesOf kind b b′ = changes kind (namesIn kind b) (namesIn kind b′)
@@ -80,15 +89,16 @@ module _ (P : Notice → Type 0) (b b′ : Book) (s : SizedBook b) where
       → P (toldOf kind (nameOf (namesIn kind b′)) x)
 
   each-change : (kind : Kind) → EachChanged kind → EachNotice P (changesOf kind b b′)
-  unfolding changes changedItems
+  unfolding changedItems
   each-change kind h =
-      each-told
+      rw (changes-told kind (namesIn kind b) (namesIn kind b′))
+      (each-told
       (toldOf kind (nameOf (namesIn kind b′)))
       (differs (namesIn kind b) (namesIn kind b′))
       P
       (length (namesIn kind b))
       (λ x l d.
-      h x (omega (arith, sized-names b s kind)) (false-of-not-true (eqb (nameOf (namesIn kind b) x) (nameOf (namesIn kind b′) x)) d))
+      h x (omega (arith, sized-names b s kind)) (false-of-not-true (eqb (nameOf (namesIn kind b) x) (nameOf (namesIn kind b′) x)) d)))
 
   -- what holds of the notices of all such items holds of each notice of the command
   pub each-notice : ((kind : Kind) → EachChanged kind) → EachNotice P (notices b b′)
@@ -170,9 +180,10 @@ isChange b b′ kind x name =
 module _ (b b′ : Book) (s : SizedBook b) where
   among-changes : (kind : Kind) (t : Notice)
       → isAmong t (changesOf kind b b′) ≡ sameKind (t .kind) kind && isChange b b′ kind (t .item) (t .name)
-  unfolding changes changedItems isChange
+  unfolding changedItems isChange
   among-changes kind t =
-      among-told t kind (nameOf (namesIn kind b′)) (changed (namesIn kind b) (namesIn kind b′))
+      ap (isAmong t) (changes-told kind (namesIn kind b) (namesIn kind b′))
+      ∙ among-told t kind (nameOf (namesIn kind b′)) (changed (namesIn kind b) (namesIn kind b′))
       ∙ rw (is-in-listed (length (namesIn kind b)) (differs (namesIn kind b) (namesIn kind b′)) (t .item), sized-names b s kind)
 
   -- a notice stands among the notices exactly if it tells such a change

@@ -7,7 +7,7 @@ use Prim.Native.Nat.{ℕ, zero, suc, _+_, _≤_, _<_}
 use native.Mathlib.Nat.{suc-add, not-suc-le-zero, le-trans, le-of-eq}
 use native.Mathlib.Omega.{arith}
 use lib.ListN.{length, take, drop, getElem?, length-drop, drop-of-length-le}
-use lib.Seq.{drop-drop, take-take}
+use lib.Seq.{drop-drop}
 use Rattle.naming.specs.Book.{Book, feedAll}
 use Rattle.commands.specs.Command.{readCommand, addition}
 use Rattle.commands.specs.Refusal.{Refusal, noRoom, Capacities}
@@ -104,12 +104,6 @@ accepted-at-place caps (accepts {b = b} {byte = byte} {bytes = bytes} {a = a} {l
       accepts = rw (fed-more b a (take k later)) (there .accepts);
     }
 
-getElem-take : (n : ℕ) (l : List Accepted) (k : ℕ) → k < n → getElem? (take n l) k ≡ getElem? l k
-getElem-take zero l k h = absurd (not-suc-le-zero h)
-getElem-take (suc n) [] k h = refl
-getElem-take (suc n) (a ∷ l) zero h = refl
-getElem-take (suc n) (a ∷ l) (suc k) h = getElem-take n l k (omega arith)
-
 getElem-drop : (l : List Accepted) (k : ℕ) (a : Accepted) (later : List Accepted) → drop k l ≡ a ∷ later → getElem? l k ≡ some a
 getElem-drop [] zero a later e = impossible (cc)
 getElem-drop [] (suc k) a later e = impossible (cc)
@@ -151,20 +145,6 @@ module _ (caps : Capacities) (b : Book) (journal : List ℕ) where
   pub run-place-in-journal : placeAfter (runFrom caps b 0 journal .accepted) ≤ length journal
   run-place-in-journal = place-in-journal caps whole-run-steps
 
--- what an accepted command is among all, it is among the first of them
-prefix-at-place : (caps : Capacities) (b : Book) (journal : List ℕ) (l m : List Accepted) (k : ℕ) → Prefix l m → k < length l
-    → AcceptedAt caps b journal m k → AcceptedAt caps b journal l k
-prefix-at-place caps b journal l m k p h at =
-    let same-first = ap (take k) (p .same) ∙ take-take k (length l) m (omega arith) in
-    record {
-      byte = at .byte;
-      bytes = at .bytes;
-      this = at .this;
-      is-kth = ap (λ n. getElem? n k) (p .same) ∙ getElem-take (length l) m k h ∙ at .is-kth;
-      at-place = rw same-first (at .at-place);
-      accepts = rw same-first (at .accepts);
-    }
-
 -- where the accepted commands end stands one that is accepted, and the room that is left is too short for its answer
 pub record NoRoomAt (room : ℕ) (caps : Capacities) (b : Book) (journal : List ℕ) (l : List Accepted) : Type 0 where
   pub byte : ℕ
@@ -195,13 +175,6 @@ module _ (room : ℕ) (caps : Capacities) (b : Book) (journal : List ℕ) where
   pub within-is-prefix : Prefix (runWithin room caps b journal .accepted) (runFrom caps b 0 journal .accepted)
   unfolding runWithin
   within-is-prefix = fitting-is-prefix room (runFrom caps b 0 journal .accepted) (runFrom caps b 0 journal .refusal)
-
-  -- every accepted command stands where those before it end
-  pub each-at-its-place-within : (k : ℕ) → k < length (runWithin room caps b journal .accepted)
-      → AcceptedAt caps b journal (runWithin room caps b journal .accepted) k
-  each-at-its-place-within k h =
-      prefix-at-place caps b journal _ (runFrom caps b 0 journal .accepted) k within-is-prefix h
-      (each-at-its-place caps b journal k (omega (arith, within-is-prefix .shorter)))
 
   -- the place is in the journal, or its end
   pub place-within-journal : placeAfter (runWithin room caps b journal .accepted) ≤ length journal

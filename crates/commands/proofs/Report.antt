@@ -1,27 +1,18 @@
--- The report's six numbers, and the network after the accepted commands of a run.
+-- The report's six numbers: the cabinets and spans are the accepted commands 01 and 02.
 use mathlib.Core.Bool.{Bool, true, false, cond}
 use mathlib.Core.List.{List, [], _∷_, map}
-use mathlib.Core.Logic.{_⊎_, inl, inr}
-use mathlib.Core.Option.{Option, none, some}
 use mathlib.Core.Path.{_≡_, refl, sym, _∙_, ap}
-use Prim.Native.Nat.{ℕ, zero, suc, _+_, _≤_, _<_}
+use Prim.Native.Nat.{ℕ, suc, _+_}
 use native.Mathlib.Nat.{zero-add, add-zero}
 use native.Mathlib.Omega.{arith}
-use lib.ListN.{length, take}
-use lib.Seq.{take-take, take-all}
+use lib.ListN.{length}
 use Rattle.graph.specs.Network.{Rule, edgeCount, addVertex, addEdge}
 use Rattle.graph.proofs.Joined.{edge-count-more}
 use Rattle.naming.specs.Book.{Book, emptyBook, enterVertex, enterEdge, feed, feedAll}
 use Rattle.commands.specs.Command.{Command, addCabinet, addSpan, districtName, ringName, sharedMesh, soleSpans, cutCabinets, isSole, addition}
-use Rattle.commands.specs.Refusal.{Refusal, Capacities, firstThatApplies}
 use Rattle.commands.specs.Step.{after}
-use Rattle.commands.specs.Run.{Accepted, Run, runFrom, runWithin, commandsOf, bytesOfAnswers, placeAfter}
-use Rattle.commands.specs.Entry.{startLines, wholeUnless, wholeRun, acceptedCommands, bookAfter, numberOf, reportOf}
-use Rattle.commands.proofs.Cases.{le-or-gt}
-use Rattle.commands.proofs.Room.{Prefix}
-use Rattle.commands.proofs.Steps.{run-takes-steps}
-use Rattle.commands.proofs.Place.{bookFed, within-is-prefix}
-use Rattle.commands.proofs.Kept.{WithinCapacities, empty-fits, fits-after}
+use Rattle.commands.specs.Run.{Run, commandsOf, bytesOfAnswers, placeAfter}
+use Rattle.commands.specs.Entry.{bookAfter, numberOf, reportOf}
 
 -- the command is 01
 unfoldable pub addsCabinet : Command → Bool
@@ -110,52 +101,3 @@ pub report-is : (rule : Rule) (run : Run) → reportOf rule run
     ∷ []
 unfolding reportOf
 report-is rule run = rw (cabinets-counted rule (commandsOf run), spans-counted rule (commandsOf run))
-
-take-map : (k : ℕ) (l : List Accepted) → take k (map (λ a. a .command) l) ≡ map (λ a. a .command) (take k l)
-take-map zero l = refl
-take-map (suc k) [] = refl
-take-map (suc k) (a ∷ l) = ap {B = List Command} (λ r. a .command ∷ r) (take-map k l)
-
--- the book after the first k accepted commands
-pub book-after-first : (rule : Rule) (run : Run) (k : ℕ)
-    → bookAfter rule (take k (commandsOf run)) ≡ bookFed (emptyBook rule) (take k (run .accepted))
-unfolding bookAfter bookFed commandsOf
-book-after-first rule run k = ap (λ cs. feedAll (emptyBook rule) (map addition cs)) (take-map k (run .accepted))
-
--- the first k of a list that begins another are the first of that other
-first-of-prefix : (l m : List Accepted) → Prefix l m → (k : ℕ) → (j : ℕ) × (take k l ≡ take j m)
-first-of-prefix l m p k = go (le-or-gt k (length l))
-  where
-    go : (k ≤ length l) ⊎ (length l < k) → (j : ℕ) × (take k l ≡ take j m)
-    go (inl h) = (k, ap (take k) (p .same) ∙ take-take k (length l) m h)
-    go (inr h) = (length l, take-all k l (omega arith) ∙ p .same)
-
--- after every number of the accepted commands of a run the network is within the capacities, and proper
-pub run-fits : (rule : Rule) (caps : Capacities) (journal : List ℕ) (k : ℕ)
-    → WithinCapacities caps (bookAfter rule (take k (commandsOf (runFrom caps (emptyBook rule) 0 journal))) .network)
-run-fits rule caps journal k =
-    rw
-    (book-after-first rule (runFrom caps (emptyBook rule) 0 journal) k)
-    (fits-after caps (run-takes-steps caps (emptyBook rule) 0 journal) (empty-fits caps rule) k)
-
--- and so it is with any room
-pub run-within-fits : (room : ℕ) (rule : Rule) (caps : Capacities) (journal : List ℕ) (k : ℕ)
-    → WithinCapacities caps (bookAfter rule (take k (commandsOf (runWithin room caps (emptyBook rule) journal))) .network)
-run-within-fits room rule caps journal k =
-    let first = first-of-prefix _ _ (within-is-prefix room caps (emptyBook rule) journal) k in
-    rw
-    (book-after-first rule (runWithin room caps (emptyBook rule) journal) k, first .1)
-    (fits-after caps (run-takes-steps caps (emptyBook rule) 0 journal) (empty-fits caps rule) (first .0))
-
--- and so it is after every number of the accepted commands of a whole run
-pub whole-run-fits : (rule : Rule) (caps : Capacities) (journal : List ℕ) (workLength answersLength reportLength k : ℕ)
-    → WithinCapacities caps (bookAfter rule (take k (acceptedCommands (wholeRun rule caps journal workLength answersLength reportLength))) .network)
-unfolding wholeRun wholeUnless acceptedCommands bookAfter feedAll
-whole-run-fits rule caps journal workLength answersLength reportLength k =
-    go (firstThatApplies (startLines caps (length journal) workLength reportLength)) k
-  where
-    go : (o : Option Refusal) (k : ℕ)
-        → WithinCapacities caps (bookAfter rule (take k (acceptedCommands (wholeUnless o (runWithin answersLength caps (emptyBook rule) journal)))) .network)
-    go (some r) zero = empty-fits caps rule
-    go (some r) (suc k) = empty-fits caps rule
-    go none k = run-within-fits answersLength rule caps journal k

@@ -1,8 +1,8 @@
 -- How many bytes a run answers: each command at most 16,386 for every byte that it takes in the journal.
 use mathlib.Core.Bool.{Bool, true, false, cond}
-use mathlib.Core.List.{List, [], _∷_}
+use mathlib.Core.List.{List}
 use mathlib.Core.Option.{Option, none, some}
-use mathlib.Core.Path.{_≡_, refl, sym, ap, subst}
+use mathlib.Core.Path.{_≡_, sym, ap, subst}
 use Prim.Native.Nat.{ℕ, zero, suc, _*_, _≤_}
 use native.Mathlib.Omega.{arith}
 use lib.Dec.{leb}
@@ -15,7 +15,7 @@ use Rattle.naming.proofs.Count.{count-at-most}
 use Rattle.commands.specs.Bytes.{twoBytes}
 use Rattle.commands.specs.Command.{Command, addSpan, soleSpans, cutCabinets, Form, unknown, alone, withOne, withTwo, form, operand, cutOff, command, ifLong, readForm, readCommand}
 use Rattle.commands.specs.Refusal.{Refusal, Capacities}
-use Rattle.commands.specs.Answer.{Kind, district, ring, mesh, Notice, noticeBytes, noticesBytes, notices, answerBytes}
+use Rattle.commands.specs.Answer.{Kind, district, ring, mesh, notices, answerBytes}
 use Rattle.commands.specs.Step.{after, spanAnswer, meshAnswer, answer}
 use Rattle.commands.specs.Run.{Accepted, runWithin, bytesOfAnswers, placeAfter}
 use Rattle.commands.specs.WholeRun.{itemsOf, countNotices}
@@ -25,17 +25,12 @@ use Rattle.commands.proofs.Room.{bytes-of-more}
 use Rattle.commands.proofs.Steps.{RunsTo, ends, refuses, accepts, run-takes-steps, was-accepted}
 use Rattle.commands.proofs.Place.{within-is-prefix}
 use Rattle.commands.proofs.SizedBook.{namesIn}
+use Rattle.commands.proofs.NoticeBytes.{length-notices-bytes}
 use Rattle.commands.proofs.Notices.{differs}
 use Rattle.commands.proofs.NoticeOrder.{count-notices}
 use Rattle.commands.proofs.EachKind.{sized-by-laws}
 use Rattle.commands.proofs.RunBooks.{Sound, sound-after}
 use Rattle.commands.proofs.AnswersFit.{length-by-kind}
-
--- a notice has five bytes
-length-notices-bytes : (ts : List Notice) → length (noticesBytes ts) ≡ 5 * length ts
-unfolding noticesBytes noticeBytes twoBytes
-length-notices-bytes [] = refl
-length-notices-bytes (t ∷ ts) = omega (arith, length-notices-bytes ts)
 
 module _ (caps : Capacities) (few-cabinets : caps .cabinets ≤ 4096) (few-spans : caps .spans ≤ 8192) (b : Book) (s : Sound caps b) where
   -- the answer is short for a command of so many bytes of operands

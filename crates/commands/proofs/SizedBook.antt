@@ -4,14 +4,14 @@ use mathlib.Core.Path.{_≡_, refl, _∙_, ap}
 use Prim.Native.Nat.{ℕ, suc}
 use native.Mathlib.Omega.{arith}
 use lib.ListN.{length, length-append}
+use Rattle.graph.specs.Below.{length-tabulate}
 use Rattle.graph.specs.Network.{Rule, edgeCount, addVertex, addEdge}
 use Rattle.naming.specs.Rename.{rename}
-use Rattle.naming.specs.Book.{Book, emptyBook, enterVertex, enterEdge, Addition, vertex, edge, neither, feed, feedAll}
+use Rattle.naming.specs.Book.{Book, emptyBook, enterVertex, enterEdge, Addition, vertex, edge, neither, feed}
 use Rattle.commands.specs.Command.{Command, addition}
 use Rattle.commands.specs.Answer.{Kind, district, ring, mesh}
 use Rattle.commands.specs.Step.{after}
 use Rattle.commands.specs.WholeRun.{itemsOf}
-use Rattle.naming.proofs.Listed.{length-tabulate}
 
 -- the book has a name of each kind for each item
 pub record SizedBook (b : Book) : Type 0 where
@@ -51,12 +51,6 @@ sized-feed b s neither = s
 pub sized-after : (b : Book) → SizedBook b → (c : Command) → SizedBook (after b c)
 unfolding after
 sized-after b s c = sized-feed b s (addition c)
-
--- and so does any number of additions
-pub sized-feed-all : (b : Book) → SizedBook b → (l : List Addition) → SizedBook (feedAll b l)
-unfolding feedAll
-sized-feed-all b s [] = s
-sized-feed-all b s (x ∷ later) = sized-feed-all (feed b x) (sized-feed b s x) later
 
 -- the names of one kind
 unfoldable pub namesIn : Kind → Book → List ℕ

@@ -3,15 +3,16 @@ use mathlib.Core.List.{List, [], _∷_}
 use mathlib.Core.Logic.{_↔_}
 use mathlib.Core.Option.{Option, none, some}
 use mathlib.Core.Path.{_≡_, refl, sym, _∙_, ap, subst}
-use Prim.Native.Nat.{ℕ, zero, suc, _≤_}
+use Prim.Native.Nat.{ℕ, zero, suc, _-_, _≤_}
 use lib.ListN.{length, drop}
 use Rattle.naming.specs.Book.{Book}
 use Rattle.commands.specs.Command.{Reading, unknownByte, cutOff, command, readCommand}
 use Rattle.commands.specs.Refusal.{Refusal, Capacities, refusalOf}
+use Rattle.commands.specs.Answer.{answerBytes}
 use Rattle.commands.specs.Step.{after, answer}
-use Rattle.commands.specs.Run.{Accepted, stop, atEnd, andThen, Verdict, refused, accepted, verdictUnless, verdict, runFrom}
+use Rattle.commands.specs.Run.{Accepted, stop, atEnd, andThen, Verdict, refused, accepted, verdictUnless, verdict, runFrom, within, fitting, runWithin}
 use Rattle.commands.proofs.Cases.{impossible}
-use Rattle.commands.proofs.Room.{run-skips-operands}
+use Rattle.commands.proofs.Room.{run-skips-operands, within-kept, first-fits}
 use Rattle.commands.proofs.Reading.{operands-fit}
 
 -- a journal at its end
@@ -109,3 +110,23 @@ pub accepted-width-fits : (caps : Capacities) (b : Book) (byte : ℕ) (bytes : L
     → verdict caps b (readCommand byte bytes) ≡ accepted a → a .width ≤ length bytes
 accepted-width-fits caps b byte bytes a e =
     operands-fit byte bytes (a .command) (a .width) (was-accepted caps b (readCommand byte bytes) a e .was-read)
+
+-- The run with room, one command at a time.
+module _ (room : ℕ) (caps : Capacities) (b : Book) (byte : ℕ) (bytes : List ℕ) where
+  -- what is refused with the room that there is stops the run
+  pub within-refuses : {r : Refusal} → within room (verdict caps b (readCommand byte bytes)) ≡ refused r → runWithin room caps b (byte ∷ bytes) ≡ stop r
+  unfolding runWithin stop andThen fitting within
+  within-refuses {r} e = go (verdict caps b (readCommand byte bytes)) refl e
+    where
+      go : (v : Verdict) → verdict caps b (readCommand byte bytes) ≡ v → within room v ≡ refused r → runWithin room caps b (byte ∷ bytes) ≡ stop r
+      go (refused s) d e = let same : s ≡ r = cc in rw (← same, run-refuses caps b byte bytes d)
+      go (accepted a) d e = rw (run-accepts caps b byte bytes d, e, fitting)
+
+  -- what is accepted with it is followed by the run from behind its operands, from the book after it, with the room that is left
+  pub within-accepts : {a : Accepted} → within room (verdict caps b (readCommand byte bytes)) ≡ accepted a
+      → runWithin room caps b (byte ∷ bytes)
+      ≡ andThen a (runWithin (room - length (answerBytes (a .answer))) caps (after b (a .command)) (drop (a .width) bytes))
+  unfolding runWithin andThen
+  within-accepts {a} e =
+      let kept = within-kept room (verdict caps b (readCommand byte bytes)) a e in
+      rw (run-accepts caps b byte bytes (kept .0)) (first-fits room a _ _ (kept .1))

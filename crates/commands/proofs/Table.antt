@@ -2,7 +2,7 @@
 use mathlib.Core.Bool.{Bool, true, false, not, _&&_, true≢false}
 use mathlib.Core.List.{List, [], _∷_}
 use mathlib.Core.Logic.{_↔_, _⊎_, inl, inr}
-use mathlib.Core.Option.{Option, none, some}
+use mathlib.Core.Option.{none, some}
 use mathlib.Core.Path.{_≡_, refl, sym, _∙_, ap}
 use Prim.Native.Nat.{ℕ, zero, suc, _≤_, _<_}
 use native.Mathlib.Nat.{not-suc-le-zero}
@@ -147,19 +147,6 @@ passed-over (l ∷ ls) e i m d = go i d (passed-over ls)
     go : (i : ℕ) → getElem? (l ∷ ls) i ≡ some m → (firstThatApplies ls ≡ none → NoneApplies ls) → m .applies ≡ false
     go zero d rest = let same : l ≡ m = cc in rw same at here
     go (suc i) d rest = rest (sym (line-passed-over l ls here) ∙ e) i m d
-
-not-refused : (ls : List Line) → NoneApplies ls → firstThatApplies ls ≡ none
-not-refused ls f = go (firstThatApplies ls) refl
-  where
-    go : (o : Option Refusal) → firstThatApplies ls ≡ o → o ≡ none
-    go none e = refl
-    go (some r) e =
-        let l = first-line ls r e in
-        absurd (not-both (l .applies) (f (l .k) (l .this) (l .is-kth)))
-
--- no refusal is given exactly if no line applies
-pub none-applies : (ls : List Line) → (firstThatApplies ls ≡ none) ↔ NoneApplies ls
-none-applies ls = (passed-over ls, not-refused ls)
 
 -- every line's refusal passes the test
 abbrev pub everyRefusal : (Refusal → Bool) → List Line → Bool

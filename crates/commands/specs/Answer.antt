@@ -3,7 +3,7 @@ use mathlib.Core.Bool.{Bool, true, false}
 use mathlib.Core.List.{List, [], _∷_, _++_, map}
 use Prim.Native.Nat.{ℕ}
 use lib.ListN.{length}
-use Rattle.naming.specs.Rename.{nameOf, changedItems}
+use Rattle.naming.specs.Rename.{Change, changesBetween}
 use Rattle.naming.specs.Book.{Book}
 use Rattle.commands.specs.Bytes.{twoBytes, twoBytesEach}
 
@@ -30,10 +30,13 @@ unfoldable pub noticesBytes : List Notice → List ℕ
 noticesBytes [] = []
 noticesBytes (t ∷ ts) = noticeBytes t ++ noticesBytes ts
 
--- The items that had a name before and have another now, rising, each with its new name.
+-- An item's new name as a notice of a kind.
+unfoldable pub changeNotice : Kind → Change → Notice
+changeNotice kind c = record { kind = kind; item = c .item; name = c .name }
+
+-- The items that had a name of this kind before and have another now, rising, each with its new name.
 unfoldable pub changes : Kind → List ℕ → List ℕ → List Notice
-changes kind old new =
-    map (λ x. record { kind = kind; item = x; name = nameOf new x }) (changedItems old new)
+changes kind old new = map (changeNotice kind) (changesBetween old new)
 
 -- The notices of a command, from the names before it and after it: by kind, then item.
 unfoldable pub notices : Book → Book → List Notice

@@ -21,5 +21,5 @@ use Rattle.commands.specs.Register
 
 -- The register. To unfold this is to unfold all that it is defined by.
 unfoldable pub computed : Refusal.Capacities → List ℕ → Entry.Buffers → Entry.Outcome
-unfolding Below.anyBelow Below.allBelow Below.leastBelow Below.count Below.listed Below.tabulate Lists.allIn Labels.relabel Labels.labels Labels.same Network.touches Network.otherEnd Network.never Network.edgeCount Network.edge Network.addVertex Network.addEdge Network.mates Network.nothing Network.lossOf Network.without Network.kept Network.joined Groups.component Groups.parts Groups.bridge Groups.bridgeBlock Block.linkAt Block.link Block.pairsBelow Block.links Block.block Block.onBlock Block.atBoth Block.sharedBlock Between.insert Between.sort Between.leastMate Between.isBridgeBetween Between.bridgeBefore Between.bridgesBetween Between.isCutBetween Between.cutBefore Between.cutsBetween Rename.size Rename.nameOf Rename.changedItems Rename.better Rename.bestOf Rename.candidate Rename.holdsSeveral Rename.bestName Rename.rename Book.emptyBook Book.enterVertex Book.enterEdge Book.feed Book.feedAll Bytes.number Bytes.twoBytes Bytes.fourBytes Bytes.twoBytesEach Command.form Command.operand Command.ifLong Command.readForm Command.readCommand Command.addition Refusal.refusalNumber Refusal.firstThatApplies Refusal.cabinetsOf Refusal.spansOf Refusal.cabinetsKnown Refusal.spansKnown Refusal.hasEqualCabinets Refusal.isFull Refusal.isAcross Refusal.lines Refusal.refusalOf Answer.kindByte Answer.noticeBytes Answer.noticesBytes Answer.changes Answer.notices Answer.boolByte Answer.answerBytes Step.after Step.spanAnswer Step.meshAnswer Step.answer Run.stop Run.atEnd Run.andThen Run.verdictUnless Run.verdict Run.runFrom Run.fitting Run.runWithin Run.commandsOf Run.bytesOfAnswers Run.placeAfter Entry.workNeeded Entry.goodCapacities Entry.shortBuffers Entry.startLines Entry.wholeUnless Entry.wholeRun Entry.bookAfter Entry.numberOf Entry.reportOf Entry.over Entry.outcome Entry.entryUnder Register.registerRule Register.register Register.programCapacities Register.ending Register.programOutput Register.programRun Register.program Register.wholeReport Register.programReport
+unfolding Below.anyBelow Below.allBelow Below.leastBelow Below.count Below.listed Below.tabulate Lists.allIn Labels.relabel Labels.labels Labels.same Network.touches Network.otherEnd Network.never Network.edgeCount Network.edge Network.addVertex Network.addEdge Network.mates Network.nothing Network.lossOf Network.without Network.kept Network.joined Groups.component Groups.parts Groups.bridge Groups.bridgeBlock Block.linkAt Block.link Block.pairsBelow Block.links Block.block Block.onBlock Block.atBoth Block.sharedBlock Between.insert Between.sort Between.leastMate Between.isBridgeBetween Between.bridgeBefore Between.bridgesBetween Between.isCutBetween Between.cutBefore Between.cutsBetween Rename.size Rename.nameOf Rename.changedItems Rename.changesBetween Rename.better Rename.bestOf Rename.candidate Rename.holdsSeveral Rename.bestName Rename.rename Book.emptyBook Book.enterVertex Book.enterEdge Book.feed Book.feedAll Bytes.number Bytes.twoBytes Bytes.fourBytes Bytes.twoBytesEach Command.form Command.operand Command.ifLong Command.readForm Command.readCommand Command.addition Refusal.refusalNumber Refusal.firstThatApplies Refusal.cabinetsOf Refusal.spansOf Refusal.cabinetsKnown Refusal.spansKnown Refusal.hasEqualCabinets Refusal.isFull Refusal.isAcross Refusal.lines Refusal.refusalOf Answer.kindByte Answer.noticeBytes Answer.noticesBytes Answer.changeNotice Answer.changes Answer.notices Answer.boolByte Answer.answerBytes Step.after Step.spanAnswer Step.meshAnswer Step.answer Run.stop Run.atEnd Run.andThen Run.verdictUnless Run.verdict Run.runFrom Run.within Run.fitting Run.runWithin Run.commandsOf Run.bytesOfAnswers Run.placeAfter Entry.workNeeded Entry.goodCapacities Entry.shortBuffers Entry.startLines Entry.wholeUnless Entry.wholeRun Entry.bookAfter Entry.numberOf Entry.reportOf Entry.over Entry.outcome Entry.entryUnder Register.registerRule Register.register Register.programCapacities Register.ending Register.programOutput Register.programRun Register.program Register.wholeReport Register.programReport
 computed = Register.register

@@ -56,13 +56,20 @@ runFrom caps b zero (byte ∷ bytes) =
       | accepted a ↦ andThen a (runFrom caps (after b (a .command)) (a .width) bytes)
     ]
 
+-- Room for the answer is the last line of the table: an accepted command whose answer is longer than the room is refused.
+unfoldable pub within : ℕ → Verdict → Verdict
+within room (refused r) = refused r
+within room (accepted a) = cond (leb (length (answerBytes (a .answer))) room) (accepted a) (refused noRoom)
+
 -- The accepted commands whose answers fit, one after another, into the room; the first that does not fit is refused.
 unfoldable pub fitting : ℕ → List Accepted → Option Refusal → Run
 fitting room [] end = record { accepted = []; refusal = end }
 fitting room (a ∷ later) end =
-    let size = length (answerBytes (a .answer)) in
-    let rest = fitting (room - size) later end in
-    cond (leb size room) (andThen a rest) (stop noRoom)
+    let rest = fitting (room - length (answerBytes (a .answer))) later end in
+    elim (within room (accepted a)) [
+      | refused r ↦ stop r
+      | accepted b ↦ andThen b rest
+    ]
 
 -- The run with room for so many answer bytes is the run without room, cut at the first answer that does not fit.
 unfoldable pub runWithin : ℕ → Capacities → Book → List ℕ → Run

@@ -3,10 +3,10 @@ use mathlib.Core.Bool.{true, false}
 use mathlib.Core.List.{List, [], _∷_, _++_}
 use mathlib.Core.Logic.{_⊎_, inl, inr, ⊎-elim}
 use mathlib.Core.Path.{_≡_, refl, sym, _∙_, ap}
-use Prim.Native.Nat.{ℕ, suc, _+_, _*_, _≤_, _<_}
+use Prim.Native.Nat.{ℕ, suc, _*_, _≤_, _<_}
 use native.Mathlib.Nat.{mul-pos}
+use native.Mathlib.Numerals.{add-one}
 use native.Mathlib.Omega.{arith}
-use lib.ListN.{length, getD}
 use Rattle.graph.specs.Network.{Network, addVertex, edge, edgeCount, touches, without, joined}
 use Rattle.graph.specs.Groups.{component, bridgeBlock}
 use Rattle.graph.specs.Block.{block, links, link, linkAt, onBlock}
@@ -16,25 +16,22 @@ use Rattle.graph.proofs.Mates.{component-swap}
 use Rattle.graph.proofs.Ends.{touched-known}
 use Rattle.graph.proofs.VertexMore.{component-vertex-more, bridge-block-vertex-more, block-vertex-more, component-alone, bridge-block-alone, proper-vertex-more}
 use Rattle.naming.specs.Rename.{size}
-use Rattle.naming.specs.Book.{enterVertex}
+use Rattle.naming.specs.Book.{Book, enterVertex, feed}
+use Rattle.naming.specs.State.{State, afterAddition}
 use Rattle.naming.proofs.Equivalent.{size-agree, size-others, size-positive}
-use Rattle.table.specs.declared.words.Capacities.{Capacities}
-use Rattle.table.specs.Layout.{cell, put, vertexArea, bridgeBlockArea, edgeArea}
-use Rattle.table.specs.KindValid.{namesIn, KindValid}
+use Rattle.numbers.specs.declared.Limits.{Limits}
+use Rattle.table.specs.Inside.Layout.{cell, put, vertexArea, bridgeBlockArea, edgeArea}
+use Rattle.table.specs.Inside.KindValid.{namesIn, KindValid}
 use Rattle.table.proofs.Cells.{HasColumns, length-put, cell-put-same, cell-put-other-column}
-use Rattle.forest.specs.Climb.{upOf, depthOf, aboveEdge}
-use Rattle.forest.specs.Tree.{newGroup, vertexTable}
-use Rattle.forest.specs.Valid.{networkOf, bookOf, HangsBelow, ForestValid, Valid}
-use Rattle.forest.proofs.KindWords.{SameWords, name-known, names-same, kind-same, kind-agree, kind-new, names-new, cell-put-elsewhere}
+use Rattle.table.proofs.KindNames.{name-known}
+use Rattle.forest.specs.Inside.Climb.{upOf, depthOf, aboveEdge}
+use Rattle.forest.specs.Inside.Tree.{newGroup, vertexTable}
+use Rattle.forest.specs.Inside.Valid.{networkOf, bookOf, HangsBelow, ForestValid, Valid}
+use Rattle.forest.specs.Promise.{Holds, stateOf, VertexAdded}
+use Rattle.forest.proofs.Beyond.{frame-beyond}
+use Rattle.forest.proofs.KindWords.{SameWords, names-same, kind-same, kind-agree, kind-new, names-new, cell-put-elsewhere}
 use Rattle.forest.proofs.Networks.{component-groups, bridge-block-groups, edge-count, vertex-count, ends-same, book-is}
 use Rattle.forest.proofs.Frames.{among, Frame, _then_, frame-vertex, frame-component, frame-bridge-block, same-components, same-bridge-blocks, same-blocks, same-above}
-
--- What one vertex more leaves.
-pub record VertexGrows (caps : Capacities) (n m : ℕ) (t t′ : List ℕ) : Type 0 where
-  pub valid : Valid caps (suc n) m t′
-  pub book : bookOf caps (suc n) m t′ ≡ enterVertex (bookOf caps n m t)
-  pub same-length : length t′ ≡ length t
-  pub beyond : (p : ℕ) → caps .vertices * 24 + caps .edges * 8 ≤ p → getD t′ p 0 ≡ getD t p 0
 
 -- one vertex more changes no edge, and no vertex is on another block
 edge-vertex-more : (g : Network) (e : ℕ) → edge (addVertex g) e ≡ edge g e
@@ -48,55 +45,55 @@ on-block-vertex-more g e x = refl
 square-positive : {a : ℕ} → 1 ≤ a → 0 < a * a
 square-positive {a} h = mul-pos h h
 
-module _ (caps : Capacities) (n m : ℕ) (t : List ℕ) (valid : Valid caps n m t) (room : n < caps .vertices) where
+module _ (limits : Limits) (n m : ℕ) (t : List ℕ) (valid : Valid limits n m t) (room : n < limits .vertices) where
   t₁ : List ℕ
-  t₁ = newGroup t (vertexArea caps) n
+  t₁ = newGroup t (vertexArea limits) n
 
   t₂ : List ℕ
-  t₂ = newGroup t₁ (bridgeBlockArea caps) n
+  t₂ = newGroup t₁ (bridgeBlockArea limits) n
 
   t₃ : List ℕ
-  t₃ = put t₂ (vertexArea caps) 8 n 0
+  t₃ = put t₂ (vertexArea limits) 8 n 0
 
   abbrev t′ : List ℕ
-  t′ = vertexTable t caps n
+  t′ = vertexTable t limits n
 
-  component-step : (vs es : List ℕ) → among vs 0 ≡ true → among vs 1 ≡ true → among vs 2 ≡ true → Frame caps vs es t t₁
+  component-step : (vs es : List ℕ) → among vs 0 ≡ true → among vs 1 ≡ true → among vs 2 ≡ true → Frame limits vs es t t₁
   unfolding t₁
-  component-step vs es = frame-component caps vs es t n room
+  component-step vs es = frame-component limits vs es t n room
 
-  bridge-block-step : (vs es : List ℕ) → among vs 4 ≡ true → among vs 5 ≡ true → among vs 6 ≡ true → Frame caps vs es t₁ t₂
+  bridge-block-step : (vs es : List ℕ) → among vs 4 ≡ true → among vs 5 ≡ true → among vs 6 ≡ true → Frame limits vs es t₁ t₂
   unfolding t₂
-  bridge-block-step vs es = frame-bridge-block caps vs es t₁ n room
+  bridge-block-step vs es = frame-bridge-block limits vs es t₁ n room
 
-  forest-step : (vs es : List ℕ) → among vs 8 ≡ true → among vs 9 ≡ true → Frame caps vs es t₂ t′
+  forest-step : (vs es : List ℕ) → among vs 8 ≡ true → among vs 9 ≡ true → Frame limits vs es t₂ t′
   unfolding vertexTable t₁ t₂ t₃
   forest-step vs es p q =
-      frame-vertex caps vs es t₂ 8 n 0 (omega arith) room p then frame-vertex caps vs es t₃ 9 n 0 (omega arith) room q
+      frame-vertex limits vs es t₂ 8 n 0 (omega arith) room p then frame-vertex limits vs es t₃ 9 n 0 (omega arith) room q
 
   abbrev columns : List ℕ
   columns = 0 ∷ 1 ∷ 2 ∷ 4 ∷ 5 ∷ 6 ∷ 8 ∷ 9 ∷ []
 
-  whole : Frame caps columns [] t t′
+  whole : Frame limits columns [] t t′
   whole =
       component-step columns [] refl refl refl then bridge-block-step columns [] refl refl refl then forest-step columns [] refl refl
 
   abbrev g : Network
-  g = networkOf caps n m t
+  g = networkOf limits n m t
 
-  network-more : networkOf caps (suc n) m t′ ≡ addVertex g
+  network-more : networkOf limits (suc n) m t′ ≡ addVertex g
   unfolding networkOf addVertex
-  network-more = rw (ends-same caps m t t′ (λ s h. whole .edge-word 4 s (omega arith) (omega (arith, valid .edges-fit)) refl))
+  network-more = rw (ends-same limits m t t′ (λ s h. whole .edge-word 4 s (omega arith) (omega (arith, valid .edges-fit)) refl))
 
   -- the new vertex is a component by itself
   component-apart : (x : ℕ) → x < n → component (addVertex g) n x ≡ false
   component-apart x h =
       component-vertex-more g n x
-      ∙ component-alone g (valid .proper) n x (omega (arith, vertex-count caps n m t))
+      ∙ component-alone g (valid .proper) n x (omega (arith, vertex-count limits n m t))
       ∙ ne-eqb n x (λ e. omega arith)
 
   -- components, bridge-blocks and blocks
-  component-first : KindValid t₁ (vertexArea caps) (suc n) (component (addVertex g))
+  component-first : KindValid t₁ (vertexArea limits) (suc n) (component (addVertex g))
   unfolding t₁
   component-first =
       kind-new
@@ -108,7 +105,7 @@ module _ (caps : Capacities) (n m : ℕ) (t : List ℕ) (valid : Valid caps n m 
       (component-groups (addVertex g))
       (valid .components)
 
-  after-components : SameWords t₁ t′ (vertexArea caps) (suc n)
+  after-components : SameWords t₁ t′ (vertexArea limits) (suc n)
   after-components =
       same-components
       (bridge-block-step (4 ∷ 5 ∷ 6 ∷ 8 ∷ 9 ∷ []) [] refl refl refl then forest-step _ _ refl refl)
@@ -118,31 +115,31 @@ module _ (caps : Capacities) (n m : ℕ) (t : List ℕ) (valid : Valid caps n m 
       refl
       refl
 
-  component-names : namesIn t₁ (vertexArea caps) (suc n) ≡ namesIn t (vertexArea caps) n ++ n ∷ []
+  component-names : namesIn t₁ (vertexArea limits) (suc n) ≡ namesIn t (vertexArea limits) n ++ n ∷ []
   unfolding t₁
-  component-names = names-new t (vertexArea caps) n (omega (arith, valid .long)) room
+  component-names = names-new t (vertexArea limits) n (omega (arith, valid .long)) room
 
-  components : KindValid t′ (vertexArea caps) (suc n) (component (addVertex g))
+  components : KindValid t′ (vertexArea limits) (suc n) (component (addVertex g))
   components =
       kind-same
       after-components
       component-first
 
-  before-bridge-blocks : SameWords t t₁ (bridgeBlockArea caps) n
+  before-bridge-blocks : SameWords t t₁ (bridgeBlockArea limits) n
   before-bridge-blocks =
       same-bridge-blocks (component-step (0 ∷ 1 ∷ 2 ∷ []) [] refl refl refl) n (valid .vertices-fit) refl refl refl
 
-  after-bridge-blocks : SameWords t₂ t′ (bridgeBlockArea caps) (suc n)
+  after-bridge-blocks : SameWords t₂ t′ (bridgeBlockArea limits) (suc n)
   after-bridge-blocks = same-bridge-blocks (forest-step (8 ∷ 9 ∷ []) [] refl refl) (suc n) room refl refl refl
 
-  has-bridge-blocks : HasColumns t₁ (bridgeBlockArea caps) 3
+  has-bridge-blocks : HasColumns t₁ (bridgeBlockArea limits) 3
   has-bridge-blocks = omega (arith, valid .long, component-step (0 ∷ 1 ∷ 2 ∷ []) [] refl refl refl .same-length)
 
-  bridge-block-names : namesIn t₂ (bridgeBlockArea caps) (suc n) ≡ namesIn t₁ (bridgeBlockArea caps) n ++ n ∷ []
+  bridge-block-names : namesIn t₂ (bridgeBlockArea limits) (suc n) ≡ namesIn t₁ (bridgeBlockArea limits) n ++ n ∷ []
   unfolding t₂
-  bridge-block-names = names-new t₁ (bridgeBlockArea caps) n has-bridge-blocks room
+  bridge-block-names = names-new t₁ (bridgeBlockArea limits) n has-bridge-blocks room
 
-  bridge-block-first : KindValid t₂ (bridgeBlockArea caps) (suc n) (bridgeBlock (addVertex g))
+  bridge-block-first : KindValid t₂ (bridgeBlockArea limits) (suc n) (bridgeBlock (addVertex g))
   unfolding t₂
   bridge-block-first =
       kind-new
@@ -152,51 +149,51 @@ module _ (caps : Capacities) (n m : ℕ) (t : List ℕ) (valid : Valid caps n m 
       (λ x y h k. sym (bridge-block-vertex-more g x y))
       (λ x h.
       bridge-block-vertex-more g n x
-      ∙ bridge-block-alone g (valid .proper) n x (omega (arith, vertex-count caps n m t))
+      ∙ bridge-block-alone g (valid .proper) n x (omega (arith, vertex-count limits n m t))
       ∙ ne-eqb n x (λ e. omega arith))
       (bridge-block-groups (addVertex g))
       (kind-same before-bridge-blocks (valid .bridge-blocks))
 
-  bridge-blocks-named : KindValid t′ (bridgeBlockArea caps) (suc n) (bridgeBlock (addVertex g))
+  bridge-blocks-named : KindValid t′ (bridgeBlockArea limits) (suc n) (bridgeBlock (addVertex g))
   bridge-blocks-named =
       kind-same
       after-bridge-blocks
       bridge-block-first
 
-  blocks : KindValid t′ (edgeArea caps) m (block (addVertex g))
+  blocks : KindValid t′ (edgeArea limits) m (block (addVertex g))
   blocks =
       kind-agree
       (λ x y h k. sym (block-vertex-more g x y))
       (kind-same (same-blocks whole m (valid .edges-fit) refl refl refl) (valid .blocks))
 
-  groups-step : Frame caps (0 ∷ 1 ∷ 2 ∷ 4 ∷ 5 ∷ 6 ∷ []) [] t t₂
+  groups-step : Frame limits (0 ∷ 1 ∷ 2 ∷ 4 ∷ 5 ∷ 6 ∷ []) [] t t₂
   groups-step = component-step _ _ refl refl refl then bridge-block-step _ _ refl refl refl
 
   -- the words of an old vertex stay
   old-word : (c x : ℕ) → c < 24 → x < n → among (0 ∷ 1 ∷ 2 ∷ 4 ∷ 5 ∷ 6 ∷ []) c ≡ false
-      → cell t′ (vertexArea caps) c x ≡ cell t (vertexArea caps) c x
+      → cell t′ (vertexArea limits) c x ≡ cell t (vertexArea limits) c x
   unfolding vertexTable t₁ t₂ t₃
   old-word c x h l o =
-      cell-put-elsewhere t₃ (vertexArea caps) 9 n 0 c x room (omega arith) (λ e. omega arith)
-      ∙ cell-put-elsewhere t₂ (vertexArea caps) 8 n 0 c x room (omega arith) (λ e. omega arith)
+      cell-put-elsewhere t₃ (vertexArea limits) 9 n 0 c x room (omega arith) (λ e. omega arith)
+      ∙ cell-put-elsewhere t₂ (vertexArea limits) 8 n 0 c x room (omega arith) (λ e. omega arith)
       ∙ groups-step .vertex-word c x h (omega arith) o
 
-  has : HasColumns t₂ (vertexArea caps) 24
+  has : HasColumns t₂ (vertexArea limits) 24
   has = omega (arith, groups-step .same-length, valid .long)
 
   -- the new vertex is a root of depth 0
-  new-up : upOf t′ caps n ≡ 0
+  new-up : upOf t′ limits n ≡ 0
   unfolding vertexTable t₁ t₂ t₃
   new-up =
-      cell-put-other-column t₃ (vertexArea caps) 9 n 0 8 n room room (λ e. omega arith)
-      ∙ cell-put-same t₂ (vertexArea caps) 24 8 n 0 has (omega arith) room
+      cell-put-other-column t₃ (vertexArea limits) 9 n 0 8 n room room (λ e. omega arith)
+      ∙ cell-put-same t₂ (vertexArea limits) 24 8 n 0 has (omega arith) room
 
-  new-depth : depthOf t′ caps n ≡ 0
+  new-depth : depthOf t′ limits n ≡ 0
   unfolding vertexTable t₁ t₂ t₃
   new-depth =
-      cell-put-same t₃ (vertexArea caps) 24 9 n 0 (rw (length-put t₂ (vertexArea caps) 8 n 0) has) (omega arith) room
+      cell-put-same t₃ (vertexArea limits) 24 9 n 0 (rw (length-put t₂ (vertexArea limits) 8 n 0) has) (omega arith) room
 
-  above : (e : ℕ) → e < m → aboveEdge t′ caps e ≡ aboveEdge t caps e
+  above : (e : ℕ) → e < m → aboveEdge t′ limits e ≡ aboveEdge t limits e
   above e h =
       same-above whole e (omega (arith, valid .edges-fit))
       (omega (arith, valid .edges-fit, name-known (valid .blocks) e h)) refl refl
@@ -206,17 +203,17 @@ module _ (caps : Capacities) (n m : ℕ) (t : List ℕ) (valid : Valid caps n m 
       size-others n (component (addVertex g)) x (component-swap (addVertex g) x n ∙ component-apart x h)
       ∙ size-agree n (component (addVertex g)) (component g) x (λ y l. component-vertex-more g x y)
 
-  up-old : (x e : ℕ) → x < suc n → upOf t′ caps x ≡ suc e → (x < n) × (upOf t caps x ≡ suc e)
+  up-old : (x e : ℕ) → x < suc n → upOf t′ limits x ≡ suc e → (x < n) × (upOf t limits x ≡ suc e)
   up-old x e h u = go (below-or-last n x h)
     where
-      go : (x < n) ⊎ (x ≡ n) → (x < n) × (upOf t caps x ≡ suc e)
+      go : (x < n) ⊎ (x ≡ n) → (x < n) × (upOf t limits x ≡ suc e)
       go (inl l) = (l, sym (old-word 8 x (omega arith) l refl) ∙ u)
-      go (inr q) = absurd (omega (arith, sym (ap (upOf t′ caps) q) ∙ u, new-up))
+      go (inr q) = absurd (omega (arith, sym (ap (upOf t′ limits) q) ∙ u, new-up))
 
-  top-old : (e : ℕ) → e < m → aboveEdge t caps e < n
+  top-old : (e : ℕ) → e < m → aboveEdge t limits e < n
   top-old e h = valid .forest .top-known e h
 
-  hangs : (e x : ℕ) → x < n → HangsBelow t caps g e x → HangsBelow t′ caps (addVertex g) e x
+  hangs : (e x : ℕ) → x < n → HangsBelow t limits g e x → HangsBelow t′ limits (addVertex g) e x
   hangs e x l b =
       record {
         by = b .by;
@@ -224,68 +221,71 @@ module _ (caps : Capacities) (n m : ℕ) (t : List ℕ) (valid : Valid caps n m 
         in-block = block-vertex-more g e (b .by) ∙ b .in-block;
       }
 
-  forest : ForestValid t′ caps (suc n) m (addVertex g)
+  forest : ForestValid t′ limits (suc n) m (addVertex g)
   unfolding networkOf
   forest =
       record {
         up-known = λ x e h u. let o = up-old x e h u in valid .forest .up-known x e (o .0) (o .1);
         up-on = λ x e h u. let o = up-old x e h u in on-block-vertex-more g e x ∙ valid .forest .up-on x e (o .0) (o .1);
         top-known = λ e h. rw (above e h) (omega (arith, top-old e h));
-        top-on = λ e h. rw (above e h) (on-block-vertex-more g e (aboveEdge t caps e) ∙ valid .forest .top-on e h);
+        top-on = λ e h. rw (above e h) (on-block-vertex-more g e (aboveEdge t limits e) ∙ valid .forest .top-on e h);
         covers = λ e x h k. covers e x h (rw (edge-vertex-more g e) at k);
         depth-falls = λ x e h u. let o = up-old x e h u in falls x e (o .0) (o .1);
         depth-bound = λ x h. bound x (below-or-last n x h);
       }
     where
-      covers : (e x : ℕ) → e < m → touches (edge g e) x ≡ true → (x ≡ aboveEdge t′ caps e) ⊎ HangsBelow t′ caps (addVertex g) e x
+      covers : (e x : ℕ) → e < m → touches (edge g e) x ≡ true → (x ≡ aboveEdge t′ limits e) ⊎ HangsBelow t′ limits (addVertex g) e x
       covers e x h k =
           ⊎-elim
           (λ q. inl (q ∙ sym (above e h)))
-          (λ b. inr (hangs e x (touched-known g (valid .proper) e x (rw (edge-count caps n m t) h) k) b))
+          (λ b. inr (hangs e x (touched-known g (valid .proper) e x (rw (edge-count limits n m t) h) k) b))
           (valid .forest .covers e x h k)
 
-      falls : (x e : ℕ) → x < n → upOf t caps x ≡ suc e → depthOf t′ caps (aboveEdge t′ caps e) < depthOf t′ caps x
+      falls : (x e : ℕ) → x < n → upOf t limits x ≡ suc e → depthOf t′ limits (aboveEdge t′ limits e) < depthOf t′ limits x
       falls x e l u =
           let h = valid .forest .up-known x e l u in
           rw
-          (above e h, old-word 9 (aboveEdge t caps e) (omega arith) (top-old e h) refl, old-word 9 x (omega arith) l refl)
+          (above e h, old-word 9 (aboveEdge t limits e) (omega arith) (top-old e h) refl, old-word 9 x (omega arith) l refl)
           (valid .forest .depth-falls x e l u)
 
       bound : (x : ℕ) → (x < n) ⊎ (x ≡ n)
-          → depthOf t′ caps x < size (suc n) (component (addVertex g)) x * size (suc n) (component (addVertex g)) x
+          → depthOf t′ limits x < size (suc n) (component (addVertex g)) x * size (suc n) (component (addVertex g)) x
       bound x (inl l) = rw (old-word 9 x (omega arith) l refl, old-size x l) (valid .forest .depth-bound x l)
       bound x (inr q) = rw (q, new-depth) (square-positive (size-positive (suc n) (component (addVertex g)) (component-groups (addVertex g)) n (omega arith)))
 
-  book : bookOf caps (suc n) m t′ ≡ enterVertex (bookOf caps n m t)
+  book : bookOf limits (suc n) m t′ ≡ enterVertex (bookOf limits n m t)
   unfolding bookOf enterVertex networkOf
   book =
       book-is
       network-more
-      (names-same t₁ t′ (vertexArea caps) (suc n) after-components
+      (names-same t₁ t′ (vertexArea limits) (suc n) after-components
       ∙ component-names)
-      (names-same t₂ t′ (bridgeBlockArea caps) (suc n) after-bridge-blocks
+      (names-same t₂ t′ (bridgeBlockArea limits) (suc n) after-bridge-blocks
       ∙ bridge-block-names
-      ∙ ap (λ (l : List ℕ). l ++ n ∷ []) (names-same t t₁ (bridgeBlockArea caps) n before-bridge-blocks))
-      (names-same t t′ (edgeArea caps) m (same-blocks whole m (valid .edges-fit) refl refl refl))
+      ∙ ap (λ (l : List ℕ). l ++ n ∷ []) (names-same t t₁ (bridgeBlockArea limits) n before-bridge-blocks))
+      (names-same t t′ (edgeArea limits) m (same-blocks whole m (valid .edges-fit) refl refl refl))
 
-  -- one vertex more
-  pub vertex-grows : VertexGrows caps n m t (vertexTable t caps n)
-  vertex-grows =
+  valid-after : Valid limits (suc n) m t′
+  valid-after =
       record {
-        valid =
-            record {
-              long = rw (whole .same-length) (valid .long);
-              small-vertices = valid .small-vertices;
-              small-edges = valid .small-edges;
-              vertices-fit = room;
-              edges-fit = valid .edges-fit;
-              proper = rw network-more (proper-vertex-more g (valid .proper));
-              components = rw network-more components;
-              bridge-blocks = rw network-more bridge-blocks-named;
-              blocks = rw network-more blocks;
-              forest = rw network-more forest;
-            };
-        book = book;
-        same-length = whole .same-length;
-        beyond = whole .beyond;
+        long = rw (whole .same-length) (valid .long);
+        small-vertices = valid .small-vertices;
+        small-edges = valid .small-edges;
+        vertices-fit = room;
+        edges-fit = valid .edges-fit;
+        proper = rw network-more (proper-vertex-more g (valid .proper));
+        components = rw network-more components;
+        bridge-blocks = rw network-more bridge-blocks-named;
+        blocks = rw network-more blocks;
+        forest = rw network-more forest;
+      }
+
+  -- one vertex more keeps the promise
+  pub vertex-added : VertexAdded (record { limits = limits; vertices = n; edges = m }) t (vertexTable t limits n)
+  unfolding Holds stateOf afterAddition feed
+  vertex-added =
+      record {
+        holds = rw add-one valid-after;
+        state-is = rw add-one (ap (λ (b : Book). let s : State = record { book = b } in s) book);
+        same-beyond = frame-beyond whole;
       }

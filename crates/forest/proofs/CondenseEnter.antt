@@ -16,14 +16,14 @@ use Rattle.naming.specs.Naming.{Naming}
 use Rattle.naming.proofs.Count.{count-last-in}
 use Rattle.naming.proofs.Equivalent.{Equivalent, group-swap, size-same, size-others, size-at-most}
 use Rattle.table.specs.declared.words.Area.{Area}
-use Rattle.table.specs.declared.words.Capacities.{Capacities}
-use Rattle.table.specs.Layout.{put, edgeArea}
-use Rattle.table.specs.Merge.{nameIn, sizeIn, rangeIn, leastOf, greatestOf}
-use Rattle.table.specs.KindValid.{namesIn, KindValid}
+use Rattle.numbers.specs.declared.Limits.{Limits}
+use Rattle.table.specs.Inside.Layout.{put, edgeArea}
+use Rattle.table.specs.Inside.Merge.{nameIn, sizeIn, rangeIn, leastOf, greatestOf}
+use Rattle.table.specs.Inside.KindValid.{namesIn, KindValid}
 use Rattle.table.proofs.Cells.{HasColumns, length-put, cell-put-same, cell-put-other-column, cell-put-other-item}
-use Rattle.forest.specs.Climb.{topOf}
-use Rattle.forest.specs.Tree.{enterBlock}
-use Rattle.forest.proofs.KindWords.{name-known}
+use Rattle.table.proofs.KindNames.{name-known}
+use Rattle.forest.specs.Inside.Climb.{topOf}
+use Rattle.forest.specs.Inside.Tree.{enterBlock}
 use Rattle.forest.proofs.Frames.{Frame, _then_, frame-edge}
 
 -- an item more in a group makes it larger by one
@@ -31,19 +31,19 @@ size-one-more : (n : ℕ) (groups : Grouping) (x : ℕ) → groups x n ≡ true 
 unfolding size
 size-one-more n groups x e = count-last-in n (groups x) e
 
-module _ (t : List ℕ) (caps : Capacities) (m w v : ℕ) (has : HasColumns t (edgeArea caps) 8) (room : m < caps .edges) (known : w < m) where
+module _ (t : List ℕ) (limits : Limits) (m w v : ℕ) (has : HasColumns t (edgeArea limits) 8) (room : m < limits .edges) (known : w < m) where
   abbrev area : Area
-  area = edgeArea caps
+  area = edgeArea limits
 
   abbrev t′ : List ℕ
-  t′ = enterBlock t caps m w v
+  t′ = enterBlock t limits m w v
 
   -- The size and the range that are stored.
   abbrev larger : ℕ
-  larger = (sizeIn t (edgeArea caps) w + 1) % 2 ^ 32
+  larger = (sizeIn t (edgeArea limits) w + 1) % 2 ^ 32
 
   abbrev wider : ℕ
-  wider = leastOf (rangeIn t (edgeArea caps) w) * 65536 + m % 65536
+  wider = leastOf (rangeIn t (edgeArea limits) w) * 65536 + m % 65536
 
   t₁ : List ℕ
   t₁ = put t area 0 m w
@@ -54,11 +54,11 @@ module _ (t : List ℕ) (caps : Capacities) (m w v : ℕ) (has : HasColumns t (e
   t₃ : List ℕ
   t₃ = put t₂ area 2 w wider
 
-  entered : enterBlock t caps m w v ≡ put t₃ area 5 w v
+  entered : enterBlock t limits m w v ≡ put t₃ area 5 w v
   unfolding enterBlock t₁ t₂ t₃
   entered = refl
 
-  wide : w < caps .edges
+  wide : w < limits .edges
   wide = omega arith
 
   same-length : (length t₁ ≡ length t) × (length t₂ ≡ length t) × (length t₃ ≡ length t)
@@ -70,16 +70,16 @@ module _ (t : List ℕ) (caps : Capacities) (m w v : ℕ) (has : HasColumns t (e
   )
 
   -- the columns in which words change
-  pub frame-enter : Frame caps [] (0 ∷ 1 ∷ 2 ∷ 5 ∷ []) t (enterBlock t caps m w v)
+  pub frame-enter : Frame limits [] (0 ∷ 1 ∷ 2 ∷ 5 ∷ []) t (enterBlock t limits m w v)
   unfolding t₁ t₂ t₃
   frame-enter =
       rw entered
-      (frame-edge caps [] _ t 0 m w (omega arith) room refl
-      then frame-edge caps [] _ t₁ 1 w larger (omega arith) wide refl
-      then frame-edge caps [] _ t₂ 2 w wider (omega arith) wide refl
-      then frame-edge caps [] _ t₃ 5 w v (omega arith) wide refl)
+      (frame-edge limits [] _ t 0 m w (omega arith) room refl
+      then frame-edge limits [] _ t₁ 1 w larger (omega arith) wide refl
+      then frame-edge limits [] _ t₂ 2 w wider (omega arith) wide refl
+      then frame-edge limits [] _ t₃ 5 w v (omega arith) wide refl)
 
-  name-before : (x : ℕ) → x < caps .edges → nameIn t′ area x ≡ nameIn t₁ area x
+  name-before : (x : ℕ) → x < limits .edges → nameIn t′ area x ≡ nameIn t₁ area x
   unfolding t₂ t₃
   name-before x h =
       rw entered
@@ -88,16 +88,16 @@ module _ (t : List ℕ) (caps : Capacities) (m w v : ℕ) (has : HasColumns t (e
       ∙ cell-put-other-column t₁ area 1 w larger 0 x wide h (λ e. omega arith))
 
   -- the new edge has the block's name
-  pub enter-name : nameIn (enterBlock t caps m w v) (edgeArea caps) m ≡ w
+  pub enter-name : nameIn (enterBlock t limits m w v) (edgeArea limits) m ≡ w
   unfolding t₁
   enter-name = name-before m room ∙ cell-put-same t area 8 0 m w has (omega arith) room
 
   -- every other edge keeps its name
-  pub enter-name-old : (x : ℕ) → x < m → nameIn (enterBlock t caps m w v) (edgeArea caps) x ≡ nameIn t (edgeArea caps) x
+  pub enter-name-old : (x : ℕ) → x < m → nameIn (enterBlock t limits m w v) (edgeArea limits) x ≡ nameIn t (edgeArea limits) x
   unfolding t₁
   enter-name-old x h = name-before x (omega arith) ∙ cell-put-other-item t area 0 m w x (λ e. omega arith)
 
-  size-before : (x : ℕ) → x < caps .edges → sizeIn t′ area x ≡ sizeIn t₂ area x
+  size-before : (x : ℕ) → x < limits .edges → sizeIn t′ area x ≡ sizeIn t₂ area x
   unfolding t₃
   size-before x h =
       rw entered
@@ -108,7 +108,7 @@ module _ (t : List ℕ) (caps : Capacities) (m w v : ℕ) (has : HasColumns t (e
   unfolding t₂
   size-is = size-before w wide ∙ cell-put-same t₁ area 8 1 w larger (rw (same-length .0) has) (omega arith) wide
 
-  size-old : (x : ℕ) → x < caps .edges → (w ≡ x → ⊥) → sizeIn t′ area x ≡ sizeIn t area x
+  size-old : (x : ℕ) → x < limits .edges → (w ≡ x → ⊥) → sizeIn t′ area x ≡ sizeIn t area x
   unfolding t₁ t₂
   size-old x h d =
       size-before x h
@@ -122,7 +122,7 @@ module _ (t : List ℕ) (caps : Capacities) (m w v : ℕ) (has : HasColumns t (e
       (cell-put-other-column t₃ area 5 w v 2 w wide wide (λ e. omega arith)
       ∙ cell-put-same t₂ area 8 2 w wider (rw (same-length .1) has) (omega arith) wide)
 
-  range-old : (x : ℕ) → x < caps .edges → (w ≡ x → ⊥) → rangeIn t′ area x ≡ rangeIn t area x
+  range-old : (x : ℕ) → x < limits .edges → (w ≡ x → ⊥) → rangeIn t′ area x ≡ rangeIn t area x
   unfolding t₁ t₂ t₃
   range-old x h d =
       rw entered
@@ -132,11 +132,11 @@ module _ (t : List ℕ) (caps : Capacities) (m w v : ℕ) (has : HasColumns t (e
       ∙ cell-put-other-column t area 0 m w 2 x room h (λ e. omega arith))
 
   -- the block hangs below the given vertex
-  pub enter-top : topOf (enterBlock t caps m w v) caps w ≡ v
+  pub enter-top : topOf (enterBlock t limits m w v) limits w ≡ v
   enter-top = rw entered (cell-put-same t₃ area 8 5 w v (rw (same-length .2) has) (omega arith) wide)
 
   -- every other block hangs where it hung
-  pub enter-top-old : (x : ℕ) → x < caps .edges → (w ≡ x → ⊥) → topOf (enterBlock t caps m w v) caps x ≡ topOf t caps x
+  pub enter-top-old : (x : ℕ) → x < limits .edges → (w ≡ x → ⊥) → topOf (enterBlock t limits m w v) limits x ≡ topOf t limits x
   unfolding t₁ t₂ t₃
   enter-top-old x h d =
       rw entered
@@ -145,9 +145,9 @@ module _ (t : List ℕ) (caps : Capacities) (m w v : ℕ) (has : HasColumns t (e
       ∙ cell-put-other-column t₁ area 1 w larger 5 x wide h (λ e. omega arith)
       ∙ cell-put-other-column t area 0 m w 5 x room h (λ e. omega arith))
 
-  module _ (small : m < 65536) (groups : Grouping) (e : Equivalent groups) (valid : KindValid t (edgeArea caps) m groups)
-      (self : nameIn t (edgeArea caps) w ≡ w) (joins : (x : ℕ) → x < m → groups m x ≡ eqb (nameIn t (edgeArea caps) x) w)
-      (named : Naming (suc m) groups (namesIn (enterBlock t caps m w v) (edgeArea caps) (suc m))) where
+  module _ (small : m < 65536) (groups : Grouping) (e : Equivalent groups) (valid : KindValid t (edgeArea limits) m groups)
+      (self : nameIn t (edgeArea limits) w ≡ w) (joins : (x : ℕ) → x < m → groups m x ≡ eqb (nameIn t (edgeArea limits) x) w)
+      (named : Naming (suc m) groups (namesIn (enterBlock t limits m w v) (edgeArea limits) (suc m))) where
     with-winner : groups m w ≡ true
     with-winner = joins w known ∙ eq-eqb (nameIn t area w) w self
 
@@ -193,7 +193,7 @@ module _ (t : List ℕ) (caps : Capacities) (m w v : ℕ) (has : HasColumns t (e
             rw q (winner enter-name with-winner (omega (arith, winner-least)))
 
     -- the words of the blocks stay valid with the new edge
-    pub kind-enter : KindValid (enterBlock t caps m w v) (edgeArea caps) (suc m) groups
+    pub kind-enter : KindValid (enterBlock t limits m w v) (edgeArea limits) (suc m) groups
     kind-enter =
         record {
           named = named;
@@ -203,7 +203,7 @@ module _ (t : List ℕ) (caps : Capacities) (m w v : ℕ) (has : HasColumns t (e
           range-known = λ x h. ends x (sort x h);
         }
       where
-        wide-name : (x : ℕ) → x < m → nameIn t area x < caps .edges
+        wide-name : (x : ℕ) → x < m → nameIn t area x < limits .edges
         wide-name x l = omega (arith, name-known valid x l)
 
         sized : (x : ℕ) → Sort x → sizeIn t′ area (nameIn t′ area x) ≡ size (suc m) groups x

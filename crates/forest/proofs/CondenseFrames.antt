@@ -9,8 +9,8 @@ use native.Mathlib.Omega.{arith}
 use lib.Arith.{digits-lt}
 use lib.Dec.{ltb}
 use Rattle.graph.proofs.Truth.{true-or-false, ltb-lt, ltb-ge}
-use Rattle.table.specs.declared.words.Capacities.{Capacities}
-use Rattle.table.specs.Layout.{place, cell, bridgeBlockArea, edgeArea}
+use Rattle.numbers.specs.declared.Limits.{Limits}
+use Rattle.table.specs.Inside.Layout.{place, cell, bridgeBlockArea, edgeArea}
 use Rattle.table.proofs.MergeKept.{Outside, Kept}
 use Rattle.forest.proofs.Frames.{among, Frame, other-column}
 
@@ -22,9 +22,9 @@ place-behind : (size c k x : ℕ) → k ≤ c → k * size ≤ 0 + c * size + x
 place-behind size c k x h = omega (arith, mul-le-mul-right size h)
 
 -- merging bridge-blocks stores in their columns
-pub frame-merge-bridge-blocks : (caps : Capacities) {t t′ : List ℕ} → Kept (bridgeBlockArea caps) t t′ → Frame caps (4 ∷ 5 ∷ 6 ∷ 7 ∷ []) [] t t′
+pub frame-merge-bridge-blocks : (limits : Limits) {t t′ : List ℕ} → Kept (bridgeBlockArea limits) t t′ → Frame limits (4 ∷ 5 ∷ 6 ∷ 7 ∷ []) [] t t′
 unfolding cell place
-frame-merge-bridge-blocks caps k =
+frame-merge-bridge-blocks limits k =
     record {
       same-length = k .same-length;
       vertex-word = λ c x h l o. k .outside _ (apart c x l o (true-or-false (ltb c 4)));
@@ -38,19 +38,19 @@ frame-merge-bridge-blocks caps k =
         other : (d c : ℕ) → among (4 ∷ 5 ∷ 6 ∷ 7 ∷ []) d ≡ true → among (4 ∷ 5 ∷ 6 ∷ 7 ∷ []) c ≡ false → d ≡ c → ⊥
         other = other-column (4 ∷ 5 ∷ 6 ∷ 7 ∷ [])
 
-    apart : (c x : ℕ) → x < caps .vertices → among (4 ∷ 5 ∷ 6 ∷ 7 ∷ []) c ≡ false → (ltb c 4 ≡ true) ⊎ (ltb c 4 ≡ false)
-        → Outside (bridgeBlockArea caps) (0 + c * caps .vertices + x)
-    apart c x l o (inl h) i j = omega (arith, place-before (caps .vertices) c 4 x (ltb-lt c 4 h) l)
-    apart c x l o (inr h) i j = omega (arith, place-behind (caps .vertices) c 8 x (behind c o (ltb-ge c 4 h)))
+    apart : (c x : ℕ) → x < limits .vertices → among (4 ∷ 5 ∷ 6 ∷ 7 ∷ []) c ≡ false → (ltb c 4 ≡ true) ⊎ (ltb c 4 ≡ false)
+        → Outside (bridgeBlockArea limits) (0 + c * limits .vertices + x)
+    apart c x l o (inl h) i j = omega (arith, place-before (limits .vertices) c 4 x (ltb-lt c 4 h) l)
+    apart c x l o (inr h) i j = omega (arith, place-behind (limits .vertices) c 8 x (behind c o (ltb-ge c 4 h)))
 
 -- merging blocks stores in theirs
-pub frame-merge-blocks : (caps : Capacities) {t t′ : List ℕ} → Kept (edgeArea caps) t t′ → Frame caps [] (0 ∷ 1 ∷ 2 ∷ 3 ∷ []) t t′
+pub frame-merge-blocks : (limits : Limits) {t t′ : List ℕ} → Kept (edgeArea limits) t t′ → Frame limits [] (0 ∷ 1 ∷ 2 ∷ 3 ∷ []) t t′
 unfolding cell place
-frame-merge-blocks caps k =
+frame-merge-blocks limits k =
     record {
       same-length = k .same-length;
-      vertex-word = λ c x h l o. k .outside _ (λ i j. omega (arith, place-before (caps .vertices) c 24 x h l));
-      edge-word = λ d s h l o. k .outside _ (λ i j. omega (arith, place-behind (caps .edges) d 4 s (behind d o)));
+      vertex-word = λ c x h l o. k .outside _ (λ i j. omega (arith, place-before (limits .vertices) c 24 x h l));
+      edge-word = λ d s h l o. k .outside _ (λ i j. omega (arith, place-behind (limits .edges) d 4 s (behind d o)));
       beyond = λ p h. k .outside p (λ i j. omega arith);
     }
   where

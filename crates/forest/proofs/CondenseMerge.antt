@@ -9,18 +9,18 @@ use Rattle.graph.specs.Below.{tabulate}
 use Rattle.naming.specs.Rename.{Grouping, nameOf, Candidate, candidate, bestOf, rename}
 use Rattle.naming.specs.Naming.{Naming}
 use Rattle.naming.proofs.Equivalent.{Equivalent}
-use Rattle.naming.proofs.Listed.{tabulate-same}
+use Rattle.naming.proofs.Listed.{tabulate-first}
 use Rattle.naming.proofs.Naming.{naming-new-item, nameOf-old}
 use Rattle.naming.proofs.Merge.{inMerged, Merges, merge-best, merge-stays}
 use Rattle.naming.proofs.Single.{new-item-never-wins}
 use Rattle.table.specs.declared.words.Area.{Area}
 use Rattle.table.specs.declared.merge.Listing.{Listing}
-use Rattle.table.specs.Merge.{itemOf, itemsFrom, bestListed, mergeListed}
-use Rattle.table.specs.KindValid.{KindValid}
+use Rattle.table.specs.Inside.Merge.{itemOf, itemsFrom, bestListed, mergeListed}
+use Rattle.table.specs.Inside.KindValid.{KindValid}
 use Rattle.table.proofs.Cells.{HasColumns}
 use Rattle.table.proofs.MergeKept.{ListedOutside}
 use Rattle.table.proofs.MergeLaw.{MergedTo, merge-law, naming-merged}
-use Rattle.forest.proofs.CondenseLists.{tabulate-first, items-tabulate}
+use Rattle.forest.proofs.Values.{items-tabulate}
 
 -- The items of a listing, as a list of values.
 abbrev pub listedItems : List ℕ → Listing → List ℕ
@@ -37,10 +37,7 @@ items-first t l h =
 
 -- the merge reads the same items
 pub items-are : (t : List ℕ) (l : Listing) → 0 < l .count → itemsFrom t l 0 (l .count) ≡ itemOf t l 0 ∷ laterItems t l
-items-are t l h =
-    items-tabulate t l 0 (l .count)
-    ∙ tabulate-same (l .count) _ _ (λ j k. ap (itemOf t l) (omega arith))
-    ∙ items-first t l h
+items-are t l h = items-tabulate t l (l .count) ∙ items-first t l h
 
 module _ (t : List ℕ) (area : Area) (n : ℕ) (columns : HasColumns t area 4) (fits : n ≤ area .size) (small : n < 65536)
     (before after : Grouping) (e : Equivalent before) (e′ : Equivalent after) (valid : KindValid t area n before)

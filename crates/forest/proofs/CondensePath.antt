@@ -1,90 +1,131 @@
 -- The path that is written down: which groups one edge more between its ends makes one.
-use mathlib.Core.Bool.{Bool, _&&_, _||_}
+use mathlib.Core.Bool.{Bool, false, _&&_, _||_}
 use mathlib.Core.List.{List, _∷_, map}
-use mathlib.Core.Path.{_≡_, sym, _∙_, ap, ap₂}
-use Prim.Native.Nat.{ℕ, suc, _<_}
+use mathlib.Core.Path.{_≡_, refl, sym, _∙_, ap, ap₂, subst}
+use Prim.Native.Nat.{ℕ, suc, _≤_, _<_}
 use native.Mathlib.Omega.{arith}
+use lib.Dec.{eqb}
+use lib.ListN.{length}
 use Rattle.graph.specs.Below.{tabulate}
-use Rattle.graph.specs.Network.{Network, Edge, Proper, never, edgeCount, addEdge}
+use Rattle.graph.specs.Network.{Network}
 use Rattle.graph.specs.Groups.{bridgeBlock}
 use Rattle.graph.specs.Cycle.{Step}
 use Rattle.graph.specs.Block.{block}
 use Rattle.graph.specs.BlockPath.{BlockPath}
-use Rattle.graph.proofs.Truth.{ne-eqb, eqb-swap}
-use Rattle.graph.proofs.Grows.{block-next}
+use Rattle.graph.proofs.Truth.{eqb-swap}
 use Rattle.graph.proofs.EdgeMoreBlocks.{onPath, joinsPath, block-edge-within}
 use Rattle.graph.proofs.EdgeMoreBridgeBlocks.{onBridgeBlocks}
 use Rattle.graph.proofs.BaseRule.{bridge-block-edge-within-never}
+use Rattle.naming.proofs.Listed.{tabulate-first, map-tabulate}
 use Rattle.naming.proofs.Merge.{inMerged}
-use Rattle.table.specs.declared.words.Capacities.{Capacities}
-use Rattle.forest.specs.Climb.{pathVertex, pathEdge}
-use Rattle.forest.specs.Route.{stepAt, stepsOf}
-use Rattle.forest.proofs.CondenseLists.{tabulate-first, map-tabulate, in-merged-steps}
+use Rattle.numbers.specs.declared.Limits.{Limits}
+use Rattle.forest.specs.Inside.Climb.{pathVertex, pathEdge}
+use Rattle.forest.specs.Inside.Route.{stepAt, stepsOf}
+use Rattle.forest.specs.Inside.Valid.{networkOf}
+use Rattle.forest.proofs.Networks.{edge-count}
+use Rattle.forest.proofs.Frames.{among, Frame}
+use Rattle.forest.proofs.EdgeToAdd.{EdgeToAdd, edgeOf, before, after, proper-after, number-alone, number-apart}
+use Rattle.forest.proofs.Values.{in-merged-steps}
+use Rattle.forest.proofs.ClimbStore.{steps-same}
 
 -- The first k edges of the path that is written down.
-abbrev pub edgesOf : List ℕ → Capacities → ℕ → List ℕ
-edgesOf t caps k = tabulate k (λ i. pathEdge t caps i)
+abbrev pub edgesOf : List ℕ → Limits → ℕ → List ℕ
+edgesOf t limits k = tabulate k (λ i. pathEdge t limits i)
 
 -- The first k vertices of that path.
-abbrev pub verticesOf : List ℕ → Capacities → ℕ → List ℕ
-verticesOf t caps k = tabulate k (λ i. pathVertex t caps i)
+abbrev pub verticesOf : List ℕ → Limits → ℕ → List ℕ
+verticesOf t limits k = tabulate k (λ i. pathVertex t limits i)
 
-module _ (g : Network) (a b : ℕ) (caps : Capacities) (t : List ℕ) (k : ℕ)
-    (path : BlockPath g a (stepsOf t caps k) b) (start : pathVertex t caps 0 ≡ a) where
+-- A path of blocks between the ends of the new edge, written down in a table as long as the given one: k steps, at least one, over
+-- vertices and edges that the network has.
+pub record PathWritten (new : EdgeToAdd) (t : List ℕ) (k : ℕ) : Type 0 where
+  pub as-long : length t ≡ length (new .t)
+  pub start : pathVertex t (new .limits) 0 ≡ new .a
+  pub path : BlockPath (before new) (new .a) (stepsOf t (new .limits) k) (new .b)
+  pub some : 0 < k
+  pub few : k < new .n
+  pub vertices-known : (i : ℕ) → i ≤ k → pathVertex t (new .limits) i < new .n
+  pub edges-known : (i : ℕ) → i < k → pathEdge t (new .limits) i < new .m
+
+-- it stays written where its columns stay
+pub path-kept : {new : EdgeToAdd} {vs es t t′ : List ℕ} {k : ℕ} → PathWritten new t k → Frame (new .limits) vs es t t′
+    → among vs 10 ≡ false → among vs 11 ≡ false → PathWritten new t′ k
+path-kept {new} {vs} {es} {t} {t′} {k} w f p q =
+    record {
+      as-long = f .same-length ∙ w .as-long;
+      start = vertex 0 (omega arith) ∙ w .start;
+      path = subst (λ ps. BlockPath (before new) (new .a) ps (new .b)) (sym (steps-same t t′ (new .limits) k edge (λ i h. vertex (suc i) h))) (w .path);
+      some = w .some;
+      few = w .few;
+      vertices-known = λ i h. rw (vertex i h) (w .vertices-known i h);
+      edges-known = λ i h. rw (edge i h) (w .edges-known i h);
+    }
+  where
+    room : k < new .limits .vertices
+    room = omega (arith, w .few, new .valid .vertices-fit)
+
+    vertex : (i : ℕ) → i ≤ k → pathVertex t′ (new .limits) i ≡ pathVertex t (new .limits) i
+    vertex i h = f .vertex-word 10 i (omega arith) (omega (arith, room)) p
+
+    edge : (i : ℕ) → i < k → pathEdge t′ (new .limits) i ≡ pathEdge t (new .limits) i
+    edge i h = f .vertex-word 11 i (omega arith) (omega (arith, room)) q
+
+module _ {new : EdgeToAdd} {t : List ℕ} {k : ℕ} (w : PathWritten new t k) where
+  open EdgeToAdd new using (limits, n, m, valid, a, b)
+
+  abbrev g : Network
+  g = before new
+
   abbrev steps : List Step
-  steps = stepsOf t caps k
+  steps = stepsOf t limits k
 
-  edges-are : map (λ p. p .along) steps ≡ edgesOf t caps k
+  edges-are : map (λ p. p .along) steps ≡ edgesOf t limits k
   unfolding stepsOf stepAt
   edges-are = map-tabulate (λ (p : Step). p .along) k _
 
-  vertices-are : a ∷ map (λ p. p .to) steps ≡ verticesOf t caps (suc k)
+  vertices-are : a ∷ map (λ p. p .to) steps ≡ verticesOf t limits (suc k)
   unfolding stepsOf stepAt
   vertices-are =
-      ap₂ _∷_ (sym start) (map-tabulate (λ (p : Step). p .to) k _)
-      ∙ sym (tabulate-first k (λ i. pathVertex t caps i))
+      ap₂ _∷_ (sym (w .start)) (map-tabulate (λ (p : Step). p .to) k _)
+      ∙ sym (tabulate-first k (λ i. pathVertex t limits i))
 
   -- an edge is in a block of the path
-  on-path-merged : (s : ℕ) → onPath g steps s ≡ inMerged (block g) (edgesOf t caps k) s
+  on-path-merged : (s : ℕ) → onPath g steps s ≡ inMerged (block g) (edgesOf t limits k) s
   on-path-merged s = sym (in-merged-steps (block g) (λ p. p .along) steps s) ∙ ap (λ (l : List ℕ). inMerged (block g) l s) edges-are
 
   -- a vertex is in the bridge-block of a vertex of the path
-  on-bridge-blocks-merged : (x : ℕ) → onBridgeBlocks g a steps x ≡ inMerged (bridgeBlock g) (verticesOf t caps (suc k)) x
+  on-bridge-blocks-merged : (x : ℕ) → onBridgeBlocks g a steps x ≡ inMerged (bridgeBlock g) (verticesOf t limits (suc k)) x
   unfolding onBridgeBlocks inMerged
   on-bridge-blocks-merged x =
       ap (λ (c : Bool). bridgeBlock g a x || c) (sym (in-merged-steps (bridgeBlock g) (λ p. p .to) steps x))
       ∙ ap (λ (l : List ℕ). inMerged (bridgeBlock g) l x) vertices-are
 
-  module _ (proper : Proper g) (none : g .rule ≡ never) (proper′ : Proper (addEdge g (record { left = a; right = b }))) where
-    abbrev e : Edge
-    e = record { left = a; right = b }
+  -- with one edge more between its ends, the bridge-blocks of the path's vertices become one
+  pub bridge-blocks-merge : (x y : ℕ)
+      → bridgeBlock (after new) x y
+      ≡ (bridgeBlock (before new) x y
+      || (inMerged (bridgeBlock (before new)) (verticesOf t limits (suc k)) x && inMerged (bridgeBlock (before new)) (verticesOf t limits (suc k)) y))
+  unfolding networkOf
+  bridge-blocks-merge x y =
+      bridge-block-edge-within-never g (edgeOf new) (valid .proper) refl (w .path) x y
+      ∙ ap₂ (λ c d. bridgeBlock g x y || (c && d)) (on-bridge-blocks-merged x) (on-bridge-blocks-merged y)
 
-    -- with one edge more between its ends, the bridge-blocks of the path's vertices become one
-    pub bridge-blocks-merge : (x y : ℕ)
-        → bridgeBlock (addEdge g (record { left = a; right = b })) x y
-        ≡ (bridgeBlock g x y
-        || (inMerged (bridgeBlock g) (verticesOf t caps (suc k)) x && inMerged (bridgeBlock g) (verticesOf t caps (suc k)) y))
-    bridge-blocks-merge x y =
-        bridge-block-edge-within-never g e proper none path x y
-        ∙ ap₂ (λ c d. bridgeBlock g x y || (c && d)) (on-bridge-blocks-merged x) (on-bridge-blocks-merged y)
+  joins-merged : (s : ℕ) → joinsPath g steps s ≡ inMerged (block g) (m ∷ edgesOf t limits k) s
+  unfolding joinsPath inMerged
+  joins-merged s =
+      ap₂ _||_ (ap (eqb s) (edge-count limits n m (new .t)) ∙ eqb-swap s m ∙ sym (number-alone new s)) (on-path-merged s)
 
-    joins-merged : (s : ℕ) → joinsPath g steps s ≡ inMerged (block g) (edgeCount g ∷ edgesOf t caps k) s
-    unfolding joinsPath inMerged
-    joins-merged s = ap₂ _||_ (eqb-swap s (edgeCount g) ∙ sym (block-next g s)) (on-path-merged s)
-
-    -- the blocks of the path and the new edge become one
-    pub blocks-merge : (s t′ : ℕ)
-        → block (addEdge g (record { left = a; right = b })) s t′
-        ≡ (block g s t′
-        || (inMerged (block g) (edgeCount g ∷ edgesOf t caps k) s && inMerged (block g) (edgeCount g ∷ edgesOf t caps k) t′))
-    blocks-merge s t′ =
-        block-edge-within g e proper proper′ path s t′
-        ∙ ap₂ (λ c d. block g s t′ || (c && d)) (joins-merged s) (joins-merged t′)
+  -- the blocks of the path and the new edge become one
+  pub blocks-merge : (s u : ℕ)
+      → block (after new) s u
+      ≡ (block (before new) s u
+      || (inMerged (block (before new)) (m ∷ edgesOf t limits k) s && inMerged (block (before new)) (m ∷ edgesOf t limits k) u))
+  blocks-merge s u =
+      block-edge-within g (edgeOf new) (valid .proper) (proper-after new) (w .path) s u
+      ∙ ap₂ (λ c d. block g s u || (c && d)) (joins-merged s) (joins-merged u)
 
   -- an old edge is in those blocks exactly if it is in one of the path
-  pub merged-old : (s : ℕ) → s < edgeCount g
-      → inMerged (block g) (edgeCount g ∷ edgesOf t caps k) s ≡ inMerged (block g) (edgesOf t caps k) s
+  pub merged-old : (s : ℕ) → s < m
+      → inMerged (block (before new)) (m ∷ edgesOf t limits k) s ≡ inMerged (block (before new)) (edgesOf t limits k) s
   unfolding inMerged
-  merged-old s h =
-      ap (λ (c : Bool). c || inMerged (block g) (edgesOf t caps k) s)
-      (block-next g s ∙ ne-eqb (edgeCount g) s (λ q. omega arith))
+  merged-old s h = ap (λ (c : Bool). c || inMerged (block g) (edgesOf t limits k) s) (number-apart new s h)

@@ -1,19 +1,21 @@
--- A table without vertices and edges: it is valid, and holds the empty naming book.
+-- A table without vertices and edges holds the empty naming book.
 use mathlib.Core.List.{List}
 use mathlib.Core.Path.{_≡_, refl}
-use Prim.Native.Nat.{ℕ, _+_, _*_, _≤_}
+use Prim.Native.Nat.{ℕ, _≤_}
 use native.Mathlib.Nat.{not-suc-le-zero}
 use native.Mathlib.Omega.{arith}
 use lib.ListN.{length}
 use Rattle.graph.specs.Below.{tabulate}
-use Rattle.graph.specs.Network.{Network, Proper, never, edgeCount}
+use Rattle.graph.specs.Network.{Network, Proper, edgeCount}
 use Rattle.naming.specs.Rename.{Grouping}
 use Rattle.naming.specs.Book.{emptyBook}
+use Rattle.naming.specs.State.{emptyState}
 use Rattle.naming.proofs.Naming.{naming-none}
-use Rattle.table.specs.declared.words.Capacities.{Capacities}
+use Rattle.numbers.specs.declared.Limits.{Limits}
 use Rattle.table.specs.declared.words.Area.{Area}
-use Rattle.table.specs.KindValid.{namesIn, KindValid}
-use Rattle.forest.specs.Valid.{networkOf, bookOf, ForestValid, Valid}
+use Rattle.table.specs.Inside.KindValid.{namesIn, KindValid}
+use Rattle.forest.specs.Inside.Valid.{networkOf, bookOf, ForestValid}
+use Rattle.forest.specs.Promise.{wordsNeeded, Holds, stateOf, Begun}
 use Rattle.forest.proofs.Networks.{edge-count}
 
 -- no items of a kind
@@ -29,8 +31,8 @@ kind-none t area groups =
     }
 
 -- no vertices and no edges in a forest
-forest-none : (t : List ℕ) (caps : Capacities) (g : Network) → ForestValid t caps 0 0 g
-forest-none t caps g =
+forest-none : (t : List ℕ) (limits : Limits) (g : Network) → ForestValid t limits 0 0 g
+forest-none t limits g =
     record {
       up-known = λ x e h. absurd (not-suc-le-zero h);
       up-on = λ x e h. absurd (not-suc-le-zero h);
@@ -50,24 +52,25 @@ proper-none g e =
       no-loop = λ s h. absurd (omega arith);
     }
 
--- any table that is long enough is valid with no vertices and no edges
-pub empty-valid : (caps : Capacities) (t : List ℕ) → caps .vertices * 24 + caps .edges * 8 ≤ length t
-    → caps .vertices ≤ 4096 → caps .edges ≤ 8192 → Valid caps 0 0 t
-empty-valid caps t long vertices edges =
+-- any table that is long enough holds no vertices and no edges, and the empty book
+pub begun : (limits : Limits) (t : List ℕ) → wordsNeeded limits ≤ length t → limits .vertices ≤ 4096 → limits .edges ≤ 8192
+    → Begun limits t (record { limits = limits; vertices = 0; edges = 0 })
+unfolding wordsNeeded Holds stateOf bookOf emptyState emptyBook networkOf namesIn tabulate
+begun limits t long vertices edges =
     record {
-      long = long;
-      small-vertices = vertices;
-      small-edges = edges;
-      vertices-fit = omega arith;
-      edges-fit = omega arith;
-      proper = proper-none (networkOf caps 0 0 t) (edge-count caps 0 0 t);
-      components = kind-none t _ _;
-      bridge-blocks = kind-none t _ _;
-      blocks = kind-none t _ _;
-      forest = forest-none t caps _;
+      shape-is = refl;
+      holds =
+          record {
+            long = long;
+            small-vertices = vertices;
+            small-edges = edges;
+            vertices-fit = omega arith;
+            edges-fit = omega arith;
+            proper = proper-none (networkOf limits 0 0 t) (edge-count limits 0 0 t);
+            components = kind-none t _ _;
+            bridge-blocks = kind-none t _ _;
+            blocks = kind-none t _ _;
+            forest = forest-none t limits _;
+          };
+      state-is = refl;
     }
-
--- and holds the empty book
-pub empty-book : (caps : Capacities) (t : List ℕ) → bookOf caps 0 0 t ≡ emptyBook never
-unfolding bookOf emptyBook networkOf namesIn tabulate
-empty-book caps t = refl

@@ -8,12 +8,12 @@ use native.Mathlib.Omega.{arith}
 use lib.Dec.{eqb}
 use lib.ListN.{length, getD}
 use Rattle.graph.proofs.Truth.{not-both, or-neither, and-left, and-right, ne-eqb}
-use Rattle.table.specs.declared.words.Capacities.{Capacities}
-use Rattle.table.specs.Layout.{place, cell, put, vertexArea, bridgeBlockArea, edgeArea}
+use Rattle.numbers.specs.declared.Limits.{Limits}
+use Rattle.table.specs.Inside.Layout.{place, cell, put, vertexArea, bridgeBlockArea, edgeArea}
 use Rattle.table.proofs.Cells.{length-put, cell-put-other-column, getD-put-outside, cell-edge-after-vertex, cell-vertex-after-edge, cell-bridge-block, put-bridge-block}
 use Rattle.table.proofs.MergeKept.{Kept}
-use Rattle.forest.specs.Climb.{blockOf, aboveEdge}
-use Rattle.forest.specs.Tree.{newGroup}
+use Rattle.forest.specs.Inside.Climb.{blockOf, aboveEdge}
+use Rattle.forest.specs.Inside.Tree.{newGroup}
 use Rattle.forest.proofs.KindWords.{SameWords}
 
 -- Column c is among those listed.
@@ -22,17 +22,17 @@ among [] c = false
 among (d ∷ ds) c = eqb c d || among ds c
 
 -- The second table has the words of the first, but for the listed columns of vertices and of edges.
-pub record Frame (caps : Capacities) (vs es : List ℕ) (t t′ : List ℕ) : Type 0 where
+pub record Frame (limits : Limits) (vs es : List ℕ) (t t′ : List ℕ) : Type 0 where
   pub same-length : length t′ ≡ length t
-  pub vertex-word : (c x : ℕ) → c < 24 → x < caps .vertices → among vs c ≡ false
-      → cell t′ (vertexArea caps) c x ≡ cell t (vertexArea caps) c x
-  pub edge-word : (d s : ℕ) → d < 8 → s < caps .edges → among es d ≡ false
-      → cell t′ (edgeArea caps) d s ≡ cell t (edgeArea caps) d s
-  pub beyond : (p : ℕ) → caps .vertices * 24 + caps .edges * 8 ≤ p → getD t′ p 0 ≡ getD t p 0
+  pub vertex-word : (c x : ℕ) → c < 24 → x < limits .vertices → among vs c ≡ false
+      → cell t′ (vertexArea limits) c x ≡ cell t (vertexArea limits) c x
+  pub edge-word : (d s : ℕ) → d < 8 → s < limits .edges → among es d ≡ false
+      → cell t′ (edgeArea limits) d s ≡ cell t (edgeArea limits) d s
+  pub beyond : (p : ℕ) → limits .vertices * 24 + limits .edges * 8 ≤ p → getD t′ p 0 ≡ getD t p 0
 
-module _ {caps : Capacities} {vs es : List ℕ} where
+module _ {limits : Limits} {vs es : List ℕ} where
   -- nothing stored
-  pub frame-none : {t : List ℕ} → Frame caps vs es t t
+  pub frame-none : {t : List ℕ} → Frame limits vs es t t
   frame-none =
       record {
         same-length = refl;
@@ -43,7 +43,7 @@ module _ {caps : Capacities} {vs es : List ℕ} where
 
   infixl 60 _then_
   -- one after another
-  pub _then_ : {t t′ t″ : List ℕ} → Frame caps vs es t t′ → Frame caps vs es t′ t″ → Frame caps vs es t t″
+  pub _then_ : {t t′ t″ : List ℕ} → Frame limits vs es t t′ → Frame limits vs es t′ t″ → Frame limits vs es t t″
   _then_ f g =
       record {
         same-length = g .same-length ∙ f .same-length;
@@ -70,9 +70,9 @@ outside-less (d ∷ cs) ds c w o =
     (outside-less cs ds c (and-right (among ds d) (within cs ds) w) o)
 
 -- a frame of some columns is one of more
-pub frame-more : {caps : Capacities} {vs es vs′ es′ : List ℕ} {t t′ : List ℕ} → Frame caps vs es t t′
-    → within vs vs′ ≡ true → within es es′ ≡ true → Frame caps vs′ es′ t t′
-frame-more {caps} {vs} {es} {vs′} {es′} f p q =
+pub frame-more : {limits : Limits} {vs es vs′ es′ : List ℕ} {t t′ : List ℕ} → Frame limits vs es t t′
+    → within vs vs′ ≡ true → within es es′ ≡ true → Frame limits vs′ es′ t t′
+frame-more {limits} {vs} {es} {vs′} {es′} f p q =
     record {
       same-length = f .same-length;
       vertex-word = λ c x h l o. f .vertex-word c x h l (outside-less vs vs′ c p o);
@@ -81,69 +81,69 @@ frame-more {caps} {vs} {es} {vs′} {es′} f p q =
     }
 
 -- a word stored for a vertex
-pub frame-vertex : (caps : Capacities) (vs es : List ℕ) (t : List ℕ) (c x v : ℕ) → c < 24 → x < caps .vertices → among vs c ≡ true
-    → Frame caps vs es t (put t (vertexArea caps) c x v)
-frame-vertex caps vs es t c x v h l m =
+pub frame-vertex : (limits : Limits) (vs es : List ℕ) (t : List ℕ) (c x v : ℕ) → c < 24 → x < limits .vertices → among vs c ≡ true
+    → Frame limits vs es t (put t (vertexArea limits) c x v)
+frame-vertex limits vs es t c x v h l m =
     record {
-      same-length = length-put t (vertexArea caps) c x v;
-      vertex-word = λ d y k i o. cell-put-other-column t (vertexArea caps) c x v d y l i (other-column vs c d m o);
-      edge-word = λ d s k i o. cell-edge-after-vertex caps t c x v d s h l;
+      same-length = length-put t (vertexArea limits) c x v;
+      vertex-word = λ d y k i o. cell-put-other-column t (vertexArea limits) c x v d y l i (other-column vs c d m o);
+      edge-word = λ d s k i o. cell-edge-after-vertex limits t c x v d s h l;
       beyond = λ p k.
-          getD-put-outside t (vertexArea caps) 24 c x v p h l (λ i j. omega arith);
+          getD-put-outside t (vertexArea limits) 24 c x v p h l (λ i j. omega arith);
     }
 
 -- a word stored for an edge
-pub frame-edge : (caps : Capacities) (vs es : List ℕ) (t : List ℕ) (d s v : ℕ) → d < 8 → s < caps .edges → among es d ≡ true
-    → Frame caps vs es t (put t (edgeArea caps) d s v)
-frame-edge caps vs es t d s v h l m =
+pub frame-edge : (limits : Limits) (vs es : List ℕ) (t : List ℕ) (d s v : ℕ) → d < 8 → s < limits .edges → among es d ≡ true
+    → Frame limits vs es t (put t (edgeArea limits) d s v)
+frame-edge limits vs es t d s v h l m =
     record {
-      same-length = length-put t (edgeArea caps) d s v;
-      vertex-word = λ c x k i o. cell-vertex-after-edge caps t d s v c x k i;
-      edge-word = λ c y k i o. cell-put-other-column t (edgeArea caps) d s v c y l i (other-column es d c m o);
+      same-length = length-put t (edgeArea limits) d s v;
+      vertex-word = λ c x k i o. cell-vertex-after-edge limits t d s v c x k i;
+      edge-word = λ c y k i o. cell-put-other-column t (edgeArea limits) d s v c y l i (other-column es d c m o);
       beyond = λ p k.
-          getD-put-outside t (edgeArea caps) 8 d s v p h l (λ i j. omega arith);
+          getD-put-outside t (edgeArea limits) 8 d s v p h l (λ i j. omega arith);
     }
 
 -- a new component of one vertex
-pub frame-component : (caps : Capacities) (vs es : List ℕ) (t : List ℕ) (x : ℕ) → x < caps .vertices
+pub frame-component : (limits : Limits) (vs es : List ℕ) (t : List ℕ) (x : ℕ) → x < limits .vertices
     → among vs 0 ≡ true → among vs 1 ≡ true → among vs 2 ≡ true
-    → Frame caps vs es t (newGroup t (vertexArea caps) x)
+    → Frame limits vs es t (newGroup t (vertexArea limits) x)
 unfolding newGroup
-frame-component caps vs es t x l p q r =
-    frame-vertex caps vs es t 0 x x (omega arith) l p
-    then frame-vertex caps vs es _ 1 x 1 (omega arith) l q
-    then frame-vertex caps vs es _ 2 x _ (omega arith) l r
+frame-component limits vs es t x l p q r =
+    frame-vertex limits vs es t 0 x x (omega arith) l p
+    then frame-vertex limits vs es _ 1 x 1 (omega arith) l q
+    then frame-vertex limits vs es _ 2 x _ (omega arith) l r
 
 -- a new bridge-block of one vertex
-pub frame-bridge-block : (caps : Capacities) (vs es : List ℕ) (t : List ℕ) (x : ℕ) → x < caps .vertices
+pub frame-bridge-block : (limits : Limits) (vs es : List ℕ) (t : List ℕ) (x : ℕ) → x < limits .vertices
     → among vs 4 ≡ true → among vs 5 ≡ true → among vs 6 ≡ true
-    → Frame caps vs es t (newGroup t (bridgeBlockArea caps) x)
+    → Frame limits vs es t (newGroup t (bridgeBlockArea limits) x)
 unfolding newGroup
-frame-bridge-block caps vs es t x l p q r =
+frame-bridge-block limits vs es t x l p q r =
     word t 0 x (omega arith) p then word _ 1 1 (omega arith) q then word _ 2 _ (omega arith) r
   where
-    word : (t : List ℕ) (c v : ℕ) → 4 + c < 24 → among vs (4 + c) ≡ true → Frame caps vs es t (put t (bridgeBlockArea caps) c x v)
-    word t c v h m = rw (put-bridge-block caps t c x v) (frame-vertex caps vs es t (4 + c) x v h l m)
+    word : (t : List ℕ) (c v : ℕ) → 4 + c < 24 → among vs (4 + c) ≡ true → Frame limits vs es t (put t (bridgeBlockArea limits) c x v)
+    word t c v h m = rw (put-bridge-block limits t c x v) (frame-vertex limits vs es t (4 + c) x v h l m)
 
 -- a new block of one edge
-pub frame-block : (caps : Capacities) (vs es : List ℕ) (t : List ℕ) (s : ℕ) → s < caps .edges
+pub frame-block : (limits : Limits) (vs es : List ℕ) (t : List ℕ) (s : ℕ) → s < limits .edges
     → among es 0 ≡ true → among es 1 ≡ true → among es 2 ≡ true
-    → Frame caps vs es t (newGroup t (edgeArea caps) s)
+    → Frame limits vs es t (newGroup t (edgeArea limits) s)
 unfolding newGroup
-frame-block caps vs es t s l p q r =
-    frame-edge caps vs es t 0 s s (omega arith) l p
-    then frame-edge caps vs es _ 1 s 1 (omega arith) l q
-    then frame-edge caps vs es _ 2 s _ (omega arith) l r
+frame-block limits vs es t s l p q r =
+    frame-edge limits vs es t 0 s s (omega arith) l p
+    then frame-edge limits vs es _ 1 s 1 (omega arith) l q
+    then frame-edge limits vs es _ 2 s _ (omega arith) l r
 
 -- a merge of components stores in their four columns alone
-pub frame-merge : (caps : Capacities) (vs es : List ℕ) (t t′ : List ℕ) → Kept (vertexArea caps) t t′
+pub frame-merge : (limits : Limits) (vs es : List ℕ) (t t′ : List ℕ) → Kept (vertexArea limits) t t′
     → among vs 0 ≡ true → among vs 1 ≡ true → among vs 2 ≡ true → among vs 3 ≡ true
-    → Frame caps vs es t t′
+    → Frame limits vs es t t′
 unfolding cell place
-frame-merge caps vs es t t′ k p q r s =
+frame-merge limits vs es t t′ k p q r s =
     record {
       same-length = k .same-length;
-      vertex-word = λ c x h l o. k .outside _ (λ i j. omega (arith, mul-le-mul-right (caps .vertices) (fourth c o)));
+      vertex-word = λ c x h l o. k .outside _ (λ i j. omega (arith, mul-le-mul-right (limits .vertices) (fourth c o)));
       edge-word = λ d y h l o. k .outside _ (λ i j. omega arith);
       beyond = λ z h. k .outside z (λ i j. omega arith);
     }
@@ -157,31 +157,31 @@ by-three P p q r (suc zero) h = q
 by-three P p q r (suc (suc zero)) h = r
 by-three P p q r (suc (suc (suc c))) h = absurd (omega arith)
 
-module _ {caps : Capacities} {vs es : List ℕ} {t t′ : List ℕ} (f : Frame caps vs es t t′) where
+module _ {limits : Limits} {vs es : List ℕ} {t t′ : List ℕ} (f : Frame limits vs es t t′) where
   -- components keep their words where their columns are not listed
-  pub same-components : (n : ℕ) → n ≤ caps .vertices → among vs 0 ≡ false → among vs 1 ≡ false → among vs 2 ≡ false
-      → SameWords t t′ (vertexArea caps) n
+  pub same-components : (n : ℕ) → n ≤ limits .vertices → among vs 0 ≡ false → among vs 1 ≡ false → among vs 2 ≡ false
+      → SameWords t t′ (vertexArea limits) n
   same-components n h p q r c x l k =
       f .vertex-word c x (omega arith) (omega arith) (by-three (λ c. among vs c ≡ false) p q r c l)
 
   -- so do bridge-blocks
-  pub same-bridge-blocks : (n : ℕ) → n ≤ caps .vertices → among vs 4 ≡ false → among vs 5 ≡ false → among vs 6 ≡ false
-      → SameWords t t′ (bridgeBlockArea caps) n
+  pub same-bridge-blocks : (n : ℕ) → n ≤ limits .vertices → among vs 4 ≡ false → among vs 5 ≡ false → among vs 6 ≡ false
+      → SameWords t t′ (bridgeBlockArea limits) n
   same-bridge-blocks n h p q r c x l k =
-      cell-bridge-block caps t′ c x
+      cell-bridge-block limits t′ c x
       ∙ f .vertex-word (4 + c) x (omega arith) (omega arith) (by-three (λ c. among vs (4 + c) ≡ false) p q r c l)
-      ∙ sym (cell-bridge-block caps t c x)
+      ∙ sym (cell-bridge-block limits t c x)
 
   -- and blocks
-  pub same-blocks : (m : ℕ) → m ≤ caps .edges → among es 0 ≡ false → among es 1 ≡ false → among es 2 ≡ false
-      → SameWords t t′ (edgeArea caps) m
+  pub same-blocks : (m : ℕ) → m ≤ limits .edges → among es 0 ≡ false → among es 1 ≡ false → among es 2 ≡ false
+      → SameWords t t′ (edgeArea limits) m
   same-blocks m h p q r c x l k =
       f .edge-word c x (omega arith) (omega arith) (by-three (λ c. among es c ≡ false) p q r c l)
 
   -- the vertex above an edge's block stays
-  pub same-above : (e : ℕ) → e < caps .edges → blockOf t caps e < caps .edges → among es 0 ≡ false → among es 5 ≡ false
-      → aboveEdge t′ caps e ≡ aboveEdge t caps e
+  pub same-above : (e : ℕ) → e < limits .edges → blockOf t limits e < limits .edges → among es 0 ≡ false → among es 5 ≡ false
+      → aboveEdge t′ limits e ≡ aboveEdge t limits e
   unfolding aboveEdge
   same-above e h l p q =
-      ap (cell t′ (edgeArea caps) 5) (f .edge-word 0 e (omega arith) h p)
-      ∙ f .edge-word 5 (blockOf t caps e) (omega arith) l q
+      ap (cell t′ (edgeArea limits) 5) (f .edge-word 0 e (omega arith) h p)
+      ∙ f .edge-word 5 (blockOf t limits e) (omega arith) l q

@@ -10,42 +10,33 @@ use lib.Dec.{eqb}
 use Rattle.graph.specs.Below.{tabulate}
 use Rattle.graph.proofs.Truth.{true-or-false, eqb-eq, eqb-ne}
 use Rattle.graph.proofs.Below.{below-or-last}
-use Rattle.naming.specs.Rename.{Grouping, size, nameOf}
-use Rattle.naming.proofs.Listed.{getD-tabulate, tabulate-same}
+use Rattle.graph.specs.Network.{Network}
+use Rattle.graph.specs.Block.{block}
+use Rattle.naming.specs.Rename.{Grouping, size}
+use Rattle.naming.proofs.Listed.{tabulate-same}
 use Rattle.naming.proofs.Equivalent.{Equivalent, group-swap, size-agree, size-others, size-alone}
 use Rattle.naming.proofs.Rename.{AgreeBelow}
 use Rattle.naming.proofs.Naming.{naming-agree, naming-new-item}
+use Rattle.numbers.specs.declared.Limits.{Limits}
 use Rattle.table.specs.declared.words.Area.{Area}
-use Rattle.table.specs.Layout.{cell, put}
-use Rattle.table.specs.Merge.{nameIn, sizeIn, rangeIn, leastOf, greatestOf}
-use Rattle.table.specs.KindValid.{namesIn, KindValid}
+use Rattle.table.specs.Inside.Layout.{cell, put, edgeArea}
+use Rattle.table.specs.Inside.Merge.{nameIn, sizeIn, rangeIn, leastOf, greatestOf}
+use Rattle.table.specs.Inside.KindValid.{namesIn, KindValid}
 use Rattle.table.proofs.Halves.{high-half, low-half}
 use Rattle.table.proofs.Cells.{HasColumns, length-put, cell-put-same, cell-put-other-column, cell-put-other-item}
-use Rattle.forest.specs.Tree.{newGroup}
+use Rattle.table.proofs.KindNames.{name-known, one-name}
+use Rattle.forest.specs.Inside.Tree.{newGroup}
+use Rattle.forest.specs.Inside.Climb.{aboveEdge, topOf}
 
 -- Two tables agree on the names, sizes and ranges of the items below n.
 abbrev pub SameWords : List ℕ → List ℕ → Area → ℕ → Type 0
 SameWords t t′ area n = (c x : ℕ) → c < 3 → x < n → cell t′ area c x ≡ cell t area c x
 
--- a name in the list of names is the one in the table
-pub name-in : (t : List ℕ) (area : Area) (n x : ℕ) → x < n → nameOf (namesIn t area n) x ≡ nameIn t area x
-unfolding namesIn nameOf
-name-in t area n x h = getD-tabulate n (nameIn t area) 0 x h
-
--- the name of an item is an item
-pub name-known : {t : List ℕ} {area : Area} {n : ℕ} {groups : Grouping} → KindValid t area n groups
-    → (x : ℕ) → x < n → nameIn t area x < n
-name-known {t} {area} {n} k x h = rw (name-in t area n x h) at (k .named .name-below x h)
-
--- the items of a group have one name
-pub one-name : {t : List ℕ} {area : Area} {n : ℕ} {groups : Grouping} → KindValid t area n groups
-    → (x y : ℕ) → x < n → y < n → groups x y ≡ true → nameIn t area x ≡ nameIn t area y
-one-name {t} {area} {n} k x y h l s = rw (name-in t area n x h, name-in t area n y l) at (k .named .one-name x y h l s)
-
--- the items of one name are in one group
-pub one-group : {t : List ℕ} {area : Area} {n : ℕ} {groups : Grouping} → KindValid t area n groups
-    → (x y : ℕ) → x < n → y < n → nameIn t area x ≡ nameIn t area y → groups x y ≡ true
-one-group {t} {area} {n} k x y h l q = k .named .one-group x y h l (name-in t area n x h ∙ q ∙ sym (name-in t area n y l))
+-- the edges of one block have one vertex above it
+pub one-above : (t : List ℕ) (limits : Limits) (m : ℕ) (g : Network) → KindValid t (edgeArea limits) m (block g)
+    → (e f : ℕ) → e < m → f < m → block g e f ≡ true → aboveEdge t limits e ≡ aboveEdge t limits f
+unfolding aboveEdge
+one-above t limits m g valid e f h k b = ap (topOf t limits) (one-name valid e f h k b)
 
 -- tables that agree on the words of a kind have the same list of names
 pub names-same : (t t′ : List ℕ) (area : Area) (n : ℕ) → SameWords t t′ area n → namesIn t′ area n ≡ namesIn t area n

@@ -1,6 +1,7 @@
 pub mod AddEdge
 pub mod AddVertex
 pub mod Beyond
+pub mod Changes
 pub mod ClimbJoin
 pub mod ClimbLaw
 pub mod ClimbLists
@@ -16,12 +17,12 @@ pub mod CondenseBlocks
 pub mod CondenseEnter
 pub mod CondenseForest
 pub mod CondenseFrames
-pub mod CondenseLists
 pub mod CondenseMerge
 pub mod CondensePath
 pub mod CondenseBridgeBlocks
 pub mod CondenseTables
 pub mod CondenseTop
+pub mod EdgeToAdd
 pub mod EmptyTable
 pub mod Frames
 pub mod KindWords
@@ -42,8 +43,10 @@ pub mod QueryShared
 pub mod QuerySteps
 pub mod Raise
 pub mod Roots
+pub mod Scratch
 pub mod TreeSteps
 pub mod Turn
 pub mod TurnSteps
 pub mod TurnTable
 pub mod ValidFrame
+pub mod Values

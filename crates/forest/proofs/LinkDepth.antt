@@ -4,9 +4,9 @@ use mathlib.Core.Path.{_≡_}
 use Prim.Native.Nat.{ℕ, suc, _+_, _*_, _^_, _≤_, _<_}
 use native.Mathlib.Nat.{mul-le-mul, mul-le-mul-right}
 use native.Mathlib.Omega.{arith}
-use Rattle.graph.specs.Network.{Network, Edge, addEdge, nothing}
+use Rattle.graph.specs.Network.{Network, Edge, addEdge}
 use Rattle.graph.specs.Groups.{component}
-use Rattle.graph.proofs.Joined.{joined-old}
+use Rattle.graph.proofs.Grows.{component-grows}
 use Rattle.naming.specs.Rename.{size}
 use Rattle.naming.proofs.Equivalent.{size-at-most, size-same, size-finer, sizes-add}
 use Rattle.forest.proofs.Networks.{component-groups}
@@ -23,11 +23,6 @@ square-fits k h = omega (arith, square-grows k 65535 (omega arith))
 pub raised-bound : (l w x u v : ℕ) → l ≤ w → x < l * l → u < l * l → v < w * w → x + (suc v + u) < (l + w) * (l + w)
 raised-bound l w x u v h p q r = omega (arith, mul-le-mul-right l h)
 
--- what was one component stays one
-pub component-finer : (g : Network) (e : Edge) (x y : ℕ) → component g x y ≡ true → component (addEdge g e) x y ≡ true
-unfolding component
-component-finer g e x y q = joined-old g e nothing x y q
-
 -- Depths of the vertices of a network, below the squares of their components' sizes; u's component is hung below v.
 module _ (g : Network) (e : Edge) (n : ℕ) (small : n < 65536) (depth : ℕ → ℕ)
     (bound : (x : ℕ) → x < n → depth x < size n (component g) x * size n (component g) x)
@@ -38,9 +33,6 @@ module _ (g : Network) (e : Edge) (n : ℕ) (small : n < 65536) (depth : ℕ →
 
   abbrev after : ℕ → ℕ
   after x = size n (component (addEdge g e)) x
-
-  finer : (x y : ℕ) → component g x y ≡ true → component (addEdge g e) x y ≡ true
-  finer = component-finer g e
 
   -- raised by the depths of u and v, the depths of u's component are below the square of its new size
   pub raised-below : (x : ℕ) → x < n → component g u x ≡ true → depth x + (suc (depth v) + depth u) < after x * after x
@@ -57,12 +49,12 @@ module _ (g : Network) (e : Edge) (n : ℕ) (small : n < 65536) (depth : ℕ →
       together : before u + before v ≤ after x
       together =
           rw
-          (← size-same n (component (addEdge g e)) (component-groups (addEdge g e)) u x (finer u x q))
-          (sizes-add n (component g) (component (addEdge g e)) (component-groups g) (component-groups (addEdge g e)) finer u v parted met)
+          (← size-same n (component (addEdge g e)) (component-groups (addEdge g e)) u x (component-grows g e u x q))
+          (sizes-add n (component g) (component (addEdge g e)) (component-groups g) (component-groups (addEdge g e)) (component-grows g e) u v parted met)
 
   -- so are all depths that stay
   pub kept-below : (x : ℕ) → x < n → depth x < after x * after x
-  kept-below x h = omega (arith, bound x h, square-grows (before x) (after x) (size-finer n _ _ finer x))
+  kept-below x h = omega (arith, bound x h, square-grows (before x) (after x) (size-finer n _ _ (component-grows g e) x))
 
   -- and they all fit a word
   pub after-fits : (x : ℕ) → after x * after x < 2 ^ 32

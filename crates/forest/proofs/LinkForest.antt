@@ -20,82 +20,87 @@ use Rattle.graph.proofs.EdgeMore.{block-edge-between}
 use Rattle.graph.proofs.Grows.{on-block-grows}
 use Rattle.naming.specs.Rename.{size}
 use Rattle.naming.proofs.Equivalent.{group-same}
-use Rattle.table.specs.declared.words.Capacities.{Capacities}
-use Rattle.table.specs.Layout.{edgeArea}
-use Rattle.table.specs.KindValid.{namesIn, KindValid}
-use Rattle.forest.specs.Climb.{upOf, depthOf, topOf, aboveEdge}
-use Rattle.forest.specs.Tree.{turnFrom, hangTable}
-use Rattle.forest.specs.Valid.{networkOf, HangsBelow, ForestValid}
-use Rattle.forest.proofs.KindWords.{SameWords, one-name, names-same, kind-same}
+use Rattle.table.specs.Inside.Layout.{edgeArea}
+use Rattle.table.specs.Inside.KindValid.{namesIn, KindValid}
+use Rattle.forest.specs.Inside.Climb.{upOf, depthOf, aboveEdge}
+use Rattle.forest.specs.Inside.Tree.{turnFrom, hangTable}
+use Rattle.forest.specs.Inside.Valid.{networkOf, HangsBelow, ForestValid}
+use Rattle.forest.proofs.KindWords.{SameWords, names-same, kind-same, one-above}
 use Rattle.forest.proofs.Networks.{component-groups, edge-count}
 use Rattle.forest.proofs.Frames.{among, Frame, _then_, same-blocks}
+use Rattle.forest.proofs.EdgeToAdd.{EdgeToAdd, edgeOf, before, after, proper-after}
 use Rattle.forest.proofs.Turn.{ForestBut, Dangling}
 use Rattle.forest.proofs.TurnSteps.{Way}
 use Rattle.forest.proofs.TurnTable.{Turned, turned}
 use Rattle.forest.proofs.LinkHang.{Linking, by, raised, grouped, hung, word₃, hung-frame, raised-bound, kept-bound, raised-fits, depth-raised, depth-kept, up-kept, above-kept, above-new, new-alone, blocks, block-names}
 
-module _ {caps : Capacities} {n m : ℕ} {t : List ℕ} {e : Edge} {t₃ : List ℕ} {count u v : ℕ} (k : Linking caps n m t e t₃ count u v) where
+module _ {new : EdgeToAdd} {t₃ : List ℕ} {count u v : ℕ} (k : Linking new t₃ count u v) where
+  open EdgeToAdd new using (limits, n, m, t, valid, room)
+
+  abbrev e : Edge
+  e = edgeOf new
+
   abbrev g : Network
-  g = networkOf caps n m t
+  g = before new
 
   abbrev g′ : Network
-  g′ = addEdge g e
+  g′ = after new
 
   abbrev t₄ : List ℕ
   t₄ = hung k
 
-  abbrev old : ForestValid t caps n m g
-  old = k .valid .forest
+  abbrev old : ForestValid t limits n m g
+  old = valid .forest
 
   edges′ : edgeCount g′ ≡ suc m
-  edges′ = edge-count-more g e ∙ ap suc (edge-count caps n m t)
+  edges′ = edge-count-more g e ∙ ap suc (edge-count limits n m t)
 
   old-edge-is : (s : ℕ) → s < m → edge g′ s ≡ edge g s
-  old-edge-is s h = edge-old g e s (rw (edge-count caps n m t) h)
+  old-edge-is s h = edge-old g e s (rw (edge-count limits n m t) h)
 
   new-edge-is : edge g′ m ≡ e
-  new-edge-is = subst (λ j. edge g′ j ≡ e) (edge-count caps n m t) (edge-new g e)
+  new-edge-is = subst (λ j. edge g′ j ≡ e) (edge-count limits n m t) (edge-new g e)
 
   -- the vertex above a block is in the component of those below
-  above-within : (x s : ℕ) → x < n → upOf t caps x ≡ suc s → component g x (aboveEdge t caps s) ≡ true
+  above-within : (x s : ℕ) → x < n → upOf t limits x ≡ suc s → component g x (aboveEdge t limits s) ≡ true
   above-within x s h q =
-      joined-component g _ x (aboveEdge t caps s)
-      (block-vertices-joined-within g s x (aboveEdge t caps s) (old .up-on x s h q) (old .top-on s (old .up-known x s h q)))
+      joined-component g _ x (aboveEdge t limits s)
+      (block-vertices-joined-within g s x (aboveEdge t limits s) (old .up-on x s h q) (old .top-on s (old .up-known x s h q)))
 
   -- so it is in u's component if they are
-  alike : (x s : ℕ) → x < n → upOf t caps x ≡ suc s → component g u (aboveEdge t caps s) ≡ component g u x
+  alike : (x s : ℕ) → x < n → upOf t limits x ≡ suc s → component g u (aboveEdge t limits s) ≡ component g u x
   alike x s h q =
-      component-swap g u (aboveEdge t caps s)
-      ∙ sym (group-same (component g) (component-groups g) x (aboveEdge t caps s) (above-within x s h q) u)
+      component-swap g u (aboveEdge t limits s)
+      ∙ sym (group-same (component g) (component-groups g) x (aboveEdge t limits s) (above-within x s h q) u)
       ∙ component-swap g x u
 
-  falls : (x s : ℕ) → x < n → upOf t caps x ≡ suc s → (component g u x ≡ true) ⊎ (component g u x ≡ false)
-      → depthOf t₄ caps (aboveEdge t caps s) < depthOf t₄ caps x
+  falls : (x s : ℕ) → x < n → upOf t limits x ≡ suc s → (component g u x ≡ true) ⊎ (component g u x ≡ false)
+      → depthOf t₄ limits (aboveEdge t limits s) < depthOf t₄ limits x
   falls x s h q (inl c) =
       rw
-      (depth-raised k x h c, depth-raised k (aboveEdge t caps s) (old .top-known s (old .up-known x s h q)) (alike x s h q ∙ c))
+      (depth-raised k x h c, depth-raised k (aboveEdge t limits s) (old .top-known s (old .up-known x s h q)) (alike x s h q ∙ c))
       (omega (arith, old .depth-falls x s h q))
   falls x s h q (inr c) =
       rw
-      (depth-kept k x h c, depth-kept k (aboveEdge t caps s) (old .top-known s (old .up-known x s h q)) (alike x s h q ∙ c))
+      (depth-kept k x h c, depth-kept k (aboveEdge t limits s) (old .top-known s (old .up-known x s h q)) (alike x s h q ∙ c))
       (old .depth-falls x s h q)
 
   bound : (x : ℕ) → x < n → (component g u x ≡ true) ⊎ (component g u x ≡ false)
-      → depthOf t₄ caps x < size n (component g′) x * size n (component g′) x
+      → depthOf t₄ limits x < size n (component g′) x * size n (component g′) x
   bound x h (inl c) = rw (depth-raised k x h c) (raised-bound k x h c)
   bound x h (inr c) = rw (depth-kept k x h c) (kept-bound k x h)
 
-  old-up : (x s : ℕ) → x < n → upOf t₄ caps x ≡ suc s → upOf t caps x ≡ suc s
+  old-up : (x s : ℕ) → x < n → upOf t₄ limits x ≡ suc s → upOf t limits x ≡ suc s
   old-up x s h q = sym (up-kept k x h) ∙ q
 
-  covers-old : (s y : ℕ) → s < m → touches (edge g s) y ≡ true → (y ≡ aboveEdge t₄ caps s) ⊎ HangsBelow t₄ caps g′ s y
+  covers-old : (s y : ℕ) → s < m → touches (edge g s) y ≡ true → (y ≡ aboveEdge t₄ limits s) ⊎ HangsBelow t₄ limits g′ s y
   unfolding networkOf
   covers-old s y h q =
       ⊎-elim
       (λ i. inl (i ∙ sym (above-kept k s h)))
       (λ b. inr (record {
         by = b .by;
-        is-up = up-kept k y (touched-known g (k .valid .proper) s y (rw (edge-count caps n m t) h) q) ∙ b .is-up;
+        is-up = up-kept k y (touched-known g (valid .proper) s y (rw (edge-count limits n m t) h) q) ∙ b .is-up;
         in-block = block-edge-between g e (k .apart) s (b .by) ∙ b .in-block;
       }))
       (old .covers s y h q)
@@ -106,7 +111,7 @@ module _ {caps : Capacities} {n m : ℕ} {t : List ℕ} {e : Edge} {t₃ : List 
 
   touched : (s y : ℕ) → s < suc m → touches (edge g′ s) y ≡ true → y < n
   unfolding networkOf addEdge
-  touched s y h q = touched-known g′ (k .proper) s y (rw edges′ h) q
+  touched s y h q = touched-known g′ (proper-after new) s y (rw edges′ h) q
 
   loser-on : onBlock g′ m u ≡ true
   loser-on = end-on-block g′ m u (rw edges′ (le-refl (suc m))) (rw new-edge-is (k .at-loser))
@@ -114,12 +119,8 @@ module _ {caps : Capacities} {n m : ℕ} {t : List ℕ} {e : Edge} {t₃ : List 
   winner-on : onBlock g′ m v ≡ true
   winner-on = end-on-block g′ m v (rw edges′ (le-refl (suc m))) (rw new-edge-is (k .at-winner))
 
-  same-top : (s s′ : ℕ) → s < suc m → s′ < suc m → block g′ s s′ ≡ true → aboveEdge t₄ caps s ≡ aboveEdge t₄ caps s′
-  unfolding aboveEdge
-  same-top s s′ h h′ b = ap (topOf t₄ caps) (one-name (blocks k) s s′ h h′ b)
-
   covers-new : (y : ℕ) → touches (edge g′ m) y ≡ true → ((y ≡ u) × (block g′ m m ≡ true) → ⊥)
-      → (y ≡ aboveEdge t₄ caps m) ⊎ HangsBelow t₄ caps g′ m y
+      → (y ≡ aboveEdge t₄ limits m) ⊎ HangsBelow t₄ limits g′ m y
   covers-new y q but =
       ⊎-elim
       (λ i. absurd (but (i, block-refl g′ m)))
@@ -127,7 +128,7 @@ module _ {caps : Capacities} {n m : ℕ} {t : List ℕ} {e : Edge} {t₃ : List 
       (k .ends y (rw new-edge-is at q))
 
   -- the forest of both components, but that u is not yet below the new edge's block
-  forest-but-u : ForestBut t₄ caps n (suc m) g′ (λ s y. (y ≡ u) × (block g′ s m ≡ true))
+  forest-but-u : ForestBut t₄ limits n (suc m) g′ (λ s y. (y ≡ u) × (block g′ s m ≡ true))
   forest-but-u =
       record {
         up-known = λ x s h q. omega (arith, old .up-known x s h (old-up x s h q));
@@ -135,21 +136,21 @@ module _ {caps : Capacities} {n m : ℕ} {t : List ℕ} {e : Edge} {t₃ : List 
         touched-known = touched;
         top-known =
             each-edge
-            (λ s. aboveEdge t₄ caps s < n)
+            (λ s. aboveEdge t₄ limits s < n)
             (λ s h. rw (above-kept k s h) (old .top-known s h))
             (rw (above-new k) (k .winner-known));
         top-on =
             each-edge
-            (λ s. onBlock g′ s (aboveEdge t₄ caps s) ≡ true)
-            (λ s h. rw (above-kept k s h) (on-block-grows g e s (aboveEdge t caps s) (old .top-on s h)))
+            (λ s. onBlock g′ s (aboveEdge t₄ limits s) ≡ true)
+            (λ s h. rw (above-kept k s h) (on-block-grows g e s (aboveEdge t limits s) (old .top-on s h)))
             (rw (above-new k) winner-on);
-        one-top = same-top;
+        one-top = (one-above t₄ limits (suc m) g′ (blocks k));
         covers = λ s y h.
             each-edge
             (λ s.
             touches (edge g′ s) y ≡ true
             → ((y ≡ u) × (block g′ s m ≡ true) → ⊥)
-            → (y ≡ aboveEdge t₄ caps s) ⊎ HangsBelow t₄ caps g′ s y)
+            → (y ≡ aboveEdge t₄ limits s) ⊎ HangsBelow t₄ limits g′ s y)
             (λ s l q but. covers-old s y l (rw (old-edge-is s l) at q))
             (covers-new y)
             s
@@ -165,7 +166,7 @@ module _ {caps : Capacities} {n m : ℕ} {t : List ℕ} {e : Edge} {t₃ : List 
   loser-self = component-refl g u
 
   -- u dangles from the new edge's block
-  dangling : Dangling t₄ caps n (suc m) g′ u m (suc (depthOf t caps v))
+  dangling : Dangling t₄ limits n (suc m) g′ u m (suc (depthOf t limits v))
   dangling =
       record {
         forest = forest-but-u;
@@ -179,45 +180,45 @@ module _ {caps : Capacities} {n m : ℕ} {t : List ℕ} {e : Edge} {t₃ : List 
       }
 
   -- the ways up in u's component
-  way : (j x : ℕ) → x < n → component g u x ≡ true → depthOf t caps x < j → Way t₄ caps (by k) j x
+  way : (j x : ℕ) → x < n → component g u x ≡ true → depthOf t limits x < j → Way t₄ limits (by k) j x
   way zero x h c l = absurd (omega arith)
   way (suc j) x h c l = (
     rw (depth-raised k x h c) (omega arith),
     λ s q.
-        let up : upOf t caps x ≡ suc s = old-up x s h q in
+        let up : upOf t limits x ≡ suc s = old-up x s h q in
         let known : s < m = old .up-known x s h up in
         rw
         (above-kept k s known)
-        (way j (aboveEdge t caps s) (old .top-known s known) (alike x s h up ∙ c) (omega (arith, old .depth-falls x s h up))),
+        (way j (aboveEdge t limits s) (old .top-known s known) (alike x s h up ∙ c) (omega (arith, old .depth-falls x s h up))),
   )
 
-  frame₄ : Frame caps (9 ∷ []) (0 ∷ 1 ∷ 2 ∷ 5 ∷ []) t₃ t₄
+  frame₄ : Frame limits (9 ∷ []) (0 ∷ 1 ∷ 2 ∷ 5 ∷ []) t₃ t₄
   frame₄ = hung-frame k _ _ refl refl refl refl refl
 
   -- with u's way up turned round, u's component hangs below v
-  after-turn : Turned caps n (suc m) g′ t₄ (turnFrom (suc (depthOf t caps u)) t₄ caps u (suc m) (suc (depthOf t caps v)))
+  after-turn : Turned limits n (suc m) g′ t₄ (turnFrom (suc (depthOf t limits u)) t₄ limits u (suc m) (suc (depthOf t limits v)))
   after-turn =
       turned
-      caps
+      limits
       n
       (suc m)
       g′
-      (k .valid .vertices-fit)
-      (k .room)
-      (suc (depthOf t caps u))
+      (valid .vertices-fit)
+      room
+      (suc (depthOf t limits u))
       t₄
-      (omega (arith, frame₄ .same-length, k .frame .same-length, k .valid .long))
+      (omega (arith, frame₄ .same-length, k .frame .same-length, valid .long))
       (blocks k)
       u
       m
-      (suc (depthOf t caps v))
+      (suc (depthOf t limits v))
       (by k)
       dangling
-      (way (suc (depthOf t caps u)) u (k .loser-known) loser-self (le-refl _))
+      (way (suc (depthOf t limits u)) u (k .loser-known) loser-self (le-refl _))
       (omega arith)
       (omega (arith, raised-fits k u (k .loser-known) loser-self))
 
-  hang-is : hangTable t₃ caps m u v count ≡ turnFrom (suc (depthOf t caps u)) t₄ caps u (suc m) (suc (depthOf t caps v))
+  hang-is : hangTable t₃ limits m u v count ≡ turnFrom (suc (depthOf t limits u)) t₄ limits u (suc m) (suc (depthOf t limits v))
   unfolding hangTable hung grouped raised
   hang-is =
       rw (
@@ -230,29 +231,29 @@ module _ {caps : Capacities} {n m : ℕ} {t : List ℕ} {e : Edge} {t₃ : List 
       by-fits : by k < 2 ^ 32
       by-fits = omega (arith, raised-fits k u (k .loser-known) loser-self)
 
-      start-is : (depthOf t caps v + 1) % 2 ^ 32 ≡ suc (depthOf t caps v)
+      start-is : (depthOf t limits v + 1) % 2 ^ 32 ≡ suc (depthOf t limits v)
       start-is = omega (arith, by-fits)
 
-  frame₅ : (vs es : List ℕ) → among vs 8 ≡ true → among vs 9 ≡ true → among es 5 ≡ true → Frame caps vs es t₄ (hangTable t₃ caps m u v count)
+  frame₅ : (vs es : List ℕ) → among vs 8 ≡ true → among vs 9 ≡ true → among es 5 ≡ true → Frame limits vs es t₄ (hangTable t₃ limits m u v count)
   frame₅ = rw hang-is (after-turn .frame)
 
   -- the forest is valid with the new edge
-  pub linked-forest : ForestValid (hangTable t₃ caps m u v count) caps n (suc m) (addEdge (networkOf caps n m t) e)
+  pub linked-forest : ForestValid (hangTable t₃ limits m u v count) limits n (suc m) (after new)
   linked-forest = rw hang-is (after-turn .forest)
 
   -- only ways up, depths, and the words of the new block and of the vertices above blocks are stored
   pub linked-frame : (vs es : List ℕ) → among vs 8 ≡ true → among vs 9 ≡ true
       → among es 0 ≡ true → among es 1 ≡ true → among es 2 ≡ true → among es 5 ≡ true
-      → Frame caps vs es t₃ (hangTable t₃ caps m u v count)
+      → Frame limits vs es t₃ (hangTable t₃ limits m u v count)
   linked-frame vs es p q r s i o = hung-frame k vs es q r s i o then frame₅ vs es p q o
 
-  same-after : SameWords t₄ (hangTable t₃ caps m u v count) (edgeArea caps) (suc m)
-  same-after = same-blocks (frame₅ (8 ∷ 9 ∷ []) (5 ∷ []) refl refl refl) (suc m) (k .room) refl refl refl
+  same-after : SameWords t₄ (hangTable t₃ limits m u v count) (edgeArea limits) (suc m)
+  same-after = same-blocks (frame₅ (8 ∷ 9 ∷ []) (5 ∷ []) refl refl refl) (suc m) room refl refl refl
 
   -- the words of blocks are valid with the new one
-  pub linked-blocks : KindValid (hangTable t₃ caps m u v count) (edgeArea caps) (suc m) (block (addEdge (networkOf caps n m t) e))
+  pub linked-blocks : KindValid (hangTable t₃ limits m u v count) (edgeArea limits) (suc m) (block (after new))
   linked-blocks = kind-same same-after (blocks k)
 
   -- and their names are the old ones and its number
-  pub linked-block-names : namesIn (hangTable t₃ caps m u v count) (edgeArea caps) (suc m) ≡ namesIn t (edgeArea caps) m ++ m ∷ []
-  linked-block-names = names-same t₄ (hangTable t₃ caps m u v count) (edgeArea caps) (suc m) same-after ∙ block-names k
+  pub linked-block-names : namesIn (hangTable t₃ limits m u v count) (edgeArea limits) (suc m) ≡ namesIn t (edgeArea limits) m ++ m ∷ []
+  linked-block-names = names-same t₄ (hangTable t₃ limits m u v count) (edgeArea limits) (suc m) same-after ∙ block-names k

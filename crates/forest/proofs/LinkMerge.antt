@@ -2,28 +2,27 @@
 use mathlib.Core.Bool.{Bool, true, false, cond, _&&_, _||_, or-false}
 use mathlib.Core.List.{List, [], _∷_, List·Memᴰ, List·Memᴰ·cases-cons, List·Memᴰ·eq-of-singleton}
 use mathlib.Core.Logic.{_⊎_, inl, inr, ⊎-elim}
-use mathlib.Core.Path.{_≡_, refl, sym, _∙_, ap, ap₂}
+use mathlib.Core.Path.{_≡_, refl, sym, _∙_, ap₂}
 use Prim.Native.Nat.{ℕ, _≤_, _<_}
 use native.Mathlib.Omega.{arith}
 use lib.Dec.{leb, ltb}
 use Rattle.graph.specs.Network.{Network, addEdge}
 use Rattle.graph.specs.Groups.{component}
-use Rattle.graph.proofs.Truth.{not-both, bool-ext, or-left, or-right, or-cases, and-left, and-right, and-both, ltb-lt, ltb-ge}
-use Rattle.graph.proofs.Mates.{component-refl, component-sym, component-trans}
+use Rattle.graph.proofs.Truth.{bool-ext, or-left, or-right, or-cases, and-left, and-right, and-both, ltb-lt, ltb-ge}
+use Rattle.graph.proofs.Mates.{component-sym, component-trans}
 use Rattle.graph.proofs.EdgeMore.{component-edge-more}
 use Rattle.naming.proofs.Merge.{inMerged, Merges}
-use Rattle.table.specs.declared.words.Capacities.{Capacities}
 use Rattle.table.specs.declared.words.Area.{Area}
-use Rattle.table.specs.Layout.{place, put, vertexArea}
-use Rattle.table.specs.Merge.{sizeIn, itemOf, itemsFrom, betterName, bestListed, mergeListed}
+use Rattle.table.specs.Inside.Layout.{place, put, vertexArea}
+use Rattle.table.specs.Inside.Merge.{Renamed, sizeIn, itemOf, itemsFrom, betterName, bestListed, mergeListed}
 use Rattle.table.proofs.Cells.{HasColumns, length-put, cell-put-same, cell-put-other-item}
 use Rattle.table.proofs.MergeKept.{ListedOutside}
 use Rattle.table.proofs.MergeLaw.{MergedTo, merge-law}
-use Rattle.forest.specs.Tree.{pathVertices, listEnds, endsTable}
-use Rattle.forest.specs.Valid.{networkOf, Valid}
+use Rattle.forest.specs.Inside.Tree.{pathVertices, listEnds}
 use Rattle.forest.proofs.KindWords.{kind-same}
 use Rattle.forest.proofs.Networks.{component-groups}
-use Rattle.forest.proofs.Frames.{among, Frame, _then_, frame-vertex, frame-edge, same-components}
+use Rattle.forest.proofs.EdgeToAdd.{EdgeToAdd, before, after, endsStored, ends-frame}
+use Rattle.forest.proofs.Frames.{among, Frame, _then_, frame-vertex, same-components}
 
 -- Item x is in the group of a or of b.
 abbrev pub inEither : Network → ℕ → ℕ → ℕ → Bool
@@ -97,91 +96,87 @@ better-cases t area p q =
     go false e false f true = inl (refl, ltb-ge i j f)
     go false e false f false = inr (refl, ltb-ge j i e)
 
-module _ (caps : Capacities) (n m : ℕ) (t : List ℕ) (valid : Valid caps n m t) (room : m < caps .edges) (a b : ℕ) (ha : a < n) (hb : b < n)
-    (apart : component (networkOf caps n m t) a b ≡ false) where
+module _ (new : EdgeToAdd) where
+  open EdgeToAdd new using (limits, n, m, t, valid, a, b, a-known, b-known, differ)
+
   abbrev g : Network
-  g = networkOf caps n m t
+  g = before new
 
   abbrev t₁ : List ℕ
-  t₁ = endsTable t caps m a b
+  t₁ = endsStored new
 
-  abbrev t₂ : List ℕ
-  t₂ = listEnds t₁ caps a b
+  -- The table with the two ends written down as well.
+  abbrev pub endsListed : List ℕ
+  endsListed = listEnds t₁ limits a b
 
-  -- the two are different vertices
-  pub differ : a ≡ b → ⊥
-  -- the two are different vertices
-  differ q = not-both (component-refl g a) (ap (component g a) q ∙ apart)
+  -- The merge of their two components, and the name that it keeps.
+  abbrev pub merge : Renamed
+  merge = mergeListed endsListed (vertexArea limits) (pathVertices limits 2)
 
-  two : 2 ≤ caps .vertices
+  abbrev pub keptName : ℕ
+  keptName = bestListed endsListed (vertexArea limits) (pathVertices limits 2)
+
+  two : 2 ≤ limits .vertices
   two = omega (arith, valid .vertices-fit, differ)
 
-  -- storing the new edge's ends
-  pub ends-frame : (vs es : List ℕ) → among es 4 ≡ true → Frame caps vs es t t₁
-  unfolding endsTable
-  ends-frame vs es q = frame-edge caps vs es t 4 m _ (omega arith) room q
-
   -- writing the two vertices down
-  pub listed-frame : (vs es : List ℕ) → among vs 10 ≡ true → Frame caps vs es t₁ t₂
+  pub listed-frame : (vs es : List ℕ) → among vs 10 ≡ true → Frame limits vs es t₁ endsListed
   unfolding listEnds
   listed-frame vs es q =
-      frame-vertex caps vs es t₁ 10 0 a (omega arith) (omega (arith, two)) q
-      then frame-vertex caps vs es _ 10 1 b (omega arith) (omega (arith, two)) q
+      frame-vertex limits vs es t₁ 10 0 a (omega arith) (omega (arith, two)) q
+      then frame-vertex limits vs es _ 10 1 b (omega arith) (omega (arith, two)) q
 
   -- both leave the words of groups and of the forest
-  pub before-merge : Frame caps (10 ∷ []) (4 ∷ []) t t₂
-  before-merge = ends-frame _ _ refl then listed-frame _ _ refl
+  pub before-merge : Frame limits (10 ∷ []) (4 ∷ []) t endsListed
+  before-merge = ends-frame new _ _ refl then listed-frame _ _ refl
 
-  long₁ : HasColumns t₁ (vertexArea caps) 24
-  long₁ = omega (arith, ends-frame [] (4 ∷ []) refl .same-length, valid .long)
+  long₁ : HasColumns t₁ (vertexArea limits) 24
+  long₁ = omega (arith, ends-frame new [] (4 ∷ []) refl .same-length, valid .long)
 
   -- the first vertex written down
-  pub first-item : itemOf t₂ (pathVertices caps 2) 0 ≡ a
+  pub first-item : itemOf endsListed (pathVertices limits 2) 0 ≡ a
   unfolding pathVertices listEnds
   first-item =
-      cell-put-other-item _ (vertexArea caps) 10 1 b 0 (λ q. omega arith)
-      ∙ cell-put-same t₁ (vertexArea caps) 24 10 0 a long₁ (omega arith) (omega (arith, two))
+      cell-put-other-item _ (vertexArea limits) 10 1 b 0 (λ q. omega arith)
+      ∙ cell-put-same t₁ (vertexArea limits) 24 10 0 a long₁ (omega arith) (omega (arith, two))
 
   -- the second
-  pub second-item : itemOf t₂ (pathVertices caps 2) 1 ≡ b
+  pub second-item : itemOf endsListed (pathVertices limits 2) 1 ≡ b
   unfolding pathVertices listEnds
   second-item =
       cell-put-same
-      (put t₁ (vertexArea caps) 10 0 a)
-      (vertexArea caps)
+      (put t₁ (vertexArea limits) 10 0 a)
+      (vertexArea limits)
       24
       10
       1
       b
-      (rw (length-put t₁ (vertexArea caps) 10 0 a) long₁)
+      (rw (length-put t₁ (vertexArea limits) 10 0 a) long₁)
       (omega arith)
       (omega (arith, two))
 
-  items : itemsFrom t₂ (pathVertices caps 2) 0 2 ≡ a ∷ b ∷ []
+  items : itemsFrom endsListed (pathVertices limits 2) 0 2 ≡ a ∷ b ∷ []
   unfolding itemsFrom
   items = ap₂ (λ x y. x ∷ y ∷ []) first-item second-item
 
   below : (z : ℕ) → List·Memᴰ z (a ∷ b ∷ []) → z < n
   below z q =
       ⊎-elim
-      (λ (k : z ≡ a). rw k ha)
-      (λ (k : List·Memᴰ z (b ∷ [])). rw (List·Memᴰ·eq-of-singleton k) hb)
+      (λ (k : z ≡ a). rw k a-known)
+      (λ (k : List·Memᴰ z (b ∷ [])). rw (List·Memᴰ·eq-of-singleton k) b-known)
       (List·Memᴰ·cases-cons q)
 
-  outside : ListedOutside (vertexArea caps) (pathVertices caps 2)
+  outside : ListedOutside (vertexArea limits) (pathVertices limits 2)
   unfolding pathVertices place
   outside i h l k = omega arith
 
   -- what the merge of the two components leaves
-  pub law : MergedTo t₂ (vertexArea caps) n (component g) (component (addEdge g (record { left = a; right = b }))) (a ∷ b ∷ [])
-      (bestListed t₂ (vertexArea caps) (pathVertices caps 2))
-      (mergeListed t₂ (vertexArea caps) (pathVertices caps 2) .table)
-      (mergeListed t₂ (vertexArea caps) (pathVertices caps 2) .count)
+  pub law : MergedTo endsListed (vertexArea limits) n (component (before new)) (component (after new)) (a ∷ b ∷ []) keptName (merge .table) (merge .count)
   unfolding pathVertices
   law =
       merge-law
-      t₂
-      (vertexArea caps)
+      endsListed
+      (vertexArea limits)
       n
       (omega (arith, before-merge .same-length, valid .long))
       (valid .vertices-fit)
@@ -191,7 +186,7 @@ module _ (caps : Capacities) (n m : ℕ) (t : List ℕ) (valid : Valid caps n m 
       (component-groups g)
       (component-groups _)
       (kind-same (same-components before-merge n (valid .vertices-fit) refl refl refl) (valid .components))
-      (pathVertices caps 2)
+      (pathVertices limits 2)
       outside
       a
       (b ∷ [])

@@ -2,20 +2,20 @@
 use mathlib.Core.Path.{_≡_, refl, ap}
 use mathlib.Core.List.{List}
 use Prim.Native.Nat.{ℕ, _/_, _%_, _<_}
-use Rattle.graph.specs.Below.{tabulate}
-use Rattle.graph.specs.Network.{Network, Edge, edgeCount, never, MateRule}
+use Rattle.graph.specs.Below.{tabulate, length-tabulate}
+use Rattle.graph.specs.Network.{Network, Edge, edgeCount, MateRule}
 use Rattle.graph.specs.Groups.{component, bridgeBlock}
 use Rattle.graph.specs.Block.{block}
-use Rattle.graph.proofs.Truth.{not-both}
+use Rattle.graph.proofs.Never.{never-mates}
 use Rattle.graph.proofs.Mates.{component-refl, component-sym, component-trans}
 use Rattle.graph.proofs.BridgeBlock.{bridge-block-refl, bridge-block-sym, bridge-block-trans}
 use Rattle.graph.proofs.Block.{block-refl, block-sym, block-trans}
 use Rattle.naming.specs.Book.{Book}
 use Rattle.naming.proofs.Equivalent.{Equivalent}
-use Rattle.naming.proofs.Listed.{length-tabulate, tabulate-same}
-use Rattle.table.specs.declared.words.Capacities.{Capacities}
-use Rattle.table.specs.Layout.{cell, edgeArea}
-use Rattle.forest.specs.Valid.{endsOf, networkOf}
+use Rattle.naming.proofs.Listed.{tabulate-same}
+use Rattle.numbers.specs.declared.Limits.{Limits}
+use Rattle.table.specs.Inside.Layout.{cell, edgeArea}
+use Rattle.forest.specs.Inside.Valid.{endsOf, networkOf}
 
 -- components group the vertices
 pub component-groups : (g : Network) → Equivalent (component g)
@@ -30,44 +30,34 @@ pub block-groups : (g : Network) → Equivalent (block g)
 block-groups g = record { reflexive = block-refl g; symmetric = block-sym g; transitive = block-trans g }
 
 -- a table's network has as many edges as were entered
-pub edge-count : (caps : Capacities) (n m : ℕ) (t : List ℕ) → edgeCount (networkOf caps n m t) ≡ m
+pub edge-count : (limits : Limits) (n m : ℕ) (t : List ℕ) → edgeCount (networkOf limits n m t) ≡ m
 unfolding edgeCount networkOf
-edge-count caps n m t = length-tabulate m (endsOf t caps)
+edge-count limits n m t = length-tabulate m (endsOf t limits)
 
 -- and as many vertices
-pub vertex-count : (caps : Capacities) (n m : ℕ) (t : List ℕ) → networkOf caps n m t .vertices ≡ n
+pub vertex-count : (limits : Limits) (n m : ℕ) (t : List ℕ) → networkOf limits n m t .vertices ≡ n
 unfolding networkOf
-vertex-count caps n m t = refl
+vertex-count limits n m t = refl
 
 -- tables that agree on the ends of the edges below m list the same ends
-pub ends-same : (caps : Capacities) (m : ℕ) (t t′ : List ℕ) → ((s : ℕ) → s < m → cell t′ (edgeArea caps) 4 s ≡ cell t (edgeArea caps) 4 s)
-    → tabulate m (endsOf t′ caps) ≡ tabulate m (endsOf t caps)
+pub ends-same : (limits : Limits) (m : ℕ) (t t′ : List ℕ) → ((s : ℕ) → s < m → cell t′ (edgeArea limits) 4 s ≡ cell t (edgeArea limits) 4 s)
+    → tabulate m (endsOf t′ limits) ≡ tabulate m (endsOf t limits)
 unfolding endsOf
-ends-same caps m t t′ f =
-    tabulate-same m (endsOf t′ caps) (endsOf t caps)
+ends-same limits m t t′ f =
+    tabulate-same m (endsOf t′ limits) (endsOf t limits)
     (λ s h. ap (λ (w : ℕ). let e : Edge = record { left = w / 65536; right = w % 65536 } in e) (f s h))
 
 -- and so hold one network
-pub network-same : (caps : Capacities) (n m : ℕ) (t t′ : List ℕ)
-    → ((s : ℕ) → s < m → cell t′ (edgeArea caps) 4 s ≡ cell t (edgeArea caps) 4 s)
-    → networkOf caps n m t′ ≡ networkOf caps n m t
+pub network-same : (limits : Limits) (n m : ℕ) (t t′ : List ℕ)
+    → ((s : ℕ) → s < m → cell t′ (edgeArea limits) 4 s ≡ cell t (edgeArea limits) 4 s)
+    → networkOf limits n m t′ ≡ networkOf limits n m t
 unfolding networkOf
-network-same caps n m t t′ f = rw (ends-same caps m t t′ f)
+network-same limits n m t t′ f = rw (ends-same limits m t t′ f)
 
--- no edge has a mate
-pub never-mates : MateRule never
-unfolding never
-never-mates =
-    record {
-      symmetric = λ e f h. h;
-      transitive = λ e f h p q. p;
-      only-parallel = λ e f h. absurd (not-both h refl);
-    }
-
--- so it is in a table's network
-pub network-rule : (caps : Capacities) (n m : ℕ) (t : List ℕ) → MateRule (networkOf caps n m t .rule)
+-- no edge of it has a mate
+pub network-rule : (limits : Limits) (n m : ℕ) (t : List ℕ) → MateRule (networkOf limits n m t .rule)
 unfolding networkOf
-network-rule caps n m t = never-mates
+network-rule limits n m t = never-mates
 
 -- two books with the same network and the same three lists of names are one
 pub book-is : {b b′ : Book} → b .network ≡ b′ .network → b .components ≡ b′ .components → b .bridgeBlocks ≡ b′ .bridgeBlocks

@@ -2,38 +2,43 @@
 use mathlib.Core.Bool.{true}
 use mathlib.Core.List.{List}
 use mathlib.Core.Path.{_≡_, refl, sym, _∙_}
-use Prim.Native.Nat.{ℕ, _-_, _<_}
+use Prim.Native.Nat.{ℕ, suc, _-_, _<_}
+use Rattle.graph.specs.Below.{tabulate}
 use Rattle.graph.specs.Network.{Network}
 use Rattle.graph.specs.Groups.{component}
 use Rattle.graph.specs.Between.{cutsBetween}
 use Rattle.graph.proofs.PathCuts.{inner, cuts-of-block-path}
-use Rattle.table.specs.declared.words.Capacities.{Capacities}
-use Rattle.forest.specs.Climb.{pathVertex, climbTable, climbRoute}
-use Rattle.forest.specs.Route.{stepAt, stepsOf}
-use Rattle.forest.specs.Valid.{Valid, networkOf}
-use Rattle.forest.specs.Queries.{cutsCount}
-use Rattle.forest.specs.Promise.{WrittenDown, cutsWritten}
+use Rattle.numbers.specs.declared.Limits.{Limits}
+use Rattle.forest.specs.declared.Shape.{Shape}
+use Rattle.forest.specs.Inside.Climb.{pathVertex, climbTable, climbRoute}
+use Rattle.forest.specs.Inside.Route.{stepAt, stepsOf}
+use Rattle.forest.specs.Inside.Valid.{networkOf, bookOf}
+use Rattle.forest.specs.Inside.Queries.{cutsCount}
+use Rattle.forest.specs.Promise.{Holds, stateOf, networkIn, cutAt, ListWritten}
 use Rattle.forest.proofs.ClimbLaw.{Climbs, climb-law}
-use Rattle.forest.proofs.ValidFrame.{written-down}
+use Rattle.forest.proofs.ValidFrame.{path-only, list-written}
 use Rattle.forest.proofs.QueryPath.{inner-tabulate}
 
 -- the vertices between the ends of a path in the table, as they are written down
-inner-written : (t : List ℕ) (caps : Capacities) (k : ℕ) → inner (stepsOf t caps k) ≡ cutsWritten caps (k - 1) t
-unfolding stepsOf stepAt cutsWritten
-inner-written t caps k = inner-tabulate k (pathVertex t caps) (stepAt t caps) (λ i. refl)
+inner-written : (t : List ℕ) (limits : Limits) (k : ℕ) → inner (stepsOf t limits k) ≡ tabulate (k - 1) (λ i. pathVertex t limits (suc i))
+unfolding stepsOf stepAt
+inner-written t limits k = inner-tabulate k (pathVertex t limits) (stepAt t limits) (λ i. refl)
 
 -- the cut vertices between a and b are written down
-pub cuts-written : {caps : Capacities} {n m : ℕ} {t : List ℕ} → Valid caps n m t → (a b : ℕ) → a < n → b < n
-    → component (networkOf caps n m t) a b ≡ true
-    → WrittenDown caps n m t (climbTable t caps a b) (cutsWritten caps (cutsCount t caps a b) (climbTable t caps a b))
-    (cutsBetween (networkOf caps n m t) a b)
-unfolding cutsCount
-cuts-written {caps} {n} {m} {t} valid a b h l joined =
-    written-down valid (climbs .frame) _ _
-    (sym (cuts-of-block-path g (valid .proper) (climbs .path) ∙ inner-written (climbTable t caps a b) caps (climbRoute t caps a b .steps)))
+pub cuts-written : (shape : Shape) (t : List ℕ) → Holds shape t → (a b : ℕ) → a < shape .vertices → b < shape .vertices
+    → component (networkIn shape t) a b ≡ true
+    → let t′ = climbTable t (shape .limits) a b in
+    ListWritten shape t t′ (cutAt shape t′) (cutsCount t (shape .limits) a b) (cutsBetween (networkIn shape t) a b)
+unfolding cutsCount cutAt Holds stateOf bookOf
+cuts-written shape t holds a b h l joined =
+    list-written shape holds (path-only (climbs .frame)) _ _ _
+    (sym (cuts-of-block-path g (holds .proper) (climbs .path) ∙ inner-written (climbTable t limits a b) limits (climbRoute t limits a b .steps)))
   where
-    g : Network
-    g = networkOf caps n m t
+    limits : Limits
+    limits = shape .limits
 
-    climbs : Climbs caps n m t g a b (climbTable t caps a b) (climbRoute t caps a b)
-    climbs = climb-law caps n m t valid a b h l joined
+    g : Network
+    g = networkOf limits (shape .vertices) (shape .edges) t
+
+    climbs : Climbs limits (shape .vertices) (shape .edges) t g a b (climbTable t limits a b) (climbRoute t limits a b)
+    climbs = climb-law limits (shape .vertices) (shape .edges) t holds a b h l joined

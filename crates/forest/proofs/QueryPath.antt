@@ -1,17 +1,12 @@
 -- The path that a climb leaves in the table, read from its start.
-use mathlib.Core.List.{[], _∷_, _++_}
+use mathlib.Core.List.{_∷_}
 use mathlib.Core.Path.{_≡_, refl, ap}
 use Prim.Native.Nat.{ℕ, zero, suc, _-_}
 use native.Mathlib.Omega.{arith}
 use Rattle.graph.specs.Below.{tabulate}
 use Rattle.graph.specs.Cycle.{Step}
 use Rattle.graph.proofs.PathCuts.{starts, inner}
-
--- a list of values begins with the first, and goes on with those of the next numbers
-pub tabulate-first : {A : Type 0} (n : ℕ) (f : ℕ → A) → tabulate (suc n) f ≡ f 0 ∷ tabulate n (λ i. f (suc i))
-unfolding tabulate
-tabulate-first zero f = refl
-tabulate-first (suc n) f = ap (λ l. l ++ f (suc n) ∷ []) (tabulate-first n f)
+use Rattle.naming.proofs.Listed.{tabulate-first}
 
 -- steps that lead from each vertex to the next start from those vertices
 pub starts-tabulate : (k : ℕ) (v : ℕ → ℕ) (step : ℕ → Step) → ((i : ℕ) → step i .to ≡ v (suc i))

@@ -5,22 +5,22 @@ use mathlib.Core.List.{List}
 use Prim.Native.Nat.{ℕ, suc, _+_, _-_, _≤_, _<_}
 use native.Mathlib.Numerals.{add-one}
 use native.Mathlib.Omega.{arith}
-use Rattle.table.specs.declared.words.Capacities.{Capacities}
-use Rattle.forest.specs.Climb.{pathVertex}
-use Rattle.forest.specs.Queries.{Found, bridgeBlocksDiffer, findTable, findCount, findFrom}
+use Rattle.numbers.specs.declared.Limits.{Limits}
+use Rattle.forest.specs.Inside.Climb.{pathVertex}
+use Rattle.forest.specs.Inside.Queries.{Found, bridgeBlocksDiffer, findTable, findCount, findFrom}
 
-module _ (t : List ℕ) (caps : Capacities) where
+module _ (t : List ℕ) (limits : Limits) where
   -- the next step of the path is looked at, and then the rest
   pub find-step : (steps i count : ℕ) → i < steps
-      → findFrom t caps i (steps - i) count
-      ≡ findFrom (findTable t caps i count) caps (i + 1) (steps - (i + 1)) (findCount t caps i count)
+      → findFrom t limits i (steps - i) count
+      ≡ findFrom (findTable t limits i count) limits (i + 1) (steps - (i + 1)) (findCount t limits i count)
   unfolding findFrom
   find-step steps i count h =
       let e : steps - i ≡ suc (steps - (i + 1)) = omega arith in
       rw (e, add-one i)
 
   -- with no step left the answer is the table and the count at hand
-  pub find-end : (steps i count : ℕ) → steps ≤ i → (all : Found) → findFrom t caps i (steps - i) count ≡ all
+  pub find-end : (steps i count : ℕ) → steps ≤ i → (all : Found) → findFrom t limits i (steps - i) count ≡ all
       → (t ≡ all .table) × (count ≡ all .count)
   unfolding findFrom
   find-end steps i count h all e =
@@ -28,9 +28,9 @@ module _ (t : List ℕ) (caps : Capacities) where
       (ap (λ (f : Found). f .table) (rw z at e), ap (λ (f : Found). f .count) (rw z at e))
 
   -- a step adds at most one to the count
-  pub find-count-bound : (i count : ℕ) → findCount t caps i count ≤ count + 1
+  pub find-count-bound : (i count : ℕ) → findCount t limits i count ≤ count + 1
   unfolding findCount
-  find-count-bound i count = go (bridgeBlocksDiffer t caps (pathVertex t caps i) (pathVertex t caps (i + 1)))
+  find-count-bound i count = go (bridgeBlocksDiffer t limits (pathVertex t limits i) (pathVertex t limits (i + 1)))
     where
       go : (b : Bool) → cond b (suc count) count ≤ count + 1
       go true = omega arith

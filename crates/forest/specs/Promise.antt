@@ -1,72 +1,199 @@
--- What the operations on the table promise.
-use mathlib.Core.List.{List, _++_}
+-- What a caller may say of the working table, and what the operations on it promise. `Holds`, `stateOf` and what is read from the table
+-- one item at a time are never opened outside this crate: a caller knows of them only what stands here.
+use mathlib.Core.List.{List}
 use mathlib.Core.Option.{Option, none, some}
-use mathlib.Core.Path.{_≡_}
-use Prim.Native.Nat.{ℕ, suc, _+_, _*_, min}
-use lib.ListN.{length, drop, replicate}
-use Rattle.graph.specs.Below.{tabulate}
-use Rattle.naming.specs.Rename.{nameOf, changedItems}
-use Rattle.naming.specs.Book.{enterVertex, enterEdge}
-use Rattle.table.specs.declared.words.Capacities.{Capacities}
-use Rattle.forest.specs.declared.tree.Growth.{Growth}
-use Rattle.forest.specs.declared.query.Shared.{Shared}
-use Rattle.forest.specs.declared.query.Shared.the-variants.{Block, Nothing}
-use Rattle.forest.specs.Words.{componentChange, bridgeBlockChange, blockChange, bridgeWritten, cutWritten}
-use Rattle.forest.specs.Valid.{Valid, bookOf}
+use mathlib.Core.Path.{_≡_, refl, _∙_}
+use Prim.Native.Nat.{ℕ, suc, _+_, _*_, _≤_, _<_}
+use native.Mathlib.Omega.{arith}
+use lib.ListN.{length, drop}
+use Rattle.graph.specs.Below.{tabulate, length-tabulate}
+use Rattle.graph.specs.Network.{Network, Proper, never, edgeCount}
+use Rattle.graph.specs.Groups.{component, bridgeBlock}
+use Rattle.naming.specs.Rename.{Grouping, Change, nameOf, changesBetween}
+use Rattle.naming.specs.Book.{Book, vertex, edge}
+use Rattle.naming.specs.State.{State, emptyState, afterAddition}
+use Rattle.numbers.specs.declared.Limits.{Limits}
+use Rattle.table.specs.Inside.Layout.{cell, vertexArea, edgeArea}
+use Rattle.forest.specs.declared.Shape.{Shape}
+use Rattle.forest.specs.declared.VertexGroups.{VertexGroups}
+use Rattle.forest.specs.declared.VertexGroups.the-variants as G
+use Rattle.forest.specs.declared.Growth.{Growth}
+use Rattle.forest.specs.declared.Shared.{Shared}
+use Rattle.forest.specs.declared.Shared.the-variants.{Block, Nothing}
+use Rattle.forest.specs.Inside.Words.{groupArea}
+use Rattle.forest.specs.Inside.Valid.{Valid, endsOf, networkOf, bookOf}
 
--- The first k words are 0, or all where there are fewer; the others are as before.
-unfoldable pub cleared : ℕ → List ℕ → List ℕ
-cleared k t = replicate (min k (length t)) 0 ++ drop k t
+-- How many words a table takes for so many vertices and edges.
+unfoldable pub wordsNeeded : Limits → ℕ
+wordsNeeded limits = limits .vertices * 24 + limits .edges * 8
+
+-- 24 for each vertex and 8 for each edge
+pub words-needed : (limits : Limits) → wordsNeeded limits ≡ limits .vertices * 24 + limits .edges * 8
+unfolding wordsNeeded
+words-needed limits = refl
+
+-- The table holds a network of this shape.
+unfoldable pub Holds : Shape → List ℕ → Type 0
+Holds shape t = Valid (shape .limits) (shape .vertices) (shape .edges) t
+
+-- The state that it holds.
+unfoldable pub stateOf : Shape → List ℕ → State
+stateOf shape t = record { book = bookOf (shape .limits) (shape .vertices) (shape .edges) t }
+
+abbrev pub bookIn : Shape → List ℕ → Book
+bookIn shape t = stateOf shape t .book
+
+abbrev pub networkIn : Shape → List ℕ → Network
+networkIn shape t = stateOf shape t .book .network
+
+-- its network has as many vertices and edges as the shape says
+pub vertices-held : (shape : Shape) (t : List ℕ) → networkIn shape t .vertices ≡ shape .vertices
+unfolding stateOf bookOf networkOf
+vertices-held shape t = refl
+
+pub edges-held : (shape : Shape) (t : List ℕ) → edgeCount (networkIn shape t) ≡ shape .edges
+unfolding stateOf bookOf networkOf edgeCount
+edges-held shape t = length-tabulate (shape .edges) (endsOf t (shape .limits))
+
+-- for which there are words
+pub vertices-fit : (shape : Shape) (t : List ℕ) → Holds shape t → shape .vertices ≤ shape .limits .vertices
+unfolding Holds
+vertices-fit shape t holds = holds .vertices-fit
+
+pub edges-fit : (shape : Shape) (t : List ℕ) → Holds shape t → shape .edges ≤ shape .limits .edges
+unfolding Holds
+edges-fit shape t holds = holds .edges-fit
+
+-- and which are few
+pub few-vertices : (shape : Shape) (t : List ℕ) → Holds shape t → shape .vertices ≤ 4096
+unfolding Holds
+few-vertices shape t holds = omega (arith, holds .vertices-fit, holds .small-vertices)
+
+pub few-edges : (shape : Shape) (t : List ℕ) → Holds shape t → shape .edges ≤ 8192
+unfolding Holds
+few-edges shape t holds = omega (arith, holds .edges-fit, holds .small-edges)
+
+-- each edge joins two different vertices, and no edge is lost with another
+pub proper-held : (shape : Shape) (t : List ℕ) → Holds shape t → Proper (networkIn shape t)
+unfolding Holds stateOf bookOf
+proper-held shape t holds = holds .proper
+
+pub rule-held : (shape : Shape) (t : List ℕ) → Holds shape t → networkIn shape t .rule ≡ never
+unfolding stateOf bookOf networkOf
+rule-held shape t holds = refl
 
 -- The words beyond those of the vertices and edges are as before.
-pub record SameBeyond (caps : Capacities) (old new : List ℕ) : Type 0 where
+pub record SameBeyond (limits : Limits) (old new : List ℕ) : Type 0 where
   pub as-long : length new ≡ length old
-  pub beyond : drop (caps .vertices * 24 + caps .edges * 8) new ≡ drop (caps .vertices * 24 + caps .edges * 8) old
+  pub beyond : drop (wordsNeeded limits) new ≡ drop (wordsNeeded limits) old
+
+-- so they are where nothing is done
+pub same-beyond-refl : (limits : Limits) (t : List ℕ) → SameBeyond limits t t
+same-beyond-refl limits t = record { as-long = refl; beyond = refl }
+
+-- and where one thing is done after another
+pub same-beyond-trans : {limits : Limits} {x y z : List ℕ} → SameBeyond limits x y → SameBeyond limits y z → SameBeyond limits x z
+same-beyond-trans p q = record { as-long = q .as-long ∙ p .as-long; beyond = q .beyond ∙ p .beyond }
+
+-- A run begins: any table that is long enough holds the empty book.
+pub record Begun (limits : Limits) (t : List ℕ) (shape : Shape) : Type 0 where
+  pub shape-is : shape ≡ record { limits = limits; vertices = 0; edges = 0 }
+  pub holds : Holds shape t
+  pub state-is : stateOf shape t ≡ emptyState never
+
+abbrev pub oneVertexMore : Shape → Shape
+oneVertexMore shape = record { limits = shape .limits; vertices = shape .vertices + 1; edges = shape .edges }
+
+abbrev pub oneEdgeMore : Shape → Shape
+oneEdgeMore shape = record { limits = shape .limits; vertices = shape .vertices; edges = shape .edges + 1 }
 
 -- One vertex more.
-pub record VertexAdded (caps : Capacities) (n m : ℕ) (old new : List ℕ) : Type 0 where
-  pub valid : Valid caps (suc n) m new
-  pub book : bookOf caps (suc n) m new ≡ enterVertex (bookOf caps n m old)
-  pub same-beyond : SameBeyond caps old new
+pub record VertexAdded (shape : Shape) (old new : List ℕ) : Type 0 where
+  pub holds : Holds (oneVertexMore shape) new
+  pub state-is : stateOf (oneVertexMore shape) new ≡ afterAddition (stateOf shape old) vertex
+  pub same-beyond : SameBeyond (shape .limits) old new
 
--- The first k items written down as changed, of each kind.
-unfoldable pub componentsChanged : Capacities → ℕ → List ℕ → List ℕ
-componentsChanged caps k t = tabulate k (componentChange caps t)
+-- The names of the vertices and the groups that they name, by the kind of group.
+abbrev pub vertexNames : VertexGroups → Book → List ℕ
+vertexNames G.Components b = b .components
+vertexNames G.BridgeBlocks b = b .bridgeBlocks
 
-unfoldable pub bridgeBlocksChanged : Capacities → ℕ → List ℕ → List ℕ
-bridgeBlocksChanged caps k t = tabulate k (bridgeBlockChange caps t)
+abbrev pub vertexGroups : VertexGroups → Network → Grouping
+vertexGroups G.Components g = component g
+vertexGroups G.BridgeBlocks g = bridgeBlock g
 
-unfoldable pub blocksChanged : Capacities → ℕ → List ℕ → List ℕ
-blocksChanged caps k t = tabulate k (blockChange caps t)
+-- Change i of those that are written down: a vertex whose name of that kind changed, with its new name.
+unfoldable pub vertexChangeAt : Shape → VertexGroups → List ℕ → ℕ → Change
+vertexChangeAt shape groups t i =
+    let x = cell t (groupArea (shape .limits) groups) 3 i in
+    record { item = x; name = cell t (groupArea (shape .limits) groups) 0 x }
 
--- One edge more, between a and b: the book, the items of each kind that changed their name, and the new edge's block name.
-pub record EdgeAdded (caps : Capacities) (n m a b : ℕ) (old new : List ℕ) (growth : Growth) : Type 0 where
-  pub valid : Valid caps n (suc m) new
-  pub book : bookOf caps n (suc m) new ≡ enterEdge (bookOf caps n m old) (record { left = a; right = b })
-  pub components-changed : componentsChanged caps (growth .components) new
-      ≡ changedItems (bookOf caps n m old .components) (bookOf caps n (suc m) new .components)
-  pub bridge-blocks-changed : bridgeBlocksChanged caps (growth .«bridge_blocks») new
-      ≡ changedItems (bookOf caps n m old .bridgeBlocks) (bookOf caps n (suc m) new .bridgeBlocks)
-  pub blocks-changed : blocksChanged caps (growth .blocks) new
-      ≡ changedItems (bookOf caps n m old .blocks) (bookOf caps n (suc m) new .blocks)
-  pub block-name : growth .block .0 ≡ nameOf (bookOf caps n (suc m) new .blocks) m
-  pub same-beyond : SameBeyond caps old new
+-- The same of the edges, whose block name changed.
+unfoldable pub edgeChangeAt : Shape → List ℕ → ℕ → Change
+edgeChangeAt shape t i =
+    let s = cell t (edgeArea (shape .limits)) 3 i in
+    record { item = s; name = cell t (edgeArea (shape .limits)) 0 s }
+
+-- The first k changes that are written down are those between two lists of names.
+abbrev pub VerticesChanged : Shape → VertexGroups → List ℕ → ℕ → Book → Book → Type 0
+VerticesChanged shape groups t k old new =
+    tabulate k (vertexChangeAt shape groups t) ≡ changesBetween (vertexNames groups old) (vertexNames groups new)
+
+-- One edge more, between a and b: the state, the changes of each kind, and the new edge's block name.
+pub record EdgeAdded (shape : Shape) (a b : ℕ) (old new : List ℕ) (growth : Growth) : Type 0 where
+  pub holds : Holds (oneEdgeMore shape) new
+  pub state-is : stateOf (oneEdgeMore shape) new ≡ afterAddition (stateOf shape old) (edge (record { left = a; right = b }))
+  pub components-changed : VerticesChanged (oneEdgeMore shape) G.Components new (growth .components) (bookIn shape old) (bookIn (oneEdgeMore shape) new)
+  pub bridge-blocks-changed : VerticesChanged (oneEdgeMore shape) G.BridgeBlocks new (growth .«bridge_blocks») (bookIn shape old) (bookIn (oneEdgeMore shape) new)
+  pub blocks-changed : tabulate (growth .blocks) (edgeChangeAt (oneEdgeMore shape) new)
+      ≡ changesBetween (bookIn shape old .blocks) (bookIn (oneEdgeMore shape) new .blocks)
+  -- there are no more changes than items
+  pub few-components : growth .components ≤ shape .vertices
+  pub few-bridge-blocks : growth .«bridge_blocks» ≤ shape .vertices
+  pub few-blocks : growth .blocks ≤ shape .edges
+  pub block-name : growth .block .0 ≡ nameOf (bookIn (oneEdgeMore shape) new .blocks) (shape .edges)
+  pub same-beyond : SameBeyond (shape .limits) old new
 
 -- The shared block, by its name, or that there is none.
-unfoldable pub sharedName : List ℕ → Option ℕ → Shared
+abbrev pub sharedName : List ℕ → Option ℕ → Shared
 sharedName names none = Nothing
 sharedName names (some s) = Block (record { 0 = nameOf names s })
 
--- A list of edges or vertices is written down; the book is as before.
-pub record WrittenDown (caps : Capacities) (n m : ℕ) (old new written list : List ℕ) : Type 0 where
-  pub valid : Valid caps n m new
-  pub book : bookOf caps n m new ≡ bookOf caps n m old
-  pub is-list : written ≡ list
-  pub same-beyond : SameBeyond caps old new
+-- Bridge i and cut vertex i of those that are written down.
+unfoldable pub bridgeAt : Shape → List ℕ → ℕ → ℕ
+bridgeAt shape t i = cell t (vertexArea (shape .limits)) 13 i
 
--- The first k bridges, and the first k cut vertices, that are written down.
-unfoldable pub bridgesWritten : Capacities → ℕ → List ℕ → List ℕ
-bridgesWritten caps k t = tabulate k (bridgeWritten caps t)
+unfoldable pub cutAt : Shape → List ℕ → ℕ → ℕ
+cutAt shape t i = cell t (vertexArea (shape .limits)) 10 (suc i)
 
-unfoldable pub cutsWritten : Capacities → ℕ → List ℕ → List ℕ
-cutsWritten caps k t = tabulate k (cutWritten caps t)
+-- A list is written down: its items are those read one at a time. The state is as before.
+pub record ListWritten (shape : Shape) (old new : List ℕ) (at : ℕ → ℕ) (count : ℕ) (list : List ℕ) : Type 0 where
+  pub holds : Holds shape new
+  pub state-is : stateOf shape new ≡ stateOf shape old
+  pub is-list : tabulate count at ≡ list
+  pub same-beyond : SameBeyond (shape .limits) old new
+
+-- The scratch words: four for each vertex and one for each edge. An operation may overwrite them, and what it has written down (changes, a
+-- list) lies there: it is read before the next operation or store.
+unfoldable pub vertexScratch : Shape → List ℕ → ℕ → ℕ → ℕ
+vertexScratch shape t k x = cell t (vertexArea (shape .limits)) (10 + k) x
+
+unfoldable pub edgeScratch : Shape → List ℕ → ℕ → ℕ
+edgeScratch shape t s = cell t (edgeArea (shape .limits)) 3 s
+
+-- A scratch word is stored: all that the table holds is kept, and every other scratch word.
+pub record VertexScratchStored (shape : Shape) (k x value : ℕ) (old new : List ℕ) : Type 0 where
+  pub holds : Holds shape new
+  pub state-is : stateOf shape new ≡ stateOf shape old
+  pub stored : vertexScratch shape new k x ≡ value
+  pub other-words : (j y : ℕ) → j < 4 → y < shape .limits .vertices → (j ≡ k → y ≡ x → ⊥) → vertexScratch shape new j y ≡ vertexScratch shape old j y
+  pub edge-words : (s : ℕ) → s < shape .limits .edges → edgeScratch shape new s ≡ edgeScratch shape old s
+  pub same-beyond : SameBeyond (shape .limits) old new
+
+pub record EdgeScratchStored (shape : Shape) (s value : ℕ) (old new : List ℕ) : Type 0 where
+  pub holds : Holds shape new
+  pub state-is : stateOf shape new ≡ stateOf shape old
+  pub stored : edgeScratch shape new s ≡ value
+  pub other-words : (r : ℕ) → r < shape .limits .edges → (r ≡ s → ⊥) → edgeScratch shape new r ≡ edgeScratch shape old r
+  pub vertex-words : (j y : ℕ) → j < 4 → y < shape .limits .vertices → vertexScratch shape new j y ≡ vertexScratch shape old j y
+  pub same-beyond : SameBeyond (shape .limits) old new

@@ -1,41 +1,52 @@
 // The working table of the register: names and sizes of components, bridge-blocks and blocks, and one block forest, in words that
-// the caller lends. The operations below are all that a caller needs.
+// the caller lends. The operations below are all that a caller needs; what they promise stands in specs/Promise.
 ghost use mathlib.Core.Bool.{true};
+ghost use mathlib.Core.List.{_++_};
 ghost use mathlib.Core.Path.{_≡_};
-ghost use Prim.Native.Nat.{_<_};
-ghost use Rattle.graph.specs.Groups.{component, bridgeBlock, bridge};
+ghost use Prim.Native.Nat.{_<_, _≤_, min};
+ghost use lib.ListN.{length, drop, replicate};
+ghost use Rattle.graph.specs.Network.{edge};
+ghost use Rattle.graph.specs.Groups.{component, bridge};
 ghost use Rattle.graph.specs.Block.{sharedBlock};
 ghost use Rattle.graph.specs.Between.{bridgesBetween, cutsBetween};
 ghost use Rattle.naming.specs.Rename.{size, nameOf};
-ghost use Rattle.forest.specs.Words.{componentName, bridgeBlockName, blockName, componentChange, bridgeBlockChange, blockChange, bridgeWritten, cutWritten};
-ghost use Rattle.forest.specs.Valid.{Valid, bookOf, networkOf};
-ghost use Rattle.forest.specs.Promise.{cleared, VertexAdded, EdgeAdded, WrittenDown, sharedName, bridgesWritten, cutsWritten};
+ghost use Rattle.forest.specs.Inside.Words.{groupArea};
+ghost use Rattle.forest.specs.Promise.{wordsNeeded, Holds, bookIn, networkIn, Begun, VertexAdded, EdgeAdded, ListWritten};
+ghost use Rattle.forest.specs.Promise.{vertexNames, vertexGroups, vertexChangeAt, edgeChangeAt, sharedName, bridgeAt, cutAt};
+ghost use Rattle.forest.specs.Promise.{vertexScratch, edgeScratch, VertexScratchStored, EdgeScratchStored};
 
 pub mod climb;
 pub mod query;
 pub mod tree;
 
-use crate::query::Shared;
-use crate::tree::Growth;
+use numbers::Edge;
+use numbers::Limits;
+use numbers::Vertex;
+use table::words::Area;
 use table::words::CHANGED;
-use table::words::Capacities;
-use table::words::Edge;
+use table::words::ENDS;
 use table::words::NAME;
 use table::words::PATH_VERTEX;
 use table::words::RIGHT_EDGE;
 use table::words::SIZE;
-use table::words::Vertex;
 use table::words::bridge_block_area;
 use table::words::edge_area;
+use table::words::set_word;
 use table::words::vertex_area;
 use table::words::word;
 use table::words::word_behind;
 
 // How many vertices and edges the table has words for, and how many it holds.
 pub struct Shape {
-    pub caps: Capacities,
+    pub limits: Limits,
     pub vertices: u32,
     pub edges: u32,
+}
+
+// The two kinds of groups of vertices.
+pub enum VertexGroups {
+    Components,
+    BridgeBlocks,
 }
 
 // A group of vertices: its name and its size.
@@ -44,9 +55,60 @@ pub struct Group {
     pub size: u32,
 }
 
+// A vertex and its new name.
+pub struct VertexChange {
+    pub item: Vertex,
+    pub name: Vertex,
+}
+
+// An edge and its new name.
+pub struct EdgeChange {
+    pub item: Edge,
+    pub name: Edge,
+}
+
+// What one edge more did: how many items of each kind changed their name, and the new edge's block name.
+pub struct Growth {
+    pub components: u32,
+    pub bridge_blocks: u32,
+    pub blocks: u32,
+    pub block: Edge,
+}
+
+// The block that two vertices share, by its name, or that there is none.
+pub enum Shared {
+    Block(Edge),
+    Nothing,
+}
+
+// The two ends of an edge.
+pub struct Ends {
+    pub left: Vertex,
+    pub right: Vertex,
+}
+
+// How many words a table takes.
+pub fn words_needed(limits: Limits) -> usize
+    ensures { λ r. ⌜ r ≡ wordsNeeded limits ⌝ }
+{
+    (limits.vertices as usize) * 24 + (limits.edges as usize) * 8
+}
+
+// Begins a run: whatever the table's words are, it holds a network without vertices and edges.
+pub fn begin(t: &[u32], limits: Limits) -> Shape
+    requires { ⌜ (limits .vertices ≤ 4096) × (limits .edges ≤ 8192) × (wordsNeeded limits ≤ length (now t)) ⌝ }
+    ensures { λ r. ⌜ Begun limits (now (t .entry)) r ⌝ }
+{
+    Shape {
+        limits: limits,
+        vertices: 0,
+        edges: 0,
+    }
+}
+
 // Sets the first `count` words to 0, or all where there are fewer.
 pub fn clear(t: &mut [u32], count: usize)
-    ensures { λ r. ⌜ now (t .exit) ≡ cleared count (now (t .entry)) ⌝ }
+    ensures { λ r. ⌜ now (t .exit) ≡ replicate (min count (length (now (t .entry)))) 0 ++ drop count (now (t .entry)) ⌝ }
 {
     let end = if count < t.len() { count } else { t.len() };
     let mut i: usize = 0;
@@ -58,44 +120,40 @@ pub fn clear(t: &mut [u32], count: usize)
 
 // Adds the next vertex.
 pub fn add_vertex(t: &mut [u32], shape: Shape)
-    requires { ⌜ Valid (shape .caps) (shape .vertices) (shape .edges) (now t) × (shape .vertices < shape .caps .vertices) ⌝ }
-    ensures { λ r. ⌜ VertexAdded (shape .caps) (shape .vertices) (shape .edges) (now (t .entry)) (now (t .exit)) ⌝ }
+    requires { ⌜ Holds shape (now t) × (shape .vertices < shape .limits .vertices) ⌝ }
+    ensures { λ r. ⌜ VertexAdded shape (now (t .entry)) (now (t .exit)) ⌝ }
 {
-    let caps = shape.caps;
-    tree::grow_vertex(t, caps, Vertex(shape.vertices));
+    let limits = shape.limits;
+    tree::grow_vertex(t, limits, Vertex(shape.vertices));
 }
 
 // Adds the next edge, between two different vertices.
 pub fn add_edge(t: &mut [u32], shape: Shape, a: Vertex, b: Vertex) -> Growth
-    requires { ⌜ Valid (shape .caps) (shape .vertices) (shape .edges) (now t) × (shape .edges < shape .caps .edges) × (a .0 < shape .vertices) × (b .0 < shape .vertices) × (a .0 ≡ b .0 → ⊥) ⌝ }
-    ensures { λ r. ⌜ EdgeAdded (shape .caps) (shape .vertices) (shape .edges) (a .0) (b .0) (now (t .entry)) (now (t .exit)) r ⌝ }
+    requires { ⌜ Holds shape (now t) × (shape .edges < shape .limits .edges) × (a .0 < shape .vertices) × (b .0 < shape .vertices) × (a .0 ≡ b .0 → ⊥) ⌝ }
+    ensures { λ r. ⌜ EdgeAdded shape (a .0) (b .0) (now (t .entry)) (now (t .exit)) r ⌝ }
 {
-    let caps = shape.caps;
-    tree::grow_edge(t, caps, Edge(shape.edges), a, b)
+    let limits = shape.limits;
+    tree::grow_edge(t, limits, Edge(shape.edges), a, b)
 }
 
-// The component of a vertex.
-pub fn component_of(t: &[u32], shape: Shape, x: Vertex) -> Group
-    requires { ⌜ Valid (shape .caps) (shape .vertices) (shape .edges) (now t) × (x .0 < shape .vertices) ⌝ }
-    ensures { λ r. ⌜ (r .name .0 ≡ nameOf (bookOf (shape .caps) (shape .vertices) (shape .edges) (now (t .entry)) .components) (x .0)) × (r .size ≡ size (shape .vertices) (component (networkOf (shape .caps) (shape .vertices) (shape .edges) (now (t .entry)))) (x .0)) ⌝ }
+// The words of a kind of groups of vertices.
+fn area_of(limits: Limits, groups: VertexGroups) -> Area
+    ensures { λ r. ⌜ r ≡ groupArea limits groups ⌝ }
 {
-    let caps = shape.caps;
-    let name = word(t, vertex_area(caps), NAME, x.0);
-    let size = word(t, vertex_area(caps), SIZE, name);
-    Group {
-        name: Vertex(name),
-        size: size,
+    match groups {
+        VertexGroups::Components => vertex_area(limits),
+        VertexGroups::BridgeBlocks => bridge_block_area(limits),
     }
 }
 
-// The bridge-block of a vertex.
-pub fn bridge_block_of(t: &[u32], shape: Shape, x: Vertex) -> Group
-    requires { ⌜ Valid (shape .caps) (shape .vertices) (shape .edges) (now t) × (x .0 < shape .vertices) ⌝ }
-    ensures { λ r. ⌜ (r .name .0 ≡ nameOf (bookOf (shape .caps) (shape .vertices) (shape .edges) (now (t .entry)) .bridgeBlocks) (x .0)) × (r .size ≡ size (shape .vertices) (bridgeBlock (networkOf (shape .caps) (shape .vertices) (shape .edges) (now (t .entry)))) (x .0)) ⌝ }
+// The group of a vertex.
+pub fn group_of(t: &[u32], shape: Shape, groups: VertexGroups, x: Vertex) -> Group
+    requires { ⌜ Holds shape (now t) × (x .0 < shape .vertices) ⌝ }
+    ensures { λ r. ⌜ (r .name .0 ≡ nameOf (vertexNames groups (bookIn shape (now (t .entry)))) (x .0)) × (r .size ≡ size (shape .vertices) (vertexGroups groups (networkIn shape (now (t .entry)))) (x .0)) ⌝ }
 {
-    let caps = shape.caps;
-    let name = word(t, bridge_block_area(caps), NAME, x.0);
-    let size = word(t, bridge_block_area(caps), SIZE, name);
+    let area = area_of(shape.limits, groups);
+    let name = word(t, area, NAME, x.0);
+    let size = word(t, area, SIZE, name);
     Group {
         name: Vertex(name),
         size: size,
@@ -104,103 +162,146 @@ pub fn bridge_block_of(t: &[u32], shape: Shape, x: Vertex) -> Group
 
 // Whether two vertices share a component.
 pub fn same_component(t: &[u32], shape: Shape, a: Vertex, b: Vertex) -> bool
-    requires { ⌜ Valid (shape .caps) (shape .vertices) (shape .edges) (now t) × (a .0 < shape .vertices) × (b .0 < shape .vertices) ⌝ }
-    ensures { λ r. ⌜ r ≡ component (networkOf (shape .caps) (shape .vertices) (shape .edges) (now (t .entry))) (a .0) (b .0) ⌝ }
+    requires { ⌜ Holds shape (now t) × (a .0 < shape .vertices) × (b .0 < shape .vertices) ⌝ }
+    ensures { λ r. ⌜ r ≡ component (networkIn shape (now (t .entry))) (a .0) (b .0) ⌝ }
 {
-    let caps = shape.caps;
-    let left = component_name(t, caps, a);
-    let right = component_name(t, caps, b);
-    left.0 == right.0
-}
-
-// The component name of a vertex.
-pub fn component_name(t: &[u32], caps: Capacities, x: Vertex) -> Vertex
-    ensures { λ r. ⌜ r .0 ≡ componentName caps (now (t .entry)) (x .0) ⌝ }
-{
-    Vertex(word(t, vertex_area(caps), NAME, x.0))
-}
-
-// The bridge-block name of a vertex.
-pub fn bridge_block_name(t: &[u32], caps: Capacities, x: Vertex) -> Vertex
-    ensures { λ r. ⌜ r .0 ≡ bridgeBlockName caps (now (t .entry)) (x .0) ⌝ }
-{
-    Vertex(word(t, bridge_block_area(caps), NAME, x.0))
+    let limits = shape.limits;
+    let left = word(t, vertex_area(limits), NAME, a.0);
+    let right = word(t, vertex_area(limits), NAME, b.0);
+    left == right
 }
 
 // The block name of an edge.
-pub fn block_name(t: &[u32], caps: Capacities, s: Edge) -> Edge
-    ensures { λ r. ⌜ r .0 ≡ blockName caps (now (t .entry)) (s .0) ⌝ }
+pub fn block_name(t: &[u32], shape: Shape, s: Edge) -> Edge
+    requires { ⌜ Holds shape (now t) × (s .0 < shape .edges) ⌝ }
+    ensures { λ r. ⌜ r .0 ≡ nameOf (bookIn shape (now (t .entry)) .blocks) (s .0) ⌝ }
 {
-    Edge(word(t, edge_area(caps), NAME, s.0))
+    let limits = shape.limits;
+    Edge(word(t, edge_area(limits), NAME, s.0))
+}
+
+// The two ends of an edge.
+pub fn ends_of(t: &[u32], shape: Shape, s: Edge) -> Ends
+    requires { ⌜ Holds shape (now t) × (s .0 < shape .edges) ⌝ }
+    ensures { λ r. ⌜ (r .left .0 ≡ edge (networkIn shape (now (t .entry))) (s .0) .left) × (r .right .0 ≡ edge (networkIn shape (now (t .entry))) (s .0) .right) ⌝ }
+{
+    let limits = shape.limits;
+    let ends = word(t, edge_area(limits), ENDS, s.0);
+    Ends {
+        left: Vertex(ends / 65536),
+        right: Vertex(ends % 65536),
+    }
 }
 
 // The block that has an edge at each of two different vertices.
 pub fn shared_block(t: &[u32], shape: Shape, a: Vertex, b: Vertex) -> Shared
-    requires { ⌜ Valid (shape .caps) (shape .vertices) (shape .edges) (now t) × (a .0 < shape .vertices) × (b .0 < shape .vertices) × (a .0 ≡ b .0 → ⊥) ⌝ }
-    ensures { λ r. ⌜ r ≡ sharedName (bookOf (shape .caps) (shape .vertices) (shape .edges) (now (t .entry)) .blocks) (sharedBlock (networkOf (shape .caps) (shape .vertices) (shape .edges) (now (t .entry))) (a .0) (b .0)) ⌝ }
+    requires { ⌜ Holds shape (now t) × (a .0 < shape .vertices) × (b .0 < shape .vertices) × (a .0 ≡ b .0 → ⊥) ⌝ }
+    ensures { λ r. ⌜ r ≡ sharedName (bookIn shape (now (t .entry)) .blocks) (sharedBlock (networkIn shape (now (t .entry))) (a .0) (b .0)) ⌝ }
 {
-    let caps = shape.caps;
-    query::find_shared(t, caps, a, b)
+    let limits = shape.limits;
+    query::find_shared(t, limits, a, b)
 }
 
 // Whether an edge is a bridge.
 pub fn is_bridge(t: &[u32], shape: Shape, s: Edge) -> bool
-    requires { ⌜ Valid (shape .caps) (shape .vertices) (shape .edges) (now t) × (s .0 < shape .edges) ⌝ }
-    ensures { λ r. ⌜ r ≡ bridge (networkOf (shape .caps) (shape .vertices) (shape .edges) (now (t .entry))) (s .0) ⌝ }
+    requires { ⌜ Holds shape (now t) × (s .0 < shape .edges) ⌝ }
+    ensures { λ r. ⌜ r ≡ bridge (networkIn shape (now (t .entry))) (s .0) ⌝ }
 {
-    let caps = shape.caps;
-    query::ends_differ(t, caps, s)
+    let limits = shape.limits;
+    query::ends_differ(t, limits, s)
 }
 
 // Writes down the bridges between two vertices of one component, in travelling order; gives their number.
 pub fn bridges_between(t: &mut [u32], shape: Shape, a: Vertex, b: Vertex) -> u32
-    requires { ⌜ Valid (shape .caps) (shape .vertices) (shape .edges) (now t) × (a .0 < shape .vertices) × (b .0 < shape .vertices) × (component (networkOf (shape .caps) (shape .vertices) (shape .edges) (now t)) (a .0) (b .0) ≡ true) ⌝ }
-    ensures { λ r. ⌜ WrittenDown (shape .caps) (shape .vertices) (shape .edges) (now (t .entry)) (now (t .exit)) (bridgesWritten (shape .caps) r (now (t .exit))) (bridgesBetween (networkOf (shape .caps) (shape .vertices) (shape .edges) (now (t .entry))) (a .0) (b .0)) ⌝ }
+    requires { ⌜ Holds shape (now t) × (a .0 < shape .vertices) × (b .0 < shape .vertices) × (component (networkIn shape (now t)) (a .0) (b .0) ≡ true) ⌝ }
+    ensures { λ r. ⌜ ListWritten shape (now (t .entry)) (now (t .exit)) (bridgeAt shape (now (t .exit))) r (bridgesBetween (networkIn shape (now (t .entry))) (a .0) (b .0)) ⌝ }
 {
-    let caps = shape.caps;
-    query::find_bridges(t, caps, a, b)
+    let limits = shape.limits;
+    query::find_bridges(t, limits, a, b)
 }
 
 // Writes down the cut vertices between two vertices of one component, in travelling order; gives their number.
 pub fn cuts_between(t: &mut [u32], shape: Shape, a: Vertex, b: Vertex) -> u32
-    requires { ⌜ Valid (shape .caps) (shape .vertices) (shape .edges) (now t) × (a .0 < shape .vertices) × (b .0 < shape .vertices) × (component (networkOf (shape .caps) (shape .vertices) (shape .edges) (now t)) (a .0) (b .0) ≡ true) ⌝ }
-    ensures { λ r. ⌜ WrittenDown (shape .caps) (shape .vertices) (shape .edges) (now (t .entry)) (now (t .exit)) (cutsWritten (shape .caps) r (now (t .exit))) (cutsBetween (networkOf (shape .caps) (shape .vertices) (shape .edges) (now (t .entry))) (a .0) (b .0)) ⌝ }
+    requires { ⌜ Holds shape (now t) × (a .0 < shape .vertices) × (b .0 < shape .vertices) × (component (networkIn shape (now t)) (a .0) (b .0) ≡ true) ⌝ }
+    ensures { λ r. ⌜ ListWritten shape (now (t .entry)) (now (t .exit)) (cutAt shape (now (t .exit))) r (cutsBetween (networkIn shape (now (t .entry))) (a .0) (b .0)) ⌝ }
 {
-    let caps = shape.caps;
-    query::find_cuts(t, caps, a, b)
+    let limits = shape.limits;
+    query::find_cuts(t, limits, a, b)
 }
 
 // Bridge i of those that are written down.
-pub fn bridge_at(t: &[u32], caps: Capacities, i: u32) -> Edge
-    ensures { λ r. ⌜ r .0 ≡ bridgeWritten caps (now (t .entry)) i ⌝ }
+pub fn bridge_at(t: &[u32], shape: Shape, i: u32) -> Edge
+    ensures { λ r. ⌜ r .0 ≡ bridgeAt shape (now (t .entry)) i ⌝ }
 {
-    Edge(word(t, vertex_area(caps), RIGHT_EDGE, i))
+    let limits = shape.limits;
+    Edge(word(t, vertex_area(limits), RIGHT_EDGE, i))
 }
 
 // Cut vertex i of those that are written down.
-pub fn cut_at(t: &[u32], caps: Capacities, i: u32) -> Vertex
-    ensures { λ r. ⌜ r .0 ≡ cutWritten caps (now (t .entry)) i ⌝ }
+pub fn cut_at(t: &[u32], shape: Shape, i: u32) -> Vertex
+    ensures { λ r. ⌜ r .0 ≡ cutAt shape (now (t .entry)) i ⌝ }
 {
-    Vertex(word_behind(t, vertex_area(caps), PATH_VERTEX, i))
+    let limits = shape.limits;
+    Vertex(word_behind(t, vertex_area(limits), PATH_VERTEX, i))
 }
 
-// Vertex i of those whose component name changed.
-pub fn component_change(t: &[u32], caps: Capacities, i: u32) -> Vertex
-    ensures { λ r. ⌜ r .0 ≡ componentChange caps (now (t .entry)) i ⌝ }
+// Change i of the vertices' names of a kind, of those that are written down.
+pub fn vertex_change_at(t: &[u32], shape: Shape, groups: VertexGroups, i: u32) -> VertexChange
+    ensures { λ r. ⌜ (r .item .0 ≡ vertexChangeAt shape groups (now (t .entry)) i .item) × (r .name .0 ≡ vertexChangeAt shape groups (now (t .entry)) i .name) ⌝ }
 {
-    Vertex(word(t, vertex_area(caps), CHANGED, i))
+    let area = area_of(shape.limits, groups);
+    let x = word(t, area, CHANGED, i);
+    let name = word(t, area, NAME, x);
+    VertexChange {
+        item: Vertex(x),
+        name: Vertex(name),
+    }
 }
 
-// Vertex i of those whose bridge-block name changed.
-pub fn bridge_block_change(t: &[u32], caps: Capacities, i: u32) -> Vertex
-    ensures { λ r. ⌜ r .0 ≡ bridgeBlockChange caps (now (t .entry)) i ⌝ }
+// Change i of the edges' names, of those that are written down.
+pub fn edge_change_at(t: &[u32], shape: Shape, i: u32) -> EdgeChange
+    ensures { λ r. ⌜ (r .item .0 ≡ edgeChangeAt shape (now (t .entry)) i .item) × (r .name .0 ≡ edgeChangeAt shape (now (t .entry)) i .name) ⌝ }
 {
-    Vertex(word(t, bridge_block_area(caps), CHANGED, i))
+    let limits = shape.limits;
+    let s = word(t, edge_area(limits), CHANGED, i);
+    let name = word(t, edge_area(limits), NAME, s);
+    EdgeChange {
+        item: Edge(s),
+        name: Edge(name),
+    }
 }
 
-// Edge i of those whose block name changed.
-pub fn block_change(t: &[u32], caps: Capacities, i: u32) -> Edge
-    ensures { λ r. ⌜ r .0 ≡ blockChange caps (now (t .entry)) i ⌝ }
+// Scratch word k of a vertex.
+pub fn vertex_scratch(t: &[u32], shape: Shape, k: u8, x: Vertex) -> u32
+    requires { ⌜ k < 4 ⌝ }
+    ensures { λ r. ⌜ r ≡ vertexScratch shape (now (t .entry)) k (x .0) ⌝ }
 {
-    Edge(word(t, edge_area(caps), CHANGED, i))
+    let limits = shape.limits;
+    word(t, vertex_area(limits), PATH_VERTEX + k, x.0)
+}
+
+// Stores scratch word k of a vertex.
+pub fn set_vertex_scratch(t: &mut [u32], shape: Shape, k: u8, x: Vertex, value: u32)
+    requires { ⌜ Holds shape (now t) × (k < 4) × (x .0 < shape .limits .vertices) ⌝ }
+    ensures { λ r. ⌜ VertexScratchStored shape k (x .0) value (now (t .entry)) (now (t .exit)) ⌝ }
+{
+    let limits = shape.limits;
+    set_word(t, vertex_area(limits), PATH_VERTEX + k, x.0, value);
+}
+
+// The scratch word of an edge.
+pub fn edge_scratch(t: &[u32], shape: Shape, s: Edge) -> u32
+    ensures { λ r. ⌜ r ≡ edgeScratch shape (now (t .entry)) (s .0) ⌝ }
+{
+    let limits = shape.limits;
+    word(t, edge_area(limits), CHANGED, s.0)
+}
+
+// Stores the scratch word of an edge.
+pub fn set_edge_scratch(t: &mut [u32], shape: Shape, s: Edge, value: u32)
+    requires { ⌜ Holds shape (now t) × (s .0 < shape .limits .edges) ⌝ }
+    ensures { λ r. ⌜ EdgeScratchStored shape (s .0) value (now (t .entry)) (now (t .exit)) ⌝ }
+{
+    let limits = shape.limits;
+    set_word(t, edge_area(limits), CHANGED, s.0, value);
 }

@@ -1,140 +1,135 @@
 // The questions: what the table says of its groups, and of the path between two vertices.
 ghost use mathlib.Core.Path.{_≡_};
 ghost use Prim.Native.Nat.{_+_, _≤_, _<_};
-ghost use Rattle.forest.specs.Climb.{climbTable};
-ghost use Rattle.forest.specs.Queries.{bridgeBlocksDiffer, bridgeIn, hangsFrom, hangTogether, blockAbove, sharedIn};
-ghost use Rattle.forest.specs.Queries.{findTable, findCount, bridgesFound, cutsCount};
+ghost use Rattle.forest.specs.Inside.Climb.{climbTable};
+ghost use Rattle.forest.specs.Inside.Queries.{bridgeBlocksDiffer, bridgeIn, hangsFrom, hangTogether, blockAbove, sharedIn};
+ghost use Rattle.forest.specs.Inside.Queries.{findTable, findCount, bridgesFound, cutsCount};
+use crate::Shared;
 use crate::climb::block_of;
 use crate::climb::climb;
 use crate::climb::top;
 use crate::climb::up;
-use table::words::Capacities;
+use numbers::Edge;
+use numbers::Limits;
+use numbers::Vertex;
 use table::words::ENDS;
-use table::words::Edge;
 use table::words::NAME;
 use table::words::PATH_EDGE;
 use table::words::PATH_VERTEX;
 use table::words::RIGHT_EDGE;
-use table::words::Vertex;
 use table::words::bridge_block_area;
 use table::words::edge_area;
 use table::words::set_word;
 use table::words::vertex_area;
 use table::words::word;
 
-// The block that two vertices share, by its name, or that there is none.
-pub enum Shared {
-    Block(Edge),
-    Nothing,
-}
-
 // The bridge-block names of two vertices differ.
-fn bridge_blocks_differ(t: &[u32], caps: Capacities, x: u32, y: u32) -> bool
-    ensures { λ r. ⌜ r ≡ bridgeBlocksDiffer (now (t .entry)) caps x y ⌝ }
+fn bridge_blocks_differ(t: &[u32], limits: Limits, x: u32, y: u32) -> bool
+    ensures { λ r. ⌜ r ≡ bridgeBlocksDiffer (now (t .entry)) limits x y ⌝ }
 {
-    let left = word(t, bridge_block_area(caps), NAME, x);
-    let right = word(t, bridge_block_area(caps), NAME, y);
+    let left = word(t, bridge_block_area(limits), NAME, x);
+    let right = word(t, bridge_block_area(limits), NAME, y);
     left != right
 }
 
 // The bridge-block names of an edge's two ends differ.
-pub(crate) fn ends_differ(t: &[u32], caps: Capacities, s: Edge) -> bool
-    ensures { λ r. ⌜ r ≡ bridgeIn (now (t .entry)) caps (s .0) ⌝ }
+pub(crate) fn ends_differ(t: &[u32], limits: Limits, s: Edge) -> bool
+    ensures { λ r. ⌜ r ≡ bridgeIn (now (t .entry)) limits (s .0) ⌝ }
 {
-    let ends = word(t, edge_area(caps), ENDS, s.0);
-    bridge_blocks_differ(t, caps, ends / 65536, ends % 65536)
+    let ends = word(t, edge_area(limits), ENDS, s.0);
+    bridge_blocks_differ(t, limits, ends / 65536, ends % 65536)
 }
 
 // Vertex x hangs below a block, and y is the vertex above that block.
-fn hangs_from(t: &[u32], caps: Capacities, x: Vertex, y: Vertex) -> bool
-    ensures { λ r. ⌜ r ≡ hangsFrom (now (t .entry)) caps (x .0) (y .0) ⌝ }
+fn hangs_from(t: &[u32], limits: Limits, x: Vertex, y: Vertex) -> bool
+    ensures { λ r. ⌜ r ≡ hangsFrom (now (t .entry)) limits (x .0) (y .0) ⌝ }
 {
-    let edge = up(t, caps, x);
+    let edge = up(t, limits, x);
     if edge == 0 {
         return false;
     }
-    let above = top(t, caps, block_of(t, caps, Edge(edge - 1)));
+    let above = top(t, limits, block_of(t, limits, Edge(edge - 1)));
     above.0 == y.0
 }
 
 // Vertices x and y hang below one block.
-fn hang_together(t: &[u32], caps: Capacities, x: Vertex, y: Vertex) -> bool
-    ensures { λ r. ⌜ r ≡ hangTogether (now (t .entry)) caps (x .0) (y .0) ⌝ }
+fn hang_together(t: &[u32], limits: Limits, x: Vertex, y: Vertex) -> bool
+    ensures { λ r. ⌜ r ≡ hangTogether (now (t .entry)) limits (x .0) (y .0) ⌝ }
 {
-    let left = up(t, caps, x);
-    let right = up(t, caps, y);
+    let left = up(t, limits, x);
+    let right = up(t, limits, y);
     if left == 0 {
         return false;
     }
     if right == 0 {
         return false;
     }
-    let a = block_of(t, caps, Edge(left - 1));
-    let b = block_of(t, caps, Edge(right - 1));
+    let a = block_of(t, limits, Edge(left - 1));
+    let b = block_of(t, limits, Edge(right - 1));
     a.0 == b.0
 }
 
 // The name of the block above a vertex that hangs below one.
-fn block_above(t: &[u32], caps: Capacities, x: Vertex) -> Edge
-    ensures { λ r. ⌜ r .0 ≡ blockAbove (now (t .entry)) caps (x .0) ⌝ }
+fn block_above(t: &[u32], limits: Limits, x: Vertex) -> Edge
+    ensures { λ r. ⌜ r .0 ≡ blockAbove (now (t .entry)) limits (x .0) ⌝ }
 {
-    let edge = up(t, caps, x);
+    let edge = up(t, limits, x);
     if edge == 0 {
-        return block_of(t, caps, Edge(0));
+        return block_of(t, limits, Edge(0));
     }
-    block_of(t, caps, Edge(edge - 1))
+    block_of(t, limits, Edge(edge - 1))
 }
 
 // The block that two different vertices share.
-pub(crate) fn find_shared(t: &[u32], caps: Capacities, a: Vertex, b: Vertex) -> Shared
-    ensures { λ r. ⌜ r ≡ sharedIn (now (t .entry)) caps (a .0) (b .0) ⌝ }
+pub(crate) fn find_shared(t: &[u32], limits: Limits, a: Vertex, b: Vertex) -> Shared
+    ensures { λ r. ⌜ r ≡ sharedIn (now (t .entry)) limits (a .0) (b .0) ⌝ }
 {
-    if hang_together(t, caps, a, b) {
-        return Shared::Block(block_above(t, caps, a));
+    if hang_together(t, limits, a, b) {
+        return Shared::Block(block_above(t, limits, a));
     }
-    if hangs_from(t, caps, a, b) {
-        return Shared::Block(block_above(t, caps, a));
+    if hangs_from(t, limits, a, b) {
+        return Shared::Block(block_above(t, limits, a));
     }
-    if hangs_from(t, caps, b, a) {
-        return Shared::Block(block_above(t, caps, b));
+    if hangs_from(t, limits, b, a) {
+        return Shared::Block(block_above(t, limits, b));
     }
     Shared::Nothing
 }
 
 // Writes down the edge of step i of the path, where it is a bridge.
-fn find_one(t: &mut [u32], caps: Capacities, i: u32, count: u32) -> u32
+fn find_one(t: &mut [u32], limits: Limits, i: u32, count: u32) -> u32
     requires { ⌜ (count ≤ i) × (i < 4294967295) ⌝ }
-    ensures { λ r. ⌜ (now (t .exit) ≡ findTable (now (t .entry)) caps i count) × (r ≡ findCount (now (t .entry)) caps i count) ⌝ }
+    ensures { λ r. ⌜ (now (t .exit) ≡ findTable (now (t .entry)) limits i count) × (r ≡ findCount (now (t .entry)) limits i count) ⌝ }
 {
-    let x = word(t, vertex_area(caps), PATH_VERTEX, i);
-    let y = word(t, vertex_area(caps), PATH_VERTEX, i + 1);
-    if bridge_blocks_differ(t, caps, x, y) {
-        let e = word(t, vertex_area(caps), PATH_EDGE, i);
-        set_word(t, vertex_area(caps), RIGHT_EDGE, count, e);
+    let x = word(t, vertex_area(limits), PATH_VERTEX, i);
+    let y = word(t, vertex_area(limits), PATH_VERTEX, i + 1);
+    if bridge_blocks_differ(t, limits, x, y) {
+        let e = word(t, vertex_area(limits), PATH_EDGE, i);
+        set_word(t, vertex_area(limits), RIGHT_EDGE, count, e);
         return count + 1;
     }
     count
 }
 
 // Writes down the bridges on the path from a to b, in order; gives their number.
-pub(crate) fn find_bridges(t: &mut [u32], caps: Capacities, a: Vertex, b: Vertex) -> u32
-    ensures { λ r. ⌜ (now (t .exit) ≡ bridgesFound (now (t .entry)) caps (a .0) (b .0) .table) × (r ≡ bridgesFound (now (t .entry)) caps (a .0) (b .0) .count) ⌝ }
+pub(crate) fn find_bridges(t: &mut [u32], limits: Limits, a: Vertex, b: Vertex) -> u32
+    ensures { λ r. ⌜ (now (t .exit) ≡ bridgesFound (now (t .entry)) limits (a .0) (b .0) .table) × (r ≡ bridgesFound (now (t .entry)) limits (a .0) (b .0) .count) ⌝ }
 {
-    let route = climb(t, caps, a, b);
+    let route = climb(t, limits, a, b);
     let mut count: u32 = 0;
     let mut i: u32 = 0;
     while i < route.steps {
-        count = find_one(t, caps, i, count);
+        count = find_one(t, limits, i, count);
         i += 1;
     }
     count
 }
 
 // Leaves the path from a to b in the table; gives the number of its vertices between its ends.
-pub(crate) fn find_cuts(t: &mut [u32], caps: Capacities, a: Vertex, b: Vertex) -> u32
-    ensures { λ r. ⌜ (now (t .exit) ≡ climbTable (now (t .entry)) caps (a .0) (b .0)) × (r ≡ cutsCount (now (t .entry)) caps (a .0) (b .0)) ⌝ }
+pub(crate) fn find_cuts(t: &mut [u32], limits: Limits, a: Vertex, b: Vertex) -> u32
+    ensures { λ r. ⌜ (now (t .exit) ≡ climbTable (now (t .entry)) limits (a .0) (b .0)) × (r ≡ cutsCount (now (t .entry)) limits (a .0) (b .0)) ⌝ }
 {
-    let route = climb(t, caps, a, b);
+    let route = climb(t, limits, a, b);
     if route.steps == 0 {
         return 0;
     }

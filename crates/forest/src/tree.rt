@@ -2,22 +2,24 @@
 ghost use mathlib.Core.Path.{_≡_};
 ghost use mathlib.Core.Bool.{cond};
 ghost use Prim.Native.Nat.{_<_};
-ghost use Rattle.forest.specs.Tree.{newGroup, vertexTable, raiseFrom, turnFrom, turnedTable, turnedState, hangTable, linkGrown};
-ghost use Rattle.forest.specs.Tree.{enterBlock, condenseGrown, edgeGrown};
-ghost use Rattle.forest.specs.Tree.{GrowsTo};
+ghost use Rattle.forest.specs.Inside.Tree.{newGroup, vertexTable, raiseFrom, turnFrom, turnedTable, turnedState, hangTable, linkGrown};
+ghost use Rattle.forest.specs.Inside.Tree.{enterBlock, condenseGrown, edgeGrown};
+ghost use Rattle.forest.specs.Inside.Tree.{GrowsTo};
+use crate::Growth;
 use crate::climb::block_of;
 use crate::climb::climb;
 use crate::climb::depth;
 use crate::climb::top;
 use crate::climb::up;
+use numbers::Edge;
+use numbers::Limits;
+use numbers::Vertex;
 use table::merge::Listing;
 use table::merge::merge;
 use table::words::Area;
 use table::words::CHANGED;
-use table::words::Capacities;
 use table::words::DEPTH;
 use table::words::ENDS;
-use table::words::Edge;
 use table::words::NAME;
 use table::words::PATH_EDGE;
 use table::words::PATH_VERTEX;
@@ -25,20 +27,11 @@ use table::words::RANGE;
 use table::words::SIZE;
 use table::words::TOP;
 use table::words::UP;
-use table::words::Vertex;
 use table::words::bridge_block_area;
 use table::words::edge_area;
 use table::words::set_word;
 use table::words::vertex_area;
 use table::words::word;
-
-// What one edge more did: how many items of each kind changed their name, and the new edge's block name.
-pub struct Growth {
-    pub components: u32,
-    pub bridge_blocks: u32,
-    pub blocks: u32,
-    pub block: Edge,
-}
 
 // A vertex on a way up that is turned round: what to store as its way up and its depth, and how many steps are left.
 pub struct Turning {
@@ -59,38 +52,38 @@ fn new_group(t: &mut [u32], area: Area, x: u32)
 }
 
 // One vertex more: a component, a bridge-block and a root by itself.
-pub(crate) fn grow_vertex(t: &mut [u32], caps: Capacities, x: Vertex)
-    ensures { λ r. ⌜ now (t .exit) ≡ vertexTable (now (t .entry)) caps (x .0) ⌝ }
+pub(crate) fn grow_vertex(t: &mut [u32], limits: Limits, x: Vertex)
+    ensures { λ r. ⌜ now (t .exit) ≡ vertexTable (now (t .entry)) limits (x .0) ⌝ }
 {
-    new_group(t, vertex_area(caps), x.0);
-    new_group(t, bridge_block_area(caps), x.0);
-    set_word(t, vertex_area(caps), UP, x.0, 0);
-    set_word(t, vertex_area(caps), DEPTH, x.0, 0);
+    new_group(t, vertex_area(limits), x.0);
+    new_group(t, bridge_block_area(limits), x.0);
+    set_word(t, vertex_area(limits), UP, x.0, 0);
+    set_word(t, vertex_area(limits), DEPTH, x.0, 0);
 }
 
 // Raises the depths of the vertices written down as changed.
-fn raise(t: &mut [u32], caps: Capacities, changed: u32, by: u32)
-    ensures { λ r. ⌜ now (t .exit) ≡ raiseFrom changed (now (t .entry)) caps by 0 ⌝ }
+fn raise(t: &mut [u32], limits: Limits, changed: u32, by: u32)
+    ensures { λ r. ⌜ now (t .exit) ≡ raiseFrom changed (now (t .entry)) limits by 0 ⌝ }
 {
     let mut i: u32 = 0;
     while i < changed {
-        let x = word(t, vertex_area(caps), CHANGED, i);
-        let old = word(t, vertex_area(caps), DEPTH, x);
+        let x = word(t, vertex_area(limits), CHANGED, i);
+        let old = word(t, vertex_area(limits), DEPTH, x);
         let new = std::num::wrapping_add_u32(old, by);
-        set_word(t, vertex_area(caps), DEPTH, x, new);
+        set_word(t, vertex_area(limits), DEPTH, x, new);
         i += 1;
     }
 }
 
 // One vertex of a way up that is turned round.
-fn turn_one(t: &mut [u32], caps: Capacities, s: Turning) -> Turning
+fn turn_one(t: &mut [u32], limits: Limits, s: Turning) -> Turning
     requires { ⌜ 0 < s .left ⌝ }
-    ensures { λ r. ⌜ (now (t .exit) ≡ turnedTable (now (t .entry)) caps s) × (r ≡ turnedState (now (t .entry)) caps s) ⌝ }
+    ensures { λ r. ⌜ (now (t .exit) ≡ turnedTable (now (t .entry)) limits s) × (r ≡ turnedState (now (t .entry)) limits s) ⌝ }
 {
     let at = s.at;
-    let above = up(t, caps, at);
-    set_word(t, vertex_area(caps), UP, at.0, s.up);
-    set_word(t, vertex_area(caps), DEPTH, at.0, s.depth);
+    let above = up(t, limits, at);
+    set_word(t, vertex_area(limits), UP, at.0, s.up);
+    set_word(t, vertex_area(limits), DEPTH, at.0, s.depth);
     if above == 0 {
         return Turning {
             at: at,
@@ -100,9 +93,9 @@ fn turn_one(t: &mut [u32], caps: Capacities, s: Turning) -> Turning
         };
     }
     let edge = above - 1;
-    let block = block_of(t, caps, Edge(edge));
-    let next = top(t, caps, block);
-    set_word(t, edge_area(caps), TOP, block.0, at.0);
+    let block = block_of(t, limits, Edge(edge));
+    let next = top(t, limits, block);
+    set_word(t, edge_area(limits), TOP, block.0, at.0);
     let deeper = std::num::wrapping_add_u32(s.depth, 1);
     let left = s.left - 1;
     Turning {
@@ -114,28 +107,28 @@ fn turn_one(t: &mut [u32], caps: Capacities, s: Turning) -> Turning
 }
 
 // The way up from a vertex turned round.
-fn turn(t: &mut [u32], caps: Capacities, s: Turning)
-    ensures { λ r. ⌜ now (t .exit) ≡ turnFrom (s .left) (now (t .entry)) caps (s .at .0) (s .up) (s .depth) ⌝ }
+fn turn(t: &mut [u32], limits: Limits, s: Turning)
+    ensures { λ r. ⌜ now (t .exit) ≡ turnFrom (s .left) (now (t .entry)) limits (s .at .0) (s .up) (s .depth) ⌝ }
 {
     let mut state = s;
     while 0 < state.left {
-        state = turn_one(t, caps, state);
+        state = turn_one(t, limits, state);
     }
 }
 
 // The component of u hung below v by the new edge e.
-fn hang(t: &mut [u32], caps: Capacities, e: Edge, u: Vertex, v: Vertex, changed: u32)
+fn hang(t: &mut [u32], limits: Limits, e: Edge, u: Vertex, v: Vertex, changed: u32)
     requires { ⌜ e .0 < 4294967295 ⌝ }
-    ensures { λ r. ⌜ now (t .exit) ≡ hangTable (now (t .entry)) caps (e .0) (u .0) (v .0) changed ⌝ }
+    ensures { λ r. ⌜ now (t .exit) ≡ hangTable (now (t .entry)) limits (e .0) (u .0) (v .0) changed ⌝ }
 {
-    let below = depth(t, caps, u);
-    let start = std::num::wrapping_add_u32(depth(t, caps, v), 1);
-    raise(t, caps, changed, std::num::wrapping_add_u32(start, below));
-    new_group(t, edge_area(caps), e.0);
-    set_word(t, edge_area(caps), TOP, e.0, v.0);
+    let below = depth(t, limits, u);
+    let start = std::num::wrapping_add_u32(depth(t, limits, v), 1);
+    raise(t, limits, changed, std::num::wrapping_add_u32(start, below));
+    new_group(t, edge_area(limits), e.0);
+    set_word(t, edge_area(limits), TOP, e.0, v.0);
     turn(
         t,
-        caps,
+        limits,
         Turning {
             at: u,
             up: e.0 + 1,
@@ -148,7 +141,7 @@ fn hang(t: &mut [u32], caps: Capacities, e: Edge, u: Vertex, v: Vertex, changed:
 // The component that loses its name hung below the other by the new edge e: that of b where a keeps its name, else that of a.
 fn hang_loser(
     t: &mut [u32],
-    caps: Capacities,
+    limits: Limits,
     e: Edge,
     a: Vertex,
     b: Vertex,
@@ -156,33 +149,33 @@ fn hang_loser(
     changed: u32,
 )
     requires { ⌜ e .0 < 4294967295 ⌝ }
-    ensures { λ r. ⌜ now (t .exit) ≡ hangTable (now (t .entry)) caps (e .0) (cond keeps (b .0) (a .0)) (cond keeps (a .0) (b .0)) changed ⌝ }
+    ensures { λ r. ⌜ now (t .exit) ≡ hangTable (now (t .entry)) limits (e .0) (cond keeps (b .0) (a .0)) (cond keeps (a .0) (b .0)) changed ⌝ }
 {
     if keeps {
-        hang(t, caps, e, b, a, changed);
+        hang(t, limits, e, b, a, changed);
     } else {
-        hang(t, caps, e, a, b, changed);
+        hang(t, limits, e, a, b, changed);
     }
 }
 
 // Links two components by the new edge e: the one that loses its name is hung below the other.
-fn link(t: &mut [u32], caps: Capacities, e: Edge, a: Vertex, b: Vertex) -> Growth
+fn link(t: &mut [u32], limits: Limits, e: Edge, a: Vertex, b: Vertex) -> Growth
     requires { ⌜ e .0 < 4294967295 ⌝ }
-    ensures { λ r. ⌜ GrowsTo (now (t .exit)) r (linkGrown (now (t .entry)) caps (e .0) (a .0) (b .0)) ⌝ }
+    ensures { λ r. ⌜ GrowsTo (now (t .exit)) r (linkGrown (now (t .entry)) limits (e .0) (a .0) (b .0)) ⌝ }
 {
-    let name = word(t, vertex_area(caps), NAME, a.0);
-    set_word(t, vertex_area(caps), PATH_VERTEX, 0, a.0);
-    set_word(t, vertex_area(caps), PATH_VERTEX, 1, b.0);
+    let name = word(t, vertex_area(limits), NAME, a.0);
+    set_word(t, vertex_area(limits), PATH_VERTEX, 0, a.0);
+    set_word(t, vertex_area(limits), PATH_VERTEX, 1, b.0);
     let m = merge(
         t,
-        vertex_area(caps),
+        vertex_area(limits),
         Listing {
-            area: vertex_area(caps),
+            area: vertex_area(limits),
             column: PATH_VERTEX,
             count: 2,
         },
     );
-    hang_loser(t, caps, e, a, b, name == m.name, m.changed);
+    hang_loser(t, limits, e, a, b, name == m.name, m.changed);
     Growth {
         components: m.changed,
         bridge_blocks: 0,
@@ -192,44 +185,44 @@ fn link(t: &mut [u32], caps: Capacities, e: Edge, a: Vertex, b: Vertex) -> Growt
 }
 
 // Puts the new edge e into the block named w, below the vertex v.
-fn enter_block(t: &mut [u32], caps: Capacities, e: Edge, w: u32, v: Vertex)
-    ensures { λ r. ⌜ now (t .exit) ≡ enterBlock (now (t .entry)) caps (e .0) w (v .0) ⌝ }
+fn enter_block(t: &mut [u32], limits: Limits, e: Edge, w: u32, v: Vertex)
+    ensures { λ r. ⌜ now (t .exit) ≡ enterBlock (now (t .entry)) limits (e .0) w (v .0) ⌝ }
 {
-    let size = std::num::wrapping_add_u32(word(t, edge_area(caps), SIZE, w), 1);
-    let range = (word(t, edge_area(caps), RANGE, w) / 65536) * 65536 + e.0 % 65536;
-    set_word(t, edge_area(caps), NAME, e.0, w);
-    set_word(t, edge_area(caps), SIZE, w, size);
-    set_word(t, edge_area(caps), RANGE, w, range);
-    set_word(t, edge_area(caps), TOP, w, v.0);
+    let size = std::num::wrapping_add_u32(word(t, edge_area(limits), SIZE, w), 1);
+    let range = (word(t, edge_area(limits), RANGE, w) / 65536) * 65536 + e.0 % 65536;
+    set_word(t, edge_area(limits), NAME, e.0, w);
+    set_word(t, edge_area(limits), SIZE, w, size);
+    set_word(t, edge_area(limits), RANGE, w, range);
+    set_word(t, edge_area(limits), TOP, w, v.0);
 }
 
 // Condenses the path between a and b by the new edge e.
-fn condense(t: &mut [u32], caps: Capacities, e: Edge, a: Vertex, b: Vertex) -> Growth
-    ensures { λ r. ⌜ GrowsTo (now (t .exit)) r (condenseGrown (now (t .entry)) caps (e .0) (a .0) (b .0)) ⌝ }
+fn condense(t: &mut [u32], limits: Limits, e: Edge, a: Vertex, b: Vertex) -> Growth
+    ensures { λ r. ⌜ GrowsTo (now (t .exit)) r (condenseGrown (now (t .entry)) limits (e .0) (a .0) (b .0)) ⌝ }
 {
-    let route = climb(t, caps, a, b);
+    let route = climb(t, limits, a, b);
     let steps = route.steps;
     let vertices = steps + 1;
     let bridge_blocks = merge(
         t,
-        bridge_block_area(caps),
+        bridge_block_area(limits),
         Listing {
-            area: vertex_area(caps),
+            area: vertex_area(limits),
             column: PATH_VERTEX,
             count: vertices,
         },
     );
     let blocks = merge(
         t,
-        edge_area(caps),
+        edge_area(limits),
         Listing {
-            area: vertex_area(caps),
+            area: vertex_area(limits),
             column: PATH_EDGE,
             count: steps,
         },
     );
     let v = route.top;
-    enter_block(t, caps, e, blocks.name, v);
+    enter_block(t, limits, e, blocks.name, v);
     Growth {
         components: 0,
         bridge_blocks: bridge_blocks.changed,
@@ -239,17 +232,17 @@ fn condense(t: &mut [u32], caps: Capacities, e: Edge, a: Vertex, b: Vertex) -> G
 }
 
 // One edge more, between two different vertices.
-pub(crate) fn grow_edge(t: &mut [u32], caps: Capacities, e: Edge, a: Vertex, b: Vertex) -> Growth
+pub(crate) fn grow_edge(t: &mut [u32], limits: Limits, e: Edge, a: Vertex, b: Vertex) -> Growth
     requires { ⌜ e .0 < 4294967295 ⌝ }
-    ensures { λ r. ⌜ GrowsTo (now (t .exit)) r (edgeGrown (now (t .entry)) caps (e .0) (a .0) (b .0)) ⌝ }
+    ensures { λ r. ⌜ GrowsTo (now (t .exit)) r (edgeGrown (now (t .entry)) limits (e .0) (a .0) (b .0)) ⌝ }
 {
     let ends = (a.0 % 65536) * 65536 + b.0 % 65536;
-    set_word(t, edge_area(caps), ENDS, e.0, ends);
-    let left = word(t, vertex_area(caps), NAME, a.0);
-    let right = word(t, vertex_area(caps), NAME, b.0);
+    set_word(t, edge_area(limits), ENDS, e.0, ends);
+    let left = word(t, vertex_area(limits), NAME, a.0);
+    let right = word(t, vertex_area(limits), NAME, b.0);
     if left == right {
-        condense(t, caps, e, a, b)
+        condense(t, limits, e, a, b)
     } else {
-        link(t, caps, e, a, b)
+        link(t, limits, e, a, b)
     }
 }

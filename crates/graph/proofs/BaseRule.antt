@@ -1,20 +1,19 @@
 -- The laws at the rule of document 01, by which no other edge is lost with an edge: each is a general law with that rule put in, so
 -- that no mate is left to ask for.
-use mathlib.Core.Bool.{true, false, not, cond, _&&_, _||_}
+use mathlib.Core.Bool.{true, false, cond, _&&_, _||_}
 use mathlib.Core.List.{List, [], _∷_}
-use mathlib.Core.Path.{_≡_, refl, _∙_, ap, ap₂}
+use mathlib.Core.Path.{_≡_, refl, _∙_}
 use Prim.Native.Nat.{ℕ, _<_}
 use lib.Dec.{eqb}
-use Rattle.graph.specs.Lists.{isIn}
-use Rattle.graph.specs.Network.{Network, Edge, Proper, never, parallel, edge, edgeCount, addEdge}
-use Rattle.graph.specs.Groups.{bridge, bridgeBlock}
+use Rattle.graph.specs.Network.{Network, Edge, Proper, never, parallel, edge, edgeCount, addEdge, mates-never}
+use Rattle.graph.specs.Groups.{bridgeBlock}
 use Rattle.graph.specs.Cycle.{Step, OnCycle}
 use Rattle.graph.specs.Between.{bridgesBetween}
 use Rattle.graph.specs.BlockPath.{BlockPath}
-use Rattle.graph.proofs.Never.{never-rule, mates-never, first-mate-never, no-mate-never}
+use Rattle.graph.proofs.Never.{never-rule, first-mate-never, no-mate-never}
 use Rattle.graph.proofs.CommonCycle.{parallel-edges-on-cycle}
 use Rattle.graph.proofs.PathBridges.{pathBridges, bridges-of-block-path}
-use Rattle.graph.proofs.EdgeMoreBridgeBlocks.{onBridgeBlocks, bridge-block-edge-within, bridge-old-on-path}
+use Rattle.graph.proofs.EdgeMoreBridgeBlocks.{onBridgeBlocks, bridge-block-edge-within}
 
 -- two different edges between one pair of vertices are a simple cycle (document 01: two spans between one pair are such a cycle)
 pub parallel-edges-on-cycle-never : (g : Network) → Proper g → g .rule ≡ never → (s t : ℕ) → s < edgeCount g → t < edgeCount g
@@ -47,11 +46,3 @@ pub bridge-block-edge-within-never : (g : Network) (e : Edge) → Proper g → g
     → bridgeBlock (addEdge g e) x y ≡ (bridgeBlock g x y || (onBridgeBlocks g (e .left) ps x && onBridgeBlocks g (e .left) ps y))
 bridge-block-edge-within-never g e proper none =
     bridge-block-edge-within g e proper (never-rule g none) (no-mate-never g e none)
-
--- and exactly the bridges of the path stop being bridges
-pub bridge-old-on-path-never : (g : Network) (e : Edge) → Proper g → g .rule ≡ never → {ps : List Step}
-    → BlockPath g (e .left) ps (e .right) → (s : ℕ) → s < edgeCount g
-    → bridge (addEdge g e) s ≡ (bridge g s && not (isIn s (partingEdges g (e .left) ps)))
-bridge-old-on-path-never g e proper none {ps} path s h =
-    bridge-old-on-path g e proper (never-rule g none) (no-mate-never g e none) path s h
-    ∙ ap (λ b. bridge g s && not b) (ap₂ isIn (first-mate-never g none s) (path-bridges-never g none (e .left) ps))

@@ -11,7 +11,7 @@ use Rattle.graph.specs.Labels.{Pair}
 use Rattle.graph.specs.Network.{Network, edgeCount}
 use Rattle.graph.specs.Block.{link, links, pairsBelow, block}
 use Rattle.graph.proofs.Truth.{not-both, bool-ext}
-use Rattle.graph.proofs.Labels.{Within, same-refl, same-sym, same-trans, same-joins, same-least}
+use Rattle.graph.proofs.Labels.{Within, within-append, within-parts, same-refl, same-sym, same-trans, same-joins, same-least}
 
 -- P holds of every number of the list
 abbrev All : (ℕ → Type 0) → List ℕ → Type 0
@@ -25,14 +25,6 @@ all-append P (x ∷ xs) ys a b = (a .0, all-append P xs ys (a .1) b)
 all-last : (P : ℕ → Type 0) (xs : List ℕ) (y : ℕ) → All P (xs ++ y ∷ []) → All P xs × P y
 all-last P [] y a = (tt, a .0)
 all-last P (x ∷ xs) y a = let r = all-last P xs y (a .1) in ((a .0, r .0), r .1)
-
-within-append : (R : ℕ → ℕ → Type 0) (ps qs : List Pair) → Within R ps → Within R qs → Within R (ps ++ qs)
-within-append R [] qs a b = b
-within-append R (p ∷ ps) qs a b = (a .0, within-append R ps qs (a .1) b)
-
-within-parts : (R : ℕ → ℕ → Type 0) (ps qs : List Pair) → Within R (ps ++ qs) → Within R ps × Within R qs
-within-parts R [] qs a = (tt, a)
-within-parts R (p ∷ ps) qs a = let r = within-parts R ps qs (a .1) in ((a .0, r .0), r .1)
 
 abbrev row : ℕ → ℕ → (ℕ → ℕ → Bool) → List Pair
 row s m f = map (λ t. record { left = s; right = t }) (listed m (f s))

@@ -15,8 +15,7 @@ use Rattle.graph.specs.BlockPath.{BlockPath}
 use Rattle.graph.proofs.Truth.{not-both, eq-eqb, eqb-swap}
 use Rattle.graph.proofs.BlockVertices.{block-outlives-vertex}
 use Rattle.graph.proofs.SharedBlock.{shared-block-some, shared-block-found}
-use Rattle.graph.proofs.BlockPath.{onward, stays, steps-to-next, start-fresh, visited-differs, end-visited}
-use Rattle.graph.proofs.BlockPath.{block-component, path-parts-at-vertex}
+use Rattle.graph.proofs.BlockPath.{onward, stays, steps-to-next, start-fresh, visited-differs, end-visited, block-component, path-parts-at-vertex}
 use Rattle.graph.proofs.BlockPathExists.{component-block-path}
 
 -- some block has both vertices on it

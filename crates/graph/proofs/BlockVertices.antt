@@ -11,8 +11,7 @@ use Rattle.graph.proofs.Truth.{true-or-false, not-both, false-of-not, b
 use Rattle.graph.proofs.Below.{any-below, some-below, Below}
 use Rattle.graph.proofs.Joined.{joined-refl, joined-sym, joined-trans}
 use Rattle.graph.proofs.Block.{block-refl, block-sym, block-trans, link-block, block-least}
-use Rattle.graph.proofs.Ends.{touches-left, touched-known, other-end-touches, other-end-differs, ends-joined, ends-joined-without}
-use Rattle.graph.proofs.Ends.{LinkedAt, at-link, link-at}
+use Rattle.graph.proofs.Ends.{touches-left, other-end-touches, other-end-differs, ends-joined, ends-joined-without, LinkedAt, at-link, link-at}
 
 -- an edge of the block of s that touches x
 pub record OnBlock (g : Network) (s x : ℕ) : Type 0 where
@@ -34,10 +33,6 @@ on-block g s x e = go (some-below (edgeCount g) (λ t. block g s t && touches (e
           within = and-left (block g s (b .at)) (touches (edge g (b .at)) x) (b .passes);
           at = and-right (block g s (b .at)) (touches (edge g (b .at)) x) (b .passes);
         }
-
--- a vertex on a block is a vertex of the network
-pub on-block-known : (g : Network) → Proper g → (s x : ℕ) → onBlock g s x ≡ true → x < g .vertices
-on-block-known g p s x e = let o = on-block g s x e in touched-known g p (o .by) x (o .known) (o .at)
 
 -- an end of an edge is on the block of every edge that shares its block
 pub block-on : (g : Network) (s t x : ℕ) → t < edgeCount g → block g s t ≡ true → touches (edge g t) x ≡ true
@@ -157,11 +152,6 @@ block-outlives-vertex g p s c x y e f d k =
         joined-trans g _ _ _ _
         (to-other-end g p c (o .by) z (o .known) n (o .at))
         (joined-sym g _ _ _ (other-ends-joined g p c s (o .by) (o .within)))
-
--- two cabinets of a mesh outlive the loss of any other cabinet
-pub mesh-outlives-cabinet : (g : Network) → Proper g → (s c x y : ℕ) → onBlock g s x ≡ true → onBlock g s y ≡ true
-    → eqb c x ≡ false → eqb c y ≡ false → joined g (without g c) x y ≡ true
-mesh-outlives-cabinet = block-outlives-vertex
 
 -- two blocks at c, with a vertex of the one joined without c to a vertex of the other, are one
 pub blocks-meet : (g : Network) → Proper g → (s t c x y : ℕ)

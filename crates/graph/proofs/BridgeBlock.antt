@@ -10,8 +10,7 @@ use Rattle.graph.specs.Groups.{component, bridge, bridgeBlock}
 use Rattle.graph.proofs.Truth.{true-or-false, false-of-not, not-both, bool-ext, not-of-false, not-of-true, false-of-not-true}
 use Rattle.graph.proofs.Truth.{true-of-not-false, and-left, and-right, and-both, or-cases, or-neither, or-neither-right}
 use Rattle.graph.proofs.Below.{any-below, all-below, each-below}
-use Rattle.graph.proofs.Joined.{joined-refl, joined-sym, joined-trans, joined-edge, joined-least, joined-less-lost, joined-same-loss}
-use Rattle.graph.proofs.Joined.{joined-equivalence}
+use Rattle.graph.proofs.Joined.{joined-refl, joined-sym, joined-trans, joined-edge, joined-least, joined-less-lost, joined-same-loss, joined-equivalence}
 use Rattle.graph.proofs.Mates.{mates-refl, loss-of-mates, joined-component, component-refl, component-sym, component-trans}
 use Rattle.graph.proofs.Losses.{AtEnd, joined-or-at-ends}
 

@@ -18,7 +18,7 @@ use Rattle.graph.proofs.Joined.{joined-sym, joined-trans, joined-edge, 
 use Rattle.graph.proofs.Mates.{mates-sym, mates-carry}
 use Rattle.graph.proofs.Losses.{AtEnd, joined-stays, joined-or-at-ends}
 use Rattle.graph.proofs.Sort.{Strict, ordered-unique, is-in-sorted, distinct-sorted, sorted-none}
-use Rattle.graph.proofs.Parting.{Parting, parting-strict, parting-turned, parting-ordered, parting-reversed, parts-component}
+use Rattle.graph.proofs.Parting.{Parting, parting-strict, parting-ordered, parting-reversed, parts-component}
 use Rattle.graph.proofs.Parting.{parts-apart, parts-swap, parts-across, parts-self}
 
 module _ (g : Network) where
@@ -155,11 +155,6 @@ module _ (g : Network) where
       pub bridges-between-ordered : ordered (bridgeBefore g a) (bridgesBetween g a b) ≡ true
       unfolding bridgesBetween
       bridges-between-ordered = parting-ordered bridge-parting (edgeCount g)
-
-      -- from b, "comes before" is the other way round
-      pub bridge-before-turned : (s t : ℕ) → isBridgeBetween g a b s ≡ true → isBridgeBetween g a b t ≡ true
-          → bridgeBefore g b s t ≡ bridgeBefore g a t s
-      bridge-before-turned = parting-turned bridge-parting
 
   module _ (a b : ℕ) where
     -- exactly the bridges between a and b, of the edges that there are, are in their list

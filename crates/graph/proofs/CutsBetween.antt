@@ -16,8 +16,7 @@ use Rattle.graph.proofs.Ends.{lost-vertex-alone}
 use Rattle.graph.proofs.VertexMore.{not-cut-alone}
 use Rattle.graph.proofs.Losses.{joined-stays, joined-or-near}
 use Rattle.graph.proofs.Sort.{Strict, ordered-unique, is-in-sorted, distinct-sorted, sorted-none}
-use Rattle.graph.proofs.Parting.{Parting, parting-strict, parting-turned, parting-ordered, parting-reversed, parts-swap}
-use Rattle.graph.proofs.Parting.{parts-across, parts-self}
+use Rattle.graph.proofs.Parting.{Parting, parting-strict, parting-ordered, parting-reversed, parts-swap, parts-across, parts-self}
 
 module _ (g : Network) where
   -- an edge is not lost with vertex c if neither of its ends is c
@@ -118,11 +117,6 @@ module _ (g : Network) where
     pub cuts-between-ordered : ordered (cutBefore g a) (cutsBetween g a b) ≡ true
     unfolding cutsBetween
     cuts-between-ordered = parting-ordered cut-parting (g .vertices)
-
-    -- from b, "comes before" is the other way round
-    pub cut-before-turned : (c d : ℕ) → isCutBetween g a b c ≡ true → isCutBetween g a b d ≡ true
-        → cutBefore g b c d ≡ cutBefore g a d c
-    cut-before-turned = parting-turned cut-parting
 
     -- the cut vertices between b and a are those between a and b
     pub cut-between-swap : (c : ℕ) → isCutBetween g b a c ≡ isCutBetween g a b c

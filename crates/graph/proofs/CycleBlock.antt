@@ -13,8 +13,8 @@ use Rattle.graph.proofs.Truth.{false-of-not, not-both, and-left, and-ri
 use Rattle.graph.proofs.Truth.{false-of-not-true, not-of-false, eqb-eq, eqb-swap}
 use Rattle.graph.proofs.Joined.{joined-refl, joined-sym, joined-trans}
 use Rattle.graph.proofs.Block.{block-refl, block-sym, block-trans}
-use Rattle.graph.proofs.Walks.{joins-swap, FirstStep, leads-first}
-use Rattle.graph.proofs.Joins.{touches-no-third, joins-joined}
+use Rattle.graph.proofs.Walks.{joins-swap, joins-joined, FirstStep, leads-first}
+use Rattle.graph.proofs.Joins.{touches-no-third}
 use Rattle.graph.proofs.Links.{linked-edges-share-block}
 use Rattle.graph.proofs.Steps.{any-more, visits, visits-start, visits-end, joined-around}
 use Rattle.graph.proofs.Paths.{fresh-start, fresh-rest}

@@ -9,11 +9,10 @@ use Rattle.graph.specs.Network.{Network, Proper, edge, edgeCount, touche
 use Rattle.graph.specs.Cycle.{Step, joins, leads, anyStep, crosses}
 use Rattle.graph.specs.Block.{block}
 use Rattle.graph.specs.BlockPath.{fresh}
-use Rattle.graph.proofs.Truth.{true-or-false, false-of-not, not-both, or-left, or-right, or-cases, or-neither, eqb-eq, eqb-same}
-use Rattle.graph.proofs.Truth.{eq-eqb, eqb-swap}
+use Rattle.graph.proofs.Truth.{true-or-false, false-of-not, not-both, or-left, or-right, or-cases, or-neither, eqb-eq, eqb-same, eq-eqb, eqb-swap}
 use Rattle.graph.proofs.Joined.{joined-least}
-use Rattle.graph.proofs.Walks.{joins-ends, joins-swap, leads-first, first-leads, leads-one}
-use Rattle.graph.proofs.Joins.{joins-elim, joins-back, joins-touches, joins-apart}
+use Rattle.graph.proofs.Walks.{joins-ends, joins-swap, joins-elim, leads-first, first-leads, leads-one}
+use Rattle.graph.proofs.Joins.{joins-back, joins-touches, joins-apart}
 use Rattle.graph.proofs.Steps.{visits, visits-start, visits-end}
 use Rattle.graph.proofs.Links.{Link, link-parts}
 use Rattle.graph.proofs.Ends.{link-sym}

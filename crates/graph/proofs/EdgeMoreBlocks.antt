@@ -1,12 +1,11 @@
 -- One edge more within a component: the blocks of a block path between its ends and the new edge become one, and no other changes.
--- Where the new edge has a mate, it joins the mate's block, and no other changes.
-use mathlib.Core.Bool.{Bool, true, false, _&&_, _||_, or-false, false≢true}
+use mathlib.Core.Bool.{Bool, true, false, _&&_, _||_, false≢true}
 use mathlib.Core.List.{List, [], _∷_}
 use mathlib.Core.Logic.{_⊎_, inl, inr}
-use mathlib.Core.Path.{_≡_, sym, _∙_, ap, ap₂, subst}
+use mathlib.Core.Path.{_≡_, sym, _∙_, subst}
 use Prim.Native.Nat.{ℕ, _<_}
 use lib.Dec.{eqb}
-use Rattle.graph.specs.Network.{Network, Edge, edge, edgeCount, touches, otherEnd, addEdge, Proper, MateRule, mates, without, joined}
+use Rattle.graph.specs.Network.{Network, Edge, edge, edgeCount, touches, otherEnd, addEdge, Proper, without, joined}
 use Rattle.graph.specs.Cycle.{Step, anyStep}
 use Rattle.graph.specs.Block.{block, onBlock}
 use Rattle.graph.specs.BlockPath.{BlockPath}
@@ -19,10 +18,9 @@ use Rattle.graph.proofs.Ends.{touches-left, touches-right, other-end-to
 use Rattle.graph.proofs.BlockVertices.{end-on-block, blocks-meet}
 use Rattle.graph.proofs.Steps.{stepsTo}
 use Rattle.graph.proofs.BlockPath.{Onward, onward, stays, steps-to-none, steps-to-first, steps-to-later, start-fresh, visited-differs, end-visited, other-end-visited}
-use Rattle.graph.proofs.BlockPath.{one-step, path-outlives-vertex, later-outlives}
+use Rattle.graph.proofs.BlockPath.{path-outlives-vertex, later-outlives}
 use Rattle.graph.proofs.Grows.{new-below, joined-without-grows, block-grows, on-block-grows, block-next}
 use Rattle.graph.proofs.EdgeMore.{block-more-least}
-use Rattle.graph.proofs.EdgeMoreBridges.{mate-joins}
 
 -- edge t is in a block of the path
 abbrev pub onPath : Network → List Step → ℕ → Bool
@@ -151,8 +149,9 @@ module _ (g : Network) (e : Edge) (r : Proper g) (r′ : Proper (addEdge g e)) w
       go (inl b) f = block-grows g e (p .along) t b
       go (inr l) f = f l
 
-  differ : eqb (e .left) (e .right) ≡ false
-  differ = rw (edge-new g e) at (r′ .no-loop (edgeCount g) (new-below g e))
+  -- the new edge joins two different vertices
+  pub new-ends-differ : eqb (e .left) (e .right) ≡ false
+  new-ends-differ = rw (edge-new g e) at (r′ .no-loop (edgeCount g) (new-below g e))
 
   -- the blocks of a block path between the new edge's ends join its block
   joins-new : {ps : List Step} → BlockPath g (e .left) ps (e .right) → (t : ℕ) → joinsPath g ps t ≡ true
@@ -172,7 +171,7 @@ module _ (g : Network) (e : Edge) (r : Proper g) (r′ : Proper (addEdge g e)) w
           grows-along path (edgeCount g) (e .right)
           (end-on-block (addEdge g e) _ _ (new-below g e) at-left)
           (end-on-block (addEdge g e) _ _ (new-below g e) at-right)
-          (eqb-swap (e .right) (e .left) ∙ differ)
+          (eqb-swap (e .right) (e .left) ∙ new-ends-differ)
           (λ d. joined-refl (addEdge g e) _ (e .right))
           (λ c v d.
           ends-joined-without (addEdge g e) c (edgeCount g) (e .left) (e .right) (new-below g e)
@@ -220,9 +219,9 @@ module _ (g : Network) (e : Edge) (r : Proper g) (r′ : Proper (addEdge g e)) w
       at-end : (t c : ℕ) → t < edgeCount g → touches (edge g t) c ≡ true
           → ((e .left ≡ c) × (e .right ≡ otherEnd e c)) ⊎ ((e .right ≡ c) × (e .left ≡ otherEnd e c))
           → joined g (without g c) (otherEnd e c) (otherEnd (edge g t) c) ≡ true → onPath g ps t ≡ true
-      at-end t c k l (inl (p, q)) j = to-end t c k l (rw p at differ) (inl p) (joined-sym g _ _ _ (rw (← q) at j))
+      at-end t c k l (inl (p, q)) j = to-end t c k l (rw p at new-ends-differ) (inl p) (joined-sym g _ _ _ (rw (← q) at j))
       at-end t c k l (inr (p, q)) j =
-          to-start t c k l (subst (λ x. stepsTo x ps ≡ true) p (other-end-visited path differ)) (joined-sym g _ _ _ (rw (← q) at j))
+          to-start t c k l (subst (λ x. stepsTo x ps ≡ true) p (other-end-visited path new-ends-differ)) (joined-sym g _ _ _ (rw (← q) at j))
 
       between : (s t c : ℕ) → s < edgeCount g → t < edgeCount g → touches (edge g s) c ≡ true → touches (edge g t) c ≡ true
           → touches e c ≡ false
@@ -254,25 +253,3 @@ module _ (g : Network) (e : Edge) (r : Proper g) (r′ : Proper (addEdge g e)) w
       → block (addEdge g e) s t ≡ (block g s t || (joinsPath g ps s && joinsPath g ps t))
   block-edge-within {ps} path s t =
       bool-ext (block (addEdge g e) s t) (condensed g ps s t) (grows-condensed path s t) (condensed-grows path s t)
-
--- edge s is the new edge or in the block of t
-abbrev pub joinsMate : Network → ℕ → ℕ → Bool
-joinsMate g t s = eqb s (edgeCount g) || block g t s
-
--- the path through the block of t alone joins that block
-joins-one-step : (g : Network) (t b s : ℕ) → joinsPath g (record { along = t; to = b } ∷ []) s ≡ joinsMate g t s
-unfolding joinsPath anyStep
-joins-one-step g t b s = ap (λ z. eqb s (edgeCount g) || z) (or-false (block g t s))
-
--- a new edge with a mate joins the mate's block, and no other block changes
-pub block-edge-mate : (g : Network) (e : Edge) → Proper g → Proper (addEdge g e) → MateRule (g .rule)
-    → (t : ℕ) → t < edgeCount g → mates (addEdge g e) t (edgeCount g) ≡ true → (s u : ℕ)
-    → block (addEdge g e) s u ≡ (block g s u || (joinsMate g t s && joinsMate g t u))
-block-edge-mate g e r r′ rule t h m s u =
-    block-edge-within g e r r′ (one-step g t (e .left) (e .right) h (ends .0) (ends .1) (differ g e r r′)) s u
-    ∙ ap₂ (λ x y. block g s u || (x && y)) (joins-one-step g t (e .right) s) (joins-one-step g t (e .right) u)
-  where
-    ends : (onBlock g t (e .left) ≡ true) × (onBlock g t (e .right) ≡ true)
-    ends =
-        mate-joins g e rule t h m (λ x y. (onBlock g t x ≡ true) × (onBlock g t y ≡ true)) (λ x y k. (k .1, k .0))
-        (end-on-block g t _ h (touches-left (edge g t)), end-on-block g t _ h (touches-right (edge g t)))

@@ -1,6 +1,6 @@
 -- One edge more within a component and without a mate: the bridge-blocks of the vertices of a block path between its ends become
 -- one, and no other changes.
-use mathlib.Core.Bool.{Bool, true, false, not, _&&_, _||_, false≢true}
+use mathlib.Core.Bool.{Bool, true, false, _&&_, _||_, false≢true}
 use mathlib.Core.List.{List, [], _∷_}
 use mathlib.Core.Logic.{_⊎_, inl, inr, ⊎-elim}
 use mathlib.Core.Path.{_≡_, refl, sym, _∙_, ap, subst}
@@ -16,11 +16,10 @@ use Rattle.graph.proofs.Truth.{true-or-false, bool-ext, true-of-not-fal
 use Rattle.graph.proofs.Gathered.{gathered, gathered-ways, gathered-before, gathered-both, gathered-equivalence}
 use Rattle.graph.proofs.Labels.{merged, before, across, merged-true}
 use Rattle.graph.proofs.Joined.{joined-refl, joined-sym, joined-trans, joined-old, joined-least, each-edge-more, old-or-new}
-use Rattle.graph.proofs.Steps.{any-more}
+use Rattle.graph.proofs.Steps.{any-more, stepsTo}
 use Rattle.graph.proofs.Losses.{AtEnd, joined-or-at-ends}
 use Rattle.graph.proofs.BridgeBlock.{in-bridge-block, bridge-block-refl, bridge-block-sym, bridge-block-trans}
 use Rattle.graph.proofs.BridgeBlock.{bridge-block-equivalence, bridge-block-is-joined-off-bridges, bridge-parts-bridge-blocks}
-use Rattle.graph.proofs.Steps.{stepsTo}
 use Rattle.graph.proofs.BlockPath.{steps-to-next, steps-to-later, end-on-path, path-component}
 use Rattle.graph.proofs.MateEdges.{mates-joins}
 use Rattle.graph.proofs.Joins.{joins-carries}
@@ -165,13 +164,6 @@ module _ (g : Network) (e : Edge) (proper : Proper g) (rule : MateRule (g .rule)
         q : PathBridge g (e .left) ps (e .right) (firstMate g t)
         q = in-path-bridges g proper rule path (firstMate g t)
             (true-of-not-false (isIn (firstMate g t) (pathBridges g (e .left) ps)) (sym (loss-parts-path g proper rule path t) ∙ n))
-
-    -- exactly the bridges of the path stop being bridges
-    pub bridge-old-on-path : (s : ℕ) → s < edgeCount g
-        → bridge (addEdge g e) s ≡ (bridge g s && not (isIn (firstMate g s) (pathBridges g (e .left) ps)))
-    bridge-old-on-path s h =
-        bridge-old-within g e rule (path-component path) none s h
-        ∙ ap (λ b. bridge g s && b) (loss-parts-path g proper rule path s)
 
     -- the bridge-blocks of the vertices of a block path between the new edge's ends become one, and no other changes
     pub bridge-block-edge-within : (x y : ℕ)

@@ -1,5 +1,4 @@
--- One edge more: bridges and bridge-blocks, where it joins two components, where it has a mate, and which bridges are left where
--- it has none.
+-- One edge more: bridge-blocks where it joins two components or has a mate, and which bridges are left where it has none.
 use mathlib.Core.Bool.{Bool, true, false, not, _&&_}
 use mathlib.Core.Logic.{_⊎_, inl, inr}
 use mathlib.Core.Path.{_≡_, refl, sym, _∙_, ap, ap₂, subst, fun-ext}
@@ -8,7 +7,7 @@ use Rattle.graph.specs.Network.{Network, Edge, Loss, edge, edgeCount, ad
 use Rattle.graph.specs.Groups.{component, bridge, bridgeBlock}
 use Rattle.graph.proofs.Truth.{true-or-false, not-both, false-of-not, bool-ext, not-of-true, not-of-false}
 use Rattle.graph.proofs.Labels.{merged, Merged, before, across, back, merged-ways, merged-true, merged-before, merged-least}
-use Rattle.graph.proofs.Joined.{joined-sym, joined-trans, joined-equivalence, joined-swap, joined-edge, joined-same-loss, edge-old, edge-new, old-or-new, joined-old, joined-new-lost, joined-new-kept}
+use Rattle.graph.proofs.Joined.{joined-sym, joined-trans, joined-equivalence, joined-edge, joined-same-loss, edge-old, edge-new, old-or-new, joined-old, joined-new-lost, joined-new-kept}
 use Rattle.graph.proofs.Grows.{old-below, new-below}
 use Rattle.graph.proofs.EdgeMore.{component-edge-within}
 use Rattle.graph.proofs.Mates.{mates-refl, mates-sym, mates-trans, mates-carry, loss-of-mates, joined-component}
@@ -25,11 +24,6 @@ module _ (g : Network) (e : Edge) where
       → bridge (addEdge g e) s ≡ not (joined (addEdge g e) (lossOf (addEdge g e) s) (edge g s .left) (edge g s .right))
   unfolding bridge
   bridge-old s h = ap (λ f. not (joined (addEdge g e) (lossOf (addEdge g e) s) (f .left) (f .right))) (edge-old g e s h)
-
-  bridge-new : bridge (addEdge g e) (edgeCount g)
-      ≡ not (joined (addEdge g e) (lossOf (addEdge g e) (edgeCount g)) (e .left) (e .right))
-  unfolding bridge
-  bridge-new = ap (λ f. not (joined (addEdge g e) (lossOf (addEdge g e) (edgeCount g)) (f .left) (f .right))) (edge-new g e)
 
   -- with the mates of an old edge lost, a new edge that is no mate joins its ends
   pub loss-kept : (s x y : ℕ) → s < edgeCount g → mates (addEdge g e) s (edgeCount g) ≡ false
@@ -120,16 +114,6 @@ module _ (g : Network) (e : Edge) (rule : MateRule (g .rule)) (apart : component
       go (across i j) = absurd (not-both (crossed (e .left) (e .right) i j) apart)
       go (back i j) = absurd (not-both (joined-sym g nothing _ _ (crossed (e .right) (e .left) i j)) apart)
 
-  -- it is a bridge
-  pub bridge-new-between : bridge (addEdge g e) (edgeCount g) ≡ true
-  bridge-new-between = bridge-new g e ∙ ap not (loss-new g e rule no-mate (e .left) (e .right) ∙ apart)
-
-  -- no other edge becomes a bridge or stops being one
-  pub bridge-old-between : (s : ℕ) → s < edgeCount g → bridge (addEdge g e) s ≡ bridge g s
-  unfolding component nothing bridge
-  bridge-old-between s h =
-      bridge-old g e s h ∙ ap not (loss-between s (edge g s .left) (edge g s .right) h (joined-edge g nothing s h refl))
-
   -- no bridge-block changes
   pub bridge-block-between : (x y : ℕ) → bridgeBlock (addEdge g e) x y ≡ bridgeBlock g x y
   bridge-block-between x y =
@@ -177,23 +161,6 @@ module _ (g : Network) (e : Edge) (rule : MateRule (g .rule)) (t : ℕ) (known :
       x y
       ∙ loss-mate t x y known
 
-  -- it is a bridge exactly if its mate is
-  pub bridge-new-mate : bridge (addEdge g e) (edgeCount g) ≡ bridge g t
-  unfolding bridge
-  bridge-new-mate =
-      bridge-new g e
-      ∙ ap not
-      (loss-new-mate (e .left) (e .right)
-      ∙ mate-joins g e rule t known mate
-      (λ x y. joined g (lossOf g t) x y ≡ joined g (lossOf g t) (edge g t .left) (edge g t .right))
-      (λ x y q. joined-swap g (lossOf g t) y x ∙ q)
-      refl)
-
-  -- no other edge becomes a bridge or stops being one
-  pub bridge-old-mate : (s : ℕ) → s < edgeCount g → bridge (addEdge g e) s ≡ bridge g s
-  unfolding bridge
-  bridge-old-mate s h = bridge-old g e s h ∙ ap not (loss-mate s (edge g s .left) (edge g s .right) h)
-
   -- no bridge-block changes
   pub bridge-block-mate : (x y : ℕ) → bridgeBlock (addEdge g e) x y ≡ bridgeBlock g x y
   unfolding component nothing
@@ -232,10 +199,6 @@ still-parted g lost a b l r m = go (true-or-false (J l r)) (true-or-false (J a b
 -- the new edge lies within a component and has no mate
 module _ (g : Network) (e : Edge) (rule : MateRule (g .rule)) (within : component g (e .left) (e .right) ≡ true)
     (none : (s : ℕ) → s < edgeCount g → mates (addEdge g e) s (edgeCount g) ≡ false) where
-  -- it is no bridge
-  pub bridge-new-within : bridge (addEdge g e) (edgeCount g) ≡ false
-  bridge-new-within = bridge-new g e ∙ ap not (loss-new g e rule none (e .left) (e .right) ∙ within)
-
   -- exactly the bridges whose loss does not part its ends stay bridges
   pub bridge-old-within : (s : ℕ) → s < edgeCount g
       → bridge (addEdge g e) s ≡ (bridge g s && joined g (lossOf g s) (e .left) (e .right))

@@ -6,12 +6,11 @@ use mathlib.Core.Path.{_≡_, refl, sym, _∙_, subst, fun-ext}
 use Prim.Native.Nat.{ℕ, zero, suc, _<_}
 use native.Mathlib.Nat.{not-suc-le-zero}
 use native.Mathlib.Omega.{arith}
-use lib.Dec.{eqb}
 use lib.ListN.{length, getD, length-append, List·getD-append}
 use lib.Seq.{getD-append-seam}
 use Rattle.graph.specs.Labels.{Pair, same}
-use Rattle.graph.specs.Network.{Network, Edge, Loss, edge, edgeCount, addEdge, addVertex, joined, kept}
-use Rattle.graph.proofs.Truth.{true-or-false, not-both, bool-ext, eqb-eq, eqb-ne}
+use Rattle.graph.specs.Network.{Network, Edge, Loss, edge, edgeCount, addEdge, joined, kept}
+use Rattle.graph.proofs.Truth.{true-or-false, not-both, bool-ext}
 use Rattle.graph.proofs.Below.{below-or-last}
 use Rattle.graph.proofs.Labels.{Within, merged, merged-before, merged-here, merged-least}
 use Rattle.graph.proofs.Labels.{same-refl, same-sym, same-trans, same-equivalence, same-joins, same-least, same-one-more}
@@ -120,29 +119,6 @@ merged-equivalence g lost a b = subst (λ (q : ℕ → ℕ → Bool). Equivalenc
     more : same (p ∷ ps) ≡ merged (same ps) a b
     more = fun-ext (λ x. fun-ext (same-one-more p ps x))
 
--- one edge fewer lost is one pair more
-pub joined-one-back : (g : Network) (lost less : Loss) (k : ℕ) → k < edgeCount g → less k ≡ false
-    → ((s : ℕ) → s < edgeCount g → (s ≡ k → ⊥) → less s ≡ lost s)
-    → (x y : ℕ) → joined g less x y ≡ true
-    → (joined g lost x y
-    || (joined g lost x (edge g k .left) && joined g lost (edge g k .right) y)
-    || (joined g lost x (edge g k .right) && joined g lost (edge g k .left) y))
-    ≡ true
-joined-one-back g lost less k h b w = joined-least R (merged-equivalence g lost a₁ a₂) g less (λ s l d. go s l d (true-or-false (eqb s k)))
-  where
-    a₁ : ℕ
-    a₁ = edge g k .left
-
-    a₂ : ℕ
-    a₂ = edge g k .right
-
-    R : ℕ → ℕ → Type 0
-    R x y = merged (joined g lost) a₁ a₂ x y ≡ true
-
-    go : (s : ℕ) → s < edgeCount g → less s ≡ false → (eqb s k ≡ true) ⊎ (eqb s k ≡ false) → R (edge g s .left) (edge g s .right)
-    go s l d (inl e) = rw (eqb-eq s k e) (merged-here (joined g lost) (joined-refl g lost) a₁ a₂)
-    go s l d (inr e) = merged-before (joined g lost) a₁ a₂ (joined-edge g lost s l (sym (w s l (eqb-ne s k e)) ∙ d))
-
 -- a network with one edge more has one edge more
 pub edge-count-more : (g : Network) (e : Edge) → edgeCount (addEdge g e) ≡ suc (edgeCount g)
 unfolding edgeCount addEdge
@@ -224,8 +200,3 @@ joined-new-kept g e lost k x y = bool-ext (joined (addEdge g e) lost x y) (merge
 
     up : merged q a b x y ≡ true → joined (addEdge g e) lost x y ≡ true
     up = merged-least (λ x y. joined (addEdge g e) lost x y ≡ true) (joined-equivalence (addEdge g e) lost) q a b (joined-old g e lost) new x y
-
--- a vertex more changes nothing
-pub joined-vertex-more : (g : Network) (lost : Loss) (x y : ℕ) → joined (addVertex g) lost x y ≡ joined g lost x y
-unfolding joined addVertex
-joined-vertex-more g lost x y = refl

@@ -1,25 +1,14 @@
 -- Laws of the vertices that an edge joins.
 use mathlib.Core.Bool.{Bool, true, false, cond, _&&_, _||_, or-comm}
-use mathlib.Core.Logic.{_⊎_, inl, inr}
 use mathlib.Core.Path.{_≡_, refl, sym, _∙_}
 use Prim.Native.Nat.{ℕ, _<_}
 use lib.Dec.{eqb}
-use Rattle.graph.specs.Network.{Network, Edge, Loss, Proper, edge, edgeCount, touches, otherEnd, parallel, joined}
+use Rattle.graph.specs.Network.{Network, Edge, Proper, edge, edgeCount, touches, otherEnd, parallel}
 use Rattle.graph.specs.Cycle.{joins}
 use Rattle.graph.proofs.Truth.{or-right, and-both, eqb-eq, eqb-same, eqb-swap}
-use Rattle.graph.proofs.Joined.{joined-sym, joined-edge}
 use Rattle.graph.proofs.Mates.{parallel-carries}
 use Rattle.graph.proofs.Ends.{touches-left, touches-right}
-use Rattle.graph.proofs.Walks.{joins-ends, joins-ways, joins-swap, joins-least}
-
--- what holds of the ends of an edge in both orders holds of any two vertices that it joins
-pub joins-elim : (P : ℕ → ℕ → Type 0) (e : Edge) → P (e .left) (e .right) → P (e .right) (e .left)
-    → (x y : ℕ) → joins e x y ≡ true → P x y
-joins-elim P e f b x y j = go (joins-ways e x y j)
-  where
-    go : ((e .left ≡ x) × (e .right ≡ y)) ⊎ ((e .left ≡ y) × (e .right ≡ x)) → P x y
-    go (inl (p, q)) = rw (← p, ← q) f
-    go (inr (p, q)) = rw (← p, ← q) b
+use Rattle.graph.proofs.Walks.{joins-ends, joins-swap, joins-elim, joins-least}
 
 -- whatever holds of two vertices, in whichever order, holds of the ends of an edge that joins them
 pub joins-carries : (P : ℕ → ℕ → Type 0) → ((x y : ℕ) → P x y → P y x) → (e : Edge) (x y : ℕ) → joins e x y ≡ true
@@ -68,11 +57,6 @@ parallel-joins e f p =
     (joins-ends e)
     (or-right (eqb (e .right) (e .left) && eqb (e .left) (e .right)) (and-both (eqb-same (e .right)) (eqb-same (e .left))))
     (f .left) (f .right) p)
-
--- an edge that is not lost joins the vertices at its ends
-pub joins-joined : (g : Network) (lost : Loss) (s : ℕ) → s < edgeCount g → lost s ≡ false
-    → (x y : ℕ) → joins (edge g s) x y ≡ true → joined g lost x y ≡ true
-joins-joined g lost s h k = joins-least (λ x y. joined g lost x y ≡ true) (joined-sym g lost) (edge g s) (joined-edge g lost s h k)
 
 -- no edge of a proper network joins a vertex to itself
 pub joins-apart : (g : Network) → Proper g → (s : ℕ) → s < edgeCount g

@@ -1,14 +1,14 @@
--- Groups from pairs: order, repetition and direction do not matter, chains of pairs, other names for the items, lists over apart items.
+-- Groups from lists of pairs that join alike, from pairs under other names of the items, and from two lists over apart items. These
+-- laws wait for change requests 9 (two networks beside each other) and 14 (groups without their history).
 use mathlib.Core.Bool.{Bool, true, false, not}
-use mathlib.Core.List.{List, [], _∷_, _++_, map, List·Memᴰ, List·Memᴰ·head, List·Memᴰ·tail, List·Memᴰ·cases-cons}
-use mathlib.Core.List.{List·Memᴰ·not-nil}
-use mathlib.Core.Logic.{Equivalence, _⊎_, inl, inr, ⊎-swap}
-use mathlib.Core.Path.{_≡_, refl, sym, _∙_, ap, subst}
+use mathlib.Core.List.{List, [], _∷_, _++_, map}
+use mathlib.Core.Logic.{Equivalence}
+use mathlib.Core.Path.{_≡_, refl, sym, _∙_, ap}
 use Prim.Native.Nat.{ℕ}
 use lib.Dec.{eqb}
 use Rattle.graph.specs.Labels.{Pair, same}
 use Rattle.graph.proofs.Truth.{bool-ext, not-both, not-of-true, not-of-false, false-of-not, eqb-eq, eq-eqb}
-use Rattle.graph.proofs.Labels.{Within, within-map, merged, same-refl, same-sym, same-trans, same-equivalence, same-joins}
+use Rattle.graph.proofs.Labels.{Within, within-map, within-append, within-parts, merged, same-refl, same-sym, same-trans, same-equivalence, same-joins}
 use Rattle.graph.proofs.Labels.{same-least, same-none, same-one-more}
 
 -- where the ends of every pair of ps share a group of qs, the groups of ps lie within those of qs
@@ -21,34 +21,19 @@ pub same-alike : (ps qs : List Pair) → Within (λ x y. same qs x y ≡ true) p
     → (x y : ℕ) → same ps x y ≡ same qs x y
 same-alike ps qs v w x y = bool-ext (same ps x y) (same qs x y) (same-monotone ps qs v x y) (same-monotone qs ps w x y)
 
--- what holds of the pairs of each of two lists holds of those of both together
-pub within-append : (R : ℕ → ℕ → Type 0) (ps qs : List Pair) → Within R ps → Within R qs → Within R (ps ++ qs)
-within-append R [] qs v w = w
-within-append R (p ∷ ps) qs v w = (v .0, within-append R ps qs (v .1) w)
-
 -- what follows from two things that hold of every pair holds of every pair
 pub within-both : {R S U : ℕ → ℕ → Type 0} → ((x y : ℕ) → R x y → S x y → U x y) → (ps : List Pair)
     → Within R ps → Within S ps → Within U ps
 within-both f [] v w = tt
 within-both f (p ∷ ps) v w = (f (p .left) (p .right) (v .0) (w .0), within-both f ps (v .1) (w .1))
 
--- what holds of the pairs of two lists together holds of those of the first
-pub within-first : (R : ℕ → ℕ → Type 0) (ps qs : List Pair) → Within R (ps ++ qs) → Within R ps
-within-first R [] qs w = tt
-within-first R (p ∷ ps) qs w = (w .0, within-first R ps qs (w .1))
-
--- what holds of the pairs of two lists together holds of those of the second
-pub within-second : (R : ℕ → ℕ → Type 0) (ps qs : List Pair) → Within R (ps ++ qs) → Within R qs
-within-second R [] qs w = w
-within-second R (p ∷ ps) qs w = within-second R ps qs (w .1)
-
 -- the pairs of the first list join with any pairs behind them
 pub joins-first : (ps qs : List Pair) → Within (λ x y. same (ps ++ qs) x y ≡ true) ps
-joins-first ps qs = within-first (λ x y. same (ps ++ qs) x y ≡ true) ps qs (same-joins (ps ++ qs))
+joins-first ps qs = within-parts (λ x y. same (ps ++ qs) x y ≡ true) ps qs (same-joins (ps ++ qs)) .0
 
 -- the pairs of the second list join with any pairs before them
 pub joins-second : (ps qs : List Pair) → Within (λ x y. same (ps ++ qs) x y ≡ true) qs
-joins-second ps qs = within-second (λ x y. same (ps ++ qs) x y ≡ true) ps qs (same-joins (ps ++ qs))
+joins-second ps qs = within-parts (λ x y. same (ps ++ qs) x y ≡ true) ps qs (same-joins (ps ++ qs)) .1
 
 -- items that share a group still do with more pairs behind
 pub same-first : (ps qs : List Pair) (x y : ℕ) → same ps x y ≡ true → same (ps ++ qs) x y ≡ true
@@ -60,86 +45,6 @@ same-append-swap ps qs = same-alike (ps ++ qs) (qs ++ ps) (both ps qs) (both qs 
   where
     both : (ps qs : List Pair) → Within (λ x y. same (qs ++ ps) x y ≡ true) (ps ++ qs)
     both ps qs = within-append (λ x y. same (qs ++ ps) x y ≡ true) ps qs (joins-second qs ps) (joins-first qs ps)
-
--- a pair whose ends share a group already changes nothing
-pub same-known : (p : Pair) (ps : List Pair) → same ps (p .left) (p .right) ≡ true
-    → (x y : ℕ) → same (p ∷ ps) x y ≡ same ps x y
-same-known p ps e = same-alike (p ∷ ps) ps (e, same-joins ps) (same-joins (p ∷ ps) .1)
-
--- a repeated pair changes nothing
-pub same-repeated : (p : Pair) (ps : List Pair) (x y : ℕ) → same (p ∷ p ∷ ps) x y ≡ same (p ∷ ps) x y
-same-repeated p ps = same-known p (p ∷ ps) (same-joins (p ∷ ps) .0)
-
--- the pair with its items exchanged
-abbrev pub turnedPair : Pair → Pair
-turnedPair p = record { left = p .right; right = p .left }
-
--- the direction of a pair does not matter
-pub same-turned : (p : Pair) (ps : List Pair) (x y : ℕ) → same (turnedPair p ∷ ps) x y ≡ same (p ∷ ps) x y
-same-turned p ps = same-alike (turnedPair p ∷ ps) (p ∷ ps) (there p) (there (turnedPair p))
-  where
-    there : (p : Pair) → Within (λ x y. same (p ∷ ps) x y ≡ true) (turnedPair p ∷ ps)
-    there p = (same-sym (p ∷ ps) (p .left) (p .right) (same-joins (p ∷ ps) .0), same-joins (p ∷ ps) .1)
-
--- some pair of the list joins x and y, in either direction
-abbrev pub Linked : List Pair → ℕ → ℕ → Type 0
-Linked ps x y = List·Memᴰ (record { left = x; right = y }) ps ⊎ List·Memᴰ (record { left = y; right = x }) ps
-
--- a chain of pairs leads from one item to another
-pub data Chain (ps : List Pair) : ℕ → ℕ → Type 0 where
-  stop : {x : ℕ} → Chain ps x x
-  link : {x y z : ℕ} → Linked ps x y → Chain ps y z → Chain ps x z
-
--- what holds of every member holds of every pair
-pub within-of-members : (R : ℕ → ℕ → Type 0) (ps : List Pair) → ((p : Pair) → List·Memᴰ p ps → R (p .left) (p .right)) → Within R ps
-within-of-members R [] f = tt
-within-of-members R (p ∷ ps) f = (f p (List·Memᴰ·head refl), within-of-members R ps (λ q m. f q (List·Memᴰ·tail m)))
-
--- what holds of every pair holds of every member
-pub within-member : (R : ℕ → ℕ → Type 0) (ps : List Pair) → Within R ps → (p : Pair) → List·Memᴰ p ps → R (p .left) (p .right)
-within-member R [] w p m = absurd (List·Memᴰ·not-nil m)
-within-member R (q ∷ ps) w p m = go (within-member R ps (w .1) p) (List·Memᴰ·cases-cons m)
-  where
-    go : (List·Memᴰ p ps → R (p .left) (p .right)) → (p ≡ q) ⊎ List·Memᴰ p ps → R (p .left) (p .right)
-    go f (inl e) = subst (λ (r : Pair). R (r .left) (r .right)) (sym e) (w .0)
-    go f (inr n) = f n
-
--- a chain goes on with a second one
-pub chain-trans : (ps : List Pair) (x y z : ℕ) → Chain ps x y → Chain ps y z → Chain ps x z
-chain-trans ps x y z c d = go c d
-  where
-    go : {u : ℕ} → Chain ps u y → Chain ps y z → Chain ps u z
-    go stop d = d
-    go (link l c) d = link l (go c d)
-
--- a chain leads back
-pub chain-sym : (ps : List Pair) (x y : ℕ) → Chain ps x y → Chain ps y x
-chain-sym ps x y c = go c stop
-  where
-    go : {u : ℕ} → Chain ps u y → Chain ps u x → Chain ps y x
-    go stop d = d
-    go (link l c) d = go c (link (⊎-swap l) d)
-
--- chains are an equivalence
-pub chain-equivalence : (ps : List Pair) → Equivalence (Chain ps)
-chain-equivalence ps = record { refl = λ x. stop; symm = chain-sym ps; trans = chain-trans ps }
-
--- two items that share a group have a chain between them
-pub same-chain : (ps : List Pair) (x y : ℕ) → same ps x y ≡ true → Chain ps x y
-same-chain ps =
-    same-least (Chain ps) (chain-equivalence ps) ps (within-of-members (Chain ps) ps (λ p m. link (inl m) stop))
-
--- two items with a chain between them share a group
-pub chain-same : (ps : List Pair) (x y : ℕ) → Chain ps x y → same ps x y ≡ true
-chain-same ps x y stop = same-refl ps x
-chain-same ps x z (link {y = y} l c) = same-trans ps x y z (go l) (chain-same ps y z c)
-  where
-    each : (p : Pair) → List·Memᴰ p ps → same ps (p .left) (p .right) ≡ true
-    each = within-member (λ x y. same ps x y ≡ true) ps (same-joins ps)
-
-    go : Linked ps x y → same ps x y ≡ true
-    go (inl m) = each (record { left = x; right = y }) m
-    go (inr m) = same-sym ps y x (each (record { left = y; right = x }) m)
 
 -- the pairs under other names of the items
 abbrev pub renamedPairs : (ℕ → ℕ) → List Pair → List Pair

@@ -1,13 +1,12 @@
 -- Laws of groups from pairs: an equivalence, the least one that joins every pair.
 use mathlib.Core.Bool.{Bool, true, false, cond, _||_, _&&_, and-true, and-false, or-false}
-use mathlib.Core.List.{List, [], _∷_}
+use mathlib.Core.List.{List, [], _∷_, _++_}
 use mathlib.Core.Logic.{Equivalence, _⊎_, inl, inr}
 use mathlib.Core.Path.{_≡_, refl, sym, _∙_, ap, subst}
 use Prim.Native.Nat.{ℕ}
 use lib.Dec.{eqb}
 use Rattle.graph.specs.Labels.{Pair, relabel, labels, same}
-use Rattle.graph.proofs.Truth.{true-or-false, or-cases, or-left, or-right, and-left, and-right, and-both}
-use Rattle.graph.proofs.Truth.{eqb-eq, eqb-same, eq-eqb, eqb-swap}
+use Rattle.graph.proofs.Truth.{true-or-false, or-cases, or-left, or-right, and-left, and-right, and-both, eqb-eq, eqb-same, eq-eqb, eqb-swap}
 
 -- R holds of every pair of the list
 abbrev pub Within : (ℕ → ℕ → Type 0) → List Pair → Type 0
@@ -18,6 +17,16 @@ Within R (p ∷ ps) = R (p .left) (p .right) × Within R ps
 pub within-map : {R S : ℕ → ℕ → Type 0} → ((x y : ℕ) → R x y → S x y) → (ps : List Pair) → Within R ps → Within S ps
 within-map f [] w = tt
 within-map f (p ∷ ps) w = (f (p .left) (p .right) (w .0), within-map f ps (w .1))
+
+-- what holds of the pairs of each of two lists holds of those of both together
+pub within-append : (R : ℕ → ℕ → Type 0) (ps qs : List Pair) → Within R ps → Within R qs → Within R (ps ++ qs)
+within-append R [] qs v w = w
+within-append R (p ∷ ps) qs v w = (v .0, within-append R ps qs (v .1) w)
+
+-- and what holds of those of both together holds of those of each
+pub within-parts : (R : ℕ → ℕ → Type 0) (ps qs : List Pair) → Within R (ps ++ qs) → Within R ps × Within R qs
+within-parts R [] qs w = (tt, w)
+within-parts R (p ∷ ps) qs w = let r = within-parts R ps qs (w .1) in ((w .0, r .0), r .1)
 
 -- how two groups become one: two items share a group after it, by the test q before it and two items a and b
 abbrev pub merged : (ℕ → ℕ → Bool) → ℕ → ℕ → ℕ → ℕ → Bool

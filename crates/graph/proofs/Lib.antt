@@ -2,6 +2,7 @@ pub mod Truth
 pub mod Below
 pub mod Labels
 pub mod LabelGroups
+pub mod Chains
 pub mod Gathered
 pub mod Joined
 pub mod Walks
@@ -44,5 +45,6 @@ pub mod EdgeMoreBlocks
 pub mod EdgeMoreBridges
 pub mod EdgeMoreBridgeBlocks
 pub mod BaseRule
+pub mod MateMore
 pub mod SecondRule
 pub mod Lengths

@@ -11,8 +11,8 @@ use Rattle.graph.specs.Block.{block}
 use Rattle.graph.proofs.Truth.{true-or-false, false-of-not, not-both, bool-ext, and-left, and-right, and-both, not-of-true}
 use Rattle.graph.proofs.Truth.{not-of-false, false-of-not-true, or-neither, eqb-eq, eqb-same, eqb-swap}
 use Rattle.graph.proofs.Joined.{joined-refl, joined-sym, joined-trans, joined-least}
-use Rattle.graph.proofs.Walks.{joins-ends, joins-swap, walk-joined}
-use Rattle.graph.proofs.Joins.{touches-no-third, joins-back, joins-joined}
+use Rattle.graph.proofs.Walks.{joins-ends, joins-swap, joins-joined, walk-joined}
+use Rattle.graph.proofs.Joins.{touches-no-third, joins-back}
 use Rattle.graph.proofs.Block.{block-sym}
 use Rattle.graph.proofs.Links.{linked-edges-share-block}
 use Rattle.graph.proofs.Steps.{any-more}

@@ -1,13 +1,13 @@
 -- Laws of mates, the edges that are lost together, and of components.
-use mathlib.Core.Bool.{true, false, _&&_}
-use mathlib.Core.Logic.{_⊎_, inl, inr, ⊎-elim, Equivalence}
+use mathlib.Core.Bool.{true, _&&_}
+use mathlib.Core.Logic.{_⊎_, inl, inr, ⊎-elim}
 use mathlib.Core.Path.{_≡_, refl, sym, subst, subst₂}
-use Prim.Native.Nat.{ℕ, _<_}
+use Prim.Native.Nat.{ℕ}
 use lib.Dec.{eqb}
-use Rattle.graph.specs.Network.{Network, Edge, Loss, MateRule, edge, edgeCount, parallel, mates, nothing, lossOf, joined}
+use Rattle.graph.specs.Network.{Network, Edge, Loss, MateRule, edge, parallel, mates, nothing, lossOf, joined}
 use Rattle.graph.specs.Groups.{component}
 use Rattle.graph.proofs.Truth.{bool-ext, and-left, and-right, or-left, or-right, or-cases, eqb-eq, eqb-same}
-use Rattle.graph.proofs.Joined.{joined-refl, joined-sym, joined-trans, joined-swap, joined-edge, joined-less-lost}
+use Rattle.graph.proofs.Joined.{joined-refl, joined-sym, joined-trans, joined-swap, joined-less-lost}
 
 -- whatever holds of a parallel edge's two ends, in whichever order, holds of the edge's own
 pub parallel-carries : (P : ℕ → ℕ → Type 0) → ((x y : ℕ) → P x y → P y x) → (e f : Edge) → parallel e f ≡ true
@@ -56,14 +56,6 @@ module _ (g : Network) (r : MateRule (g .rule)) where
       go (inr e) (inl q) = rw q at h
       go (inr e) (inr f) = rule-mates g s u (r .transitive (edge g s) (edge g t) (edge g u) e f)
 
-  -- being mates is an equivalence
-  pub mates-equivalence : Equivalence (λ s t. mates g s t ≡ true)
-  mates-equivalence = record { refl = mates-refl g; symm = mates-sym; trans = mates-trans }
-
-  -- being mates is the same from either edge
-  pub mates-swap : (s t : ℕ) → mates g s t ≡ mates g t s
-  mates-swap s t = bool-ext (mates g s t) (mates g t s) (mates-sym s t) (mates-sym t s)
-
   -- the loss of an edge and that of its mate are one
   pub loss-of-mates : (s t : ℕ) → mates g s t ≡ true → (u : ℕ) → lossOf g s u ≡ lossOf g t u
   unfolding lossOf
@@ -77,12 +69,6 @@ module _ (g : Network) (r : MateRule (g .rule)) where
       ⊎-elim (λ q. subst (λ u. P (edge g u .left) (edge g u .right)) (sym q) p)
       (λ e. parallel-carries P swap (edge g s) (edge g t) (r .only-parallel (edge g s) (edge g t) e) p)
       (mates-cases g s t h)
-
-  -- a mate that is not lost joins the ends of the edge
-  pub joined-by-mate : (lost : Loss) (s t : ℕ) → t < edgeCount g → lost t ≡ false → mates g s t ≡ true
-      → joined g lost (edge g s .left) (edge g s .right) ≡ true
-  joined-by-mate lost s t h k e =
-      mates-carry (λ x y. joined g lost x y ≡ true) (joined-sym g lost) s t e (joined-edge g lost t h k)
 
 -- a vertex shares its own component
 pub component-refl : (g : Network) (x : ℕ) → component g x x ≡ true
@@ -103,11 +89,6 @@ component-trans g x y z e f = joined-trans g nothing x y z e f
 pub component-swap : (g : Network) (x y : ℕ) → component g x y ≡ component g y x
 unfolding component
 component-swap g x y = joined-swap g nothing x y
-
--- the ends of an edge share a component
-pub component-edge : (g : Network) (s : ℕ) → s < edgeCount g → component g (edge g s .left) (edge g s .right) ≡ true
-unfolding component nothing
-component-edge g s h = joined-edge g nothing s h refl
 
 -- vertices that are joined, whatever is lost, share a component
 pub joined-component : (g : Network) (lost : Loss) (x y : ℕ) → joined g lost x y ≡ true → component g x y ≡ true

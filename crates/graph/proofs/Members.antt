@@ -9,9 +9,8 @@ use native.Mathlib.Omega.{arith}
 use lib.Dec.{eqb, ltb}
 use Rattle.graph.specs.Below.{listed}
 use Rattle.graph.specs.Lists.{allIn, isIn, distinct, ordered}
-use Rattle.graph.proofs.Truth.{true-or-false, bool-ext, not-of-false, false-of-not-true, and-left, and-right, and-both, or-left}
+use Rattle.graph.proofs.Truth.{true-or-false, bool-ext, not-of-false, false-of-not-true, and-left, and-right, and-both, or-left, lt-ltb, ltb-lt, ge-ltb}
 use Rattle.graph.proofs.Truth.{or-right, or-cases, or-neither, or-neither-left, or-neither-right, eqb-eq, eqb-same, eqb-ne, eqb-swap}
-use Rattle.graph.proofs.Truth.{lt-ltb, ltb-lt, ge-ltb}
 
 -- of three tests joined by "or" the first two change places
 pub or-exchange : (a b c : Bool) → (a || (b || c)) ≡ (b || (a || c))

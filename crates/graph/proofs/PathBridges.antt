@@ -18,8 +18,8 @@ use Rattle.graph.proofs.Truth.{or-neither-left, or-neither-right, eqb-n
 use Rattle.graph.proofs.Members.{is-in-tail, is-in-cases, distinct-cons, ordered-cons}
 use Rattle.graph.proofs.Joined.{joined-refl, joined-trans, joined-swap, joined-same-loss}
 use Rattle.graph.proofs.Ends.{joined-from, joined-to}
-use Rattle.graph.proofs.Walks.{joins-least, joins-swap}
-use Rattle.graph.proofs.Joins.{joins-carries, joins-joined}
+use Rattle.graph.proofs.Walks.{joins-least, joins-swap, joins-joined}
+use Rattle.graph.proofs.Joins.{joins-carries}
 use Rattle.graph.proofs.Mates.{mates-sym, loss-of-mates}
 use Rattle.graph.proofs.MateEdges.{mates-joins, joined-without-end-edge}
 use Rattle.graph.proofs.BridgeBlock.{bridge-block-lasts}

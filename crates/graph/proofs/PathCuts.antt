@@ -11,8 +11,7 @@ use Rattle.graph.specs.Groups.{parts}
 use Rattle.graph.specs.Cycle.{Step, anyStep}
 use Rattle.graph.specs.Between.{isCutBetween, cutBefore, cutsBetween}
 use Rattle.graph.specs.BlockPath.{BlockPath}
-use Rattle.graph.proofs.Truth.{true-or-false, not-both, or-neither}
-use Rattle.graph.proofs.Truth.{not-of-false, and-left, and-both, eqb-eq, eqb-swap}
+use Rattle.graph.proofs.Truth.{true-or-false, not-both, or-neither, not-of-false, and-left, and-both, eqb-eq, eqb-swap}
 use Rattle.graph.proofs.Joined.{joined-trans}
 use Rattle.graph.proofs.Members.{all-in}
 use Rattle.graph.proofs.CutsBetween.{joined-without, cuts-between-unique}

@@ -1,5 +1,5 @@
 -- The laws at a second rule, by which an edge is lost with every edge between the same two ends: what they ask of a rule is its
--- record, and nothing else.
+-- record, and nothing else. They wait for change request 3 (ducts), which brings such a rule.
 use mathlib.Core.Bool.{true, false, _&&_, _||_, and-comm, or-comm}
 use mathlib.Core.List.{List, [], _∷_}
 use mathlib.Core.Logic.{⊎-elim, _↔_}
@@ -26,7 +26,7 @@ use Rattle.graph.proofs.Travel.{bridges-in-travelling-order}
 use Rattle.graph.proofs.CommonCycle.{block-is-common-cycle}
 use Rattle.graph.proofs.LoneEdge.{lone-edge}
 use Rattle.graph.proofs.PathBridges.{pathBridges, bridges-of-block-path}
-use Rattle.graph.proofs.EdgeMoreBlocks.{joinsMate, block-edge-mate}
+use Rattle.graph.proofs.MateMore.{joinsMate, block-edge-mate}
 use Rattle.graph.proofs.EdgeMoreBridges.{bridge-block-mate}
 use Rattle.graph.proofs.EdgeMoreBridgeBlocks.{onBridgeBlocks, bridge-block-edge-within}
 use Rattle.graph.proofs.Joined.{edge-old, edge-new}

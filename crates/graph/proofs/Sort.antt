@@ -1,5 +1,5 @@
 -- Laws of sorting: the same members, none twice, in order, and the only such list.
-use mathlib.Core.Bool.{Bool, true, false, not, cond, _||_, _&&_, false≢true}
+use mathlib.Core.Bool.{Bool, true, false, cond, _||_, _&&_, false≢true}
 use mathlib.Core.List.{List, [], _∷_}
 use mathlib.Core.Logic.{_⊎_, inl, inr, ⊎-elim, _≢_}
 use mathlib.Core.Path.{_≡_, refl, sym, _∙_, ap, ap₂, subst}
@@ -8,7 +8,7 @@ use lib.Dec.{eqb, ltb}
 use Rattle.graph.specs.Below.{listed}
 use Rattle.graph.specs.Lists.{isIn, distinct, ordered}
 use Rattle.graph.specs.Between.{insert, sort}
-use Rattle.graph.proofs.Truth.{true-or-false, false-of-not, not-both, bool-ext, and-right, or-cases, or-neither, or-neither-left}
+use Rattle.graph.proofs.Truth.{true-or-false, not-both, bool-ext, and-right, or-cases, or-neither, or-neither-left}
 use Rattle.graph.proofs.Truth.{or-neither-right, eqb-eq, eqb-ne, eqb-swap}
 use Rattle.graph.proofs.Members.{or-exchange, is-in-head, is-in-tail, is-in-cases, distinct-head, distinct-tail, distinct-cons}
 use Rattle.graph.proofs.Members.{ordered-head, ordered-tail, ordered-cons, is-in-listed, distinct-listed, listed-none}
@@ -78,17 +78,6 @@ tail-member x y z l r h k m e = ⊎-elim
     (is-in-cases z y r (sym m ∙ is-in-tail z x l e))
 
 module _ {before : ℕ → ℕ → Bool} {item : ℕ → Bool} (o : Strict before item) where
-  -- no such number comes before itself
-  pub strict-irreflexive : (x : ℕ) → item x ≡ true → before x x ≡ false
-  strict-irreflexive x i = false-of-not (before x x) (λ e. not-both e (o .asymmetric x x i i e))
-
-  -- of two different ones exactly one comes before the other
-  pub strict-one-first : (x y : ℕ) → item x ≡ true → item y ≡ true → x ≢ y → before x y ≡ not (before y x)
-  strict-one-first x y i j d = ⊎-elim
-      (λ e. e ∙ sym (ap not (o .asymmetric x y i j e)))
-      (λ e. o .asymmetric y x j i e ∙ sym (ap not e))
-      (o .total x y i j d)
-
   ordered-insert : (y : ℕ) (l : List ℕ) → item y ≡ true → ((x : ℕ) → isIn x l ≡ true → item x ≡ true) → isIn y l ≡ false
       → ordered before l ≡ true → ordered before (insert before y l) ≡ true
   unfolding insert isIn

@@ -7,8 +7,7 @@ use Prim.Native.Nat.{ℕ}
 use lib.Dec.{eqb}
 use Rattle.graph.specs.Network.{Network, edge, touches, without, joined}
 use Rattle.graph.specs.Cycle.{Step, leads, anyStep}
-use Rattle.graph.proofs.Truth.{false-of-not, not-both, or-left, or-right, or-cases, or-neither, or-neither-left, or-neither-right}
-use Rattle.graph.proofs.Truth.{eqb-same}
+use Rattle.graph.proofs.Truth.{false-of-not, not-both, or-left, or-right, or-cases, or-neither, or-neither-left, or-neither-right, eqb-same}
 use Rattle.graph.proofs.Walks.{FirstStep, leads-first, any-step-append, walk-joined}
 use Rattle.graph.proofs.Joins.{touches-no-third}
 

@@ -9,7 +9,7 @@ use Prim.Native.Nat.{ℕ, _<_}
 use lib.Dec.{eqb}
 use Rattle.graph.specs.Below.{anyBelow}
 use Rattle.graph.specs.Lists.{isIn, ordered}
-use Rattle.graph.specs.Network.{Network, Proper, MateRule, edge, touches, mates, lossOf, without, joined}
+use Rattle.graph.specs.Network.{Network, Proper, MateRule, edge, mates, lossOf, without, joined}
 use Rattle.graph.specs.Cycle.{Step, leads, anyStep}
 use Rattle.graph.specs.Between.{leastMate, isCutBetween, cutBefore, cutsBetween, isBridgeBetween, bridgeBefore, bridgesBetween}
 use Rattle.graph.specs.Travel.{firsts, visited, firstMate, crossed}
@@ -17,17 +17,14 @@ use Rattle.graph.proofs.Truth.{true-or-false, false-of-not, not-both, n
 use Rattle.graph.proofs.Truth.{eqb-eq, eqb-ne, eqb-swap}
 use Rattle.graph.proofs.Below.{some-below, Least, found, missing, least-below}
 use Rattle.graph.proofs.Joined.{joined-refl, joined-trans}
-use Rattle.graph.proofs.Ends.{touches-left, touches-right, ends-joined}
-use Rattle.graph.proofs.Walks.{FirstStep, leads-first, leads-none}
-use Rattle.graph.proofs.Joins.{joins-carries, joins-joined}
+use Rattle.graph.proofs.Walks.{joins-joined, FirstStep, leads-first, leads-none}
+use Rattle.graph.proofs.Joins.{joins-carries}
 use Rattle.graph.proofs.Steps.{visits, joined-around}
 use Rattle.graph.proofs.Mates.{mates-refl, mates-sym, mates-trans, mates-carry}
-use Rattle.graph.proofs.Sort.{strict-irreflexive}
 use Rattle.graph.proofs.Firsts.{except, except-passes, except-differs, is-in-firsts-all, distinct-firsts, ordered-firsts}
 use Rattle.graph.proofs.Parting.{parts-apart}
-use Rattle.graph.proofs.CutsBetween.{kept-off, cut-between-parts, cut-before-strict, cuts-between-unique}
-use Rattle.graph.proofs.BridgesBetween.{least-mates-differ, bridge-between-parts, bridge-between-least, bridge-between-known}
-use Rattle.graph.proofs.BridgesBetween.{bridges-between-no-mates, bridge-before-strict, bridges-between-unique}
+use Rattle.graph.proofs.CutsBetween.{kept-off, cut-between-parts, cuts-between-unique}
+use Rattle.graph.proofs.BridgesBetween.{least-mates-differ, bridge-between-parts, bridge-between-least, bridges-between-unique}
 
 -- the vertices that a walk visits are those that it comes by
 is-in-visited : (c v : ℕ) (ps : List Step) → isIn c (visited v ps) ≡ visits v ps c
@@ -74,13 +71,6 @@ module _ (g : Network) where
         (is-in-firsts-all (isCutBetween g a b) (visited a ps) visits-every-cut)
         (distinct-firsts (isCutBetween g a b) (visited a ps))
         (visits-in-order a ps (isCutBetween g a b) a b l (λ d e n. joined-refl g (without g d) a))
-
-  -- a walk from a to a cut vertex visits those that come before it
-  pub visits-earlier-cuts : (a b c d : ℕ) → isCutBetween g a b c ≡ true → isCutBetween g a b d ≡ true → cutBefore g a c d ≡ true
-      → (ps : List Step) → leads g a ps d ≡ true → isIn c (visited a ps) ≡ true
-  unfolding cutBefore
-  visits-earlier-cuts a b c d e f h ps l = ⊎-elim (λ k. k) (λ k. absurd (not-both (joined-unvisited c ps a d l k)
-      (cut-before-strict g a b .asymmetric c d e f h))) (true-or-false (isIn c (visited a ps)))
 
 -- the first mate of an edge is its mate
 pub first-mate : (g : Network) (s : ℕ) → mates g (firstMate g s) s ≡ true
@@ -168,19 +158,3 @@ module _ (g : Network) (r : MateRule (g .rule)) where
         (is-in-firsts-all (isBridgeBetween g a b) (crossed g ps) crosses-every-bridge)
         (distinct-firsts (isBridgeBetween g a b) (crossed g ps))
         (crosses-in-order a ps (isBridgeBetween g a b) a b l (bridge-between-least g a b) (λ t e. joined-refl g (lossOf g t) a))
-
-  -- a walk from a to an end of a bridge crosses a mate of those that come before it
-  pub crosses-earlier-bridges : (a b s t w : ℕ) → isBridgeBetween g a b s ≡ true → isBridgeBetween g a b t ≡ true
-      → bridgeBefore g a s t ≡ true → touches (edge g t) w ≡ true
-      → (ps : List Step) → leads g a ps w ≡ true → isIn s (crossed g ps) ≡ true
-  unfolding bridgeBefore lossOf
-  crosses-earlier-bridges a b s t w e f h i ps l = ⊎-elim (λ k. k) (λ k. absurd (not-both
-      (and-both (on k (edge g t .left) (touches-left (edge g t))) (on k (edge g t .right) (touches-right (edge g t))))
-      (bridge-before-strict g r a b .asymmetric s t e f h))) (true-or-false (isIn s (crossed g ps)))
-    where
-      differ : s ≢ t
-      differ q = not-both (subst (λ u. bridgeBefore g a s u ≡ true) (sym q) h) (strict-irreflexive (bridge-before-strict g r a b) s e)
-
-      on : isIn s (crossed g ps) ≡ false → (x : ℕ) → touches (edge g t) x ≡ true → joined g (lossOf g s) a x ≡ true
-      on k x j = joined-trans g (lossOf g s) a w x (joined-uncrossed s (bridge-between-least g a b s e) ps a w l k)
-          (ends-joined g (lossOf g s) t w x (bridge-between-known g r a b t f) (bridges-between-no-mates g r a b s t e f differ) i j)

@@ -1,19 +1,16 @@
--- Edges with their two ends exchanged: no group changes.
+-- Edges with their two ends exchanged: no group changes. These laws wait for change request 14 (groups without their history), in which
+-- an edge may be entered from either end.
 use mathlib.Core.Bool.{Bool, true, false, not, cond, _&&_, _||_, or-comm, and-comm}
-use mathlib.Core.List.{List}
 use mathlib.Core.Logic.{_⊎_, inl, inr}
 use mathlib.Core.Path.{_≡_, refl, sym, _∙_, ap, ap₂, fun-ext}
 use Prim.Native.Nat.{ℕ}
 use native.Mathlib.Omega.{arith}
-use lib.Dec.{eqb, ltb}
-use lib.ListN.{set, length-set}
-use lib.Seq.{set-out, getD-set-same, getD-set-other}
+use lib.Dec.{eqb}
 use Rattle.graph.specs.Labels.{same}
-use Rattle.graph.specs.Network.{Network, Edge, Rule, Loss, edge, edgeCount, touches, otherEnd, mates, nothing}
-use Rattle.graph.specs.Network.{lossOf, without, joined}
+use Rattle.graph.specs.Network.{Network, Edge, Rule, Loss, never, edge, edgeCount, touches, otherEnd, mates, nothing, lossOf, without, joined}
 use Rattle.graph.specs.Groups.{component, bridge, bridgeBlock}
 use Rattle.graph.specs.Block.{linkAt, link, pairsBelow, links, block}
-use Rattle.graph.proofs.Truth.{true-or-false, bool-ext, not-both, and-left, or-neither, eqb-eq, eqb-ne, ltb-lt, ltb-ge}
+use Rattle.graph.proofs.Truth.{true-or-false, bool-ext, not-both, and-left, or-neither, eqb-eq}
 use Rattle.graph.proofs.Below.{all-below-same}
 use Rattle.graph.proofs.Joined.{joined-swap, joined-edge, joined-into}
 
@@ -173,31 +170,7 @@ module _ (g g′ : Network) (t : Turned g g′) where
     bridge-block-turned x y = ap₂ _&&_ (component-turned x y) (rw (t .as-many) (all-below-same (edgeCount g)
         (λ s. joined g′ (lossOf g′ s) x y) (λ s. joined g (lossOf g s) x y) (λ s h. joined-loss-turned s x y)))
 
--- the network with edge k turned
-unfoldable pub turnEdge : Network → ℕ → Network
-turnEdge g k = record { rule = g .rule; vertices = g .vertices; edges = set (g .edges) k (turnedEdge (edge g k)) }
-
--- a network with an edge turned differs at most in the direction of edges
-pub turn-edge : (g : Network) (k : ℕ) → Turned g (turnEdge g k)
-unfolding turnEdge edge edgeCount
-turn-edge g k = record {
-  one-rule = refl;
-  as-many-vertices = refl;
-  as-many = length-set es k f;
-  each = λ s. go s (true-or-false (eqb s k)) (true-or-false (ltb k (edgeCount g)));
-}
-  where
-    es : List Edge
-    es = g .edges
-
-    f : Edge
-    f = turnedEdge (edge g k)
-
-    d : Edge
-    d = record { left = 0; right = 0 }
-
-    go : (s : ℕ) → (eqb s k ≡ true) ⊎ (eqb s k ≡ false) → (ltb k (edgeCount g) ≡ true) ⊎ (ltb k (edgeCount g) ≡ false)
-        → (edge (turnEdge g k) s ≡ edge g s) ⊎ (edge (turnEdge g k) s ≡ turnedEdge (edge g s))
-    go s (inl h) (inl l) = inr (rw (eqb-eq s k h) (getD-set-same es k f d (ltb-lt k (edgeCount g) l)))
-    go s (inl h) (inr l) = inl (rw (set-out es k f (ltb-ge k (edgeCount g) l)))
-    go s (inr h) l = inl (getD-set-other es k s f d (eqb-ne s k h))
+-- document 01's rule does not look at the direction of an edge
+pub never-undirected : Undirected never
+unfolding never
+never-undirected = record { on-left = λ e f. refl; on-right = λ e f. refl }

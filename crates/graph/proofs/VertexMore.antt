@@ -1,30 +1,23 @@
 -- One vertex more: no group changes, and the new vertex is alone.
 use mathlib.Core.Bool.{Bool, true, false, and-false, and-not-self}
 use mathlib.Core.Logic.{Equivalence}
-use mathlib.Core.Path.{_≡_, refl, sym, _∙_, ap}
+use mathlib.Core.Path.{_≡_, refl, sym, _∙_}
 use Prim.Native.Nat.{ℕ, _≤_, _<_}
 use native.Mathlib.Omega.{arith}
 use lib.Dec.{eqb}
 use Rattle.graph.specs.Below.{allBelow}
-use Rattle.graph.specs.Network.{Network, Edge, Loss, Proper, edge, touches, nothing, edgeCount, addVertex, addEdge, mates}
-use Rattle.graph.specs.Network.{lossOf, without, joined}
-use Rattle.graph.specs.Groups.{component, parts, bridge, bridgeBlock}
+use Rattle.graph.specs.Network.{Network, Edge, Loss, Proper, edge, touches, nothing, edgeCount, addVertex, addEdge, mates, lossOf, without, joined}
+use Rattle.graph.specs.Groups.{component, parts, bridgeBlock}
 use Rattle.graph.specs.Block.{link, linkAt, links, block}
-use Rattle.graph.specs.Between.{sort, leastMate, isBridgeBetween, bridgeBefore, bridgesBetween, isCutBetween, cutBefore}
-use Rattle.graph.specs.Between.{cutsBetween}
+use Rattle.graph.specs.Between.{isCutBetween}
 use Rattle.graph.proofs.Truth.{bool-ext, or-neither, and-left, and-both, eqb-eq, eqb-same, ne-eqb}
-use Rattle.graph.proofs.Below.{all-below, listed-skip}
+use Rattle.graph.proofs.Below.{all-below}
 use Rattle.graph.proofs.Joined.{joined-refl, joined-least, joined-same-loss, each-edge-more}
 
 -- one vertex more changes no component
 pub component-vertex-more : (g : Network) (x y : ℕ) → component (addVertex g) x y ≡ component g x y
 unfolding component joined addVertex
 component-vertex-more g x y = refl
-
--- one vertex more changes no bridge
-pub bridge-vertex-more : (g : Network) (s : ℕ) → bridge (addVertex g) s ≡ bridge g s
-unfolding bridge lossOf mates joined edge addVertex
-bridge-vertex-more g s = refl
 
 -- one vertex more changes no bridge-block
 pub bridge-block-vertex-more : (g : Network) (x y : ℕ) → bridgeBlock (addVertex g) x y ≡ bridgeBlock g x y
@@ -35,21 +28,6 @@ bridge-block-vertex-more g x y = refl
 pub block-vertex-more : (g : Network) (s t : ℕ) → block (addVertex g) s t ≡ block g s t
 unfolding block links link linkAt without joined edge edgeCount addVertex
 block-vertex-more g s t = refl
-
--- one vertex more changes no bridge between two vertices
-pub bridge-between-vertex-more : (g : Network) (a b s : ℕ) → isBridgeBetween (addVertex g) a b s ≡ isBridgeBetween g a b s
-unfolding isBridgeBetween leastMate parts component lossOf mates joined edge addVertex
-bridge-between-vertex-more g a b s = refl
-
--- one vertex more leaves the list of bridges between two vertices as it is
-pub bridges-between-vertex-more : (g : Network) (a b : ℕ) → bridgesBetween (addVertex g) a b ≡ bridgesBetween g a b
-unfolding bridgesBetween bridgeBefore isBridgeBetween leastMate parts component lossOf mates joined edge edgeCount addVertex
-bridges-between-vertex-more g a b = refl
-
--- one vertex more makes no cut vertex of another between two vertices, and unmakes none
-pub cut-between-vertex-more : (g : Network) (a b c : ℕ) → isCutBetween (addVertex g) a b c ≡ isCutBetween g a b c
-unfolding isCutBetween parts component without joined edge addVertex
-cut-between-vertex-more g a b c = refl
 
 -- a number that is no vertex is joined to nothing but itself
 pub joined-alone : (g : Network) → Proper g → (lost : Loss) (v x : ℕ) → g .vertices ≤ v → joined g lost v x ≡ eqb v x
@@ -108,12 +86,6 @@ pub not-cut-alone : (g : Network) → Proper g → (a b c : ℕ) → g .vertices
 unfolding isCutBetween parts component
 not-cut-alone g proper a b c h =
     rw (joined-same-loss g (without g c) nothing (without-alone g proper c h) a b, and-not-self, and-false)
-
--- one vertex more leaves the list of cut vertices between two vertices as it is
-pub cuts-between-vertex-more : (g : Network) → Proper g → (a b : ℕ) → cutsBetween (addVertex g) a b ≡ cutsBetween g a b
-unfolding cutsBetween cutBefore isCutBetween parts component without joined edge addVertex
-cuts-between-vertex-more g proper a b =
-    ap (sort (cutBefore g a)) (listed-skip (g .vertices) (isCutBetween g a b) (not-cut-alone g proper a b (g .vertices) (omega arith)))
 
 -- one vertex more keeps a network proper
 pub proper-vertex-more : (g : Network) → Proper g → Proper (addVertex g)

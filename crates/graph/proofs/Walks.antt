@@ -36,14 +36,24 @@ pub joins-swap : (e : Edge) (x y : ℕ) → joins e x y ≡ joins e y x
 unfolding joins
 joins-swap e x y = or-comm (eqb (e .left) x && eqb (e .right) y) (eqb (e .left) y && eqb (e .right) x)
 
--- an equivalence that holds of the ends of an edge holds of any two vertices that it joins
+-- what holds of the ends of an edge in both orders holds of any two vertices that it joins
+pub joins-elim : (P : ℕ → ℕ → Type 0) (e : Edge) → P (e .left) (e .right) → P (e .right) (e .left)
+    → (x y : ℕ) → joins e x y ≡ true → P x y
+joins-elim P e f b x y j = go (joins-ways e x y j)
+  where
+    go : ((e .left ≡ x) × (e .right ≡ y)) ⊎ ((e .left ≡ y) × (e .right ≡ x)) → P x y
+    go (inl (p, q)) = rw (← p, ← q) f
+    go (inr (p, q)) = rw (← p, ← q) b
+
+-- what holds of the ends of an edge, in whichever order, holds of any two vertices that it joins
 pub joins-least : (R : ℕ → ℕ → Type 0) → ((x y : ℕ) → R x y → R y x) → (e : Edge) → R (e .left) (e .right)
     → (x y : ℕ) → joins e x y ≡ true → R x y
-joins-least R turn e r x y h = go (joins-ways e x y h)
-  where
-    go : ((e .left ≡ x) × (e .right ≡ y)) ⊎ ((e .left ≡ y) × (e .right ≡ x)) → R x y
-    go (inl k) = rw (← k .0, ← k .1) r
-    go (inr k) = rw (← k .0, ← k .1) (turn (e .left) (e .right) r)
+joins-least R turn e r = joins-elim R e r (turn (e .left) (e .right) r)
+
+-- an edge that is not lost joins the vertices at its ends
+pub joins-joined : (g : Network) (lost : Loss) (s : ℕ) → s < edgeCount g → lost s ≡ false
+    → (x y : ℕ) → joins (edge g s) x y ≡ true → joined g lost x y ≡ true
+joins-joined g lost s h k = joins-least (λ x y. joined g lost x y ≡ true) (joined-sym g lost) (edge g s) (joined-edge g lost s h k)
 
 -- what the first step of a walk says
 pub record FirstStep (g : Network) (v : ℕ) (p : Step) (ps : List Step) (w : ℕ) : Type 0 where
@@ -189,8 +199,7 @@ walk-joined g lost (p ∷ ps) v w e a =
     f = leads-first g v p ps w e
 
     over : joined g lost v (p .to) ≡ true
-    over = joins-least (λ x y. joined g lost x y ≡ true) (joined-sym g lost) (edge g (p .along))
-        (joined-edge g lost (p .along) (f .known) (or-neither-left (lost (p .along)) (anyStep (λ p. lost (p .along)) ps) a)) v (p .to) (f .over)
+    over = joins-joined g lost (p .along) (f .known) (or-neither-left (lost (p .along)) (anyStep (λ p. lost (p .along)) ps) a) v (p .to) (f .over)
 
 -- no step crosses an edge of nothing
 pub nothing-crossed : (ps : List Step) → anyStep (λ p. nothing (p .along)) ps ≡ false

@@ -1,10 +1,12 @@
 -- The edges, and the vertices, whose single loss parts two given vertices, in travelling order.
-use mathlib.Core.Bool.{Bool, not, cond, _&&_}
+use mathlib.Core.Bool.{Bool, false, not, cond, _&&_}
 use mathlib.Core.List.{List, [], _∷_}
-use Prim.Native.Nat.{ℕ}
-use lib.Dec.{eqb}
+use mathlib.Core.Path.{_≡_, refl, _∙_, ap, fun-ext}
+use Prim.Native.Nat.{ℕ, zero, suc, _≤_, _<_}
+use native.Mathlib.Omega.{arith}
+use lib.Dec.{eqb, eqb·zero-suc, eqb·suc-suc}
 use Rattle.graph.specs.Below.{anyBelow, listed}
-use Rattle.graph.specs.Network.{Network, edge, edgeCount, mates, lossOf, without, joined}
+use Rattle.graph.specs.Network.{Network, never, edge, edgeCount, mates, mates-never, lossOf, without, joined}
 use Rattle.graph.specs.Groups.{parts}
 
 -- x put into a list before the first that it comes before.
@@ -25,6 +27,24 @@ leastMate g s = not (anyBelow s (λ t. mates g t s))
 -- The loss of edge s parts a and b (document 01: it is a sole span between them). Of a set of mates the least stands for all.
 unfoldable pub isBridgeBetween : Network → ℕ → ℕ → ℕ → Bool
 isBridgeBetween g a b s = leastMate g s && parts g (lossOf g s) a b
+
+-- Under document 01's rule of mates this is document 01's sentence: the loss of edge s, and of no other, parts them.
+pub bridge-between-never : (g : Network) → g .rule ≡ never → (a b s : ℕ) → isBridgeBetween g a b s ≡ parts g (λ t. eqb s t) a b
+unfolding isBridgeBetween leastMate lossOf anyBelow
+bridge-between-never g rule-is a b s =
+    rw no-lesser-mate (ap (λ lost. parts g lost a b) (fun-ext (mates-never g rule-is s)))
+  where
+    fails : (t n : ℕ) → t < n → eqb t n ≡ false
+    fails t zero h = absurd (omega arith)
+    fails zero (suc n) h = eqb·zero-suc n
+    fails (suc t) (suc n) h = eqb·suc-suc t n ∙ fails t n (omega arith)
+
+    up-to : (n : ℕ) → n ≤ s → anyBelow n (λ t. mates g t s) ≡ false
+    up-to zero h = refl
+    up-to (suc n) h = rw (up-to n (omega arith), mates-never g rule-is n s) (fails n s h)
+
+    no-lesser-mate : anyBelow s (λ t. mates g t s) ≡ false
+    no-lesser-mate = up-to s (omega arith)
 
 -- Of two bridges between a and b, s comes before t: with t lost, both ends of s are still joined to a.
 unfoldable pub bridgeBefore : Network → ℕ → ℕ → ℕ → Bool

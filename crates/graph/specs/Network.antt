@@ -1,7 +1,7 @@
 -- A network: vertices, the edges between them, and which edges are lost together.
-use mathlib.Core.Bool.{Bool, true, false, cond, _&&_, _||_}
+use mathlib.Core.Bool.{Bool, true, false, cond, _&&_, _||_, or-false}
 use mathlib.Core.List.{List, [], _∷_, _++_}
-use mathlib.Core.Path.{_≡_}
+use mathlib.Core.Path.{_≡_, _∙_, ap}
 use Prim.Native.Nat.{ℕ, suc, _<_}
 use lib.Dec.{eqb}
 use lib.ListN.{length, getD}
@@ -68,6 +68,11 @@ pub record Proper (g : Network) : Type 0 where
 -- Edges s and t are mates: they are one edge, or the rule has them lost together.
 unfoldable pub mates : Network → ℕ → ℕ → Bool
 mates g s t = eqb s t || g .rule (edge g s) (edge g t)
+
+-- Under the rule of document 01 every edge is its own only mate.
+pub mates-never : (g : Network) → g .rule ≡ never → (s t : ℕ) → mates g s t ≡ eqb s t
+unfolding mates never
+mates-never g rule-is s t = ap (λ r. eqb s t || r (edge g s) (edge g t)) rule-is ∙ or-false (eqb s t)
 
 -- A loss: which edges are gone, by number.
 abbrev pub Loss : Type 0

@@ -1,17 +1,10 @@
-pub mod RunLeft
 pub mod RunStep
 pub mod RunWhole
 pub mod RunEnd
 pub mod EntryLaws
-pub mod Sets
-pub mod ReadSteps
-pub mod WriteSteps
 pub mod StepTests
 pub mod StepCauses
 pub mod StepAnswers
 pub mod StepLists
 pub mod StepSpan
 pub mod StepLaws
-pub mod ReaderLocals
-pub mod ReaderPromise
-pub mod ReaderWalk

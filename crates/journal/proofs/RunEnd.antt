@@ -13,6 +13,7 @@ use Rattle.graph.specs.Network.{never, edgeCount}
 use Rattle.graph.proofs.Never.{never-mates}
 use Rattle.graph.proofs.Truth.{and-left, and-right, eqb-eq, eq-eqb, ne-eqb, ltb-lt, ltb-ge}
 use Rattle.naming.specs.Book.{emptyBook, feedAll}
+use Rattle.naming.specs.State.{State, emptyState}
 use Rattle.commands.specs.Refusal.{Refusal, refusalNumber, Capacities}
 use Rattle.commands.specs.Run.{Run, stop, atEnd, runWithin, fitting, commandsOf, bytesOfAnswers, placeAfter}
 use Rattle.commands.specs.Entry.{over, numberOf, bookAfter}
@@ -22,17 +23,17 @@ use Rattle.commands.proofs.Steps.{run-ends}
 use Rattle.commands.proofs.Place.{bookFed, place-within-journal}
 use Rattle.commands.proofs.RunBooks.{empty-sound}
 use Rattle.commands.proofs.RunBound.{run-short}
-use Rattle.table.specs.declared.words.Capacities as Forest
-use Rattle.forest.specs.Valid.{Valid, bookOf}
+use Rattle.numbers.specs.declared.Limits.{Limits}
+use Rattle.forest.specs.declared.Shape.{Shape}
+use Rattle.forest.specs.Promise.{bookIn, same-beyond-refl, Begun}
 use Rattle.journal.specs.declared.run.Progress.{Progress}
-use Rattle.journal.specs.Steps.{capacitiesOf, bookIn}
-use Rattle.journal.specs.Runs.{leftOf, refusedProgress, RunOn, RunPromise}
-use Rattle.journal.proofs.RunStep.{same-beyond-self}
+use Rattle.journal.specs.Inside.Steps.{capacitiesOf}
+use Rattle.journal.specs.Inside.Runs.{wholeOf, leftOf, refusedProgress, RunOn, RunPromise}
 use Rattle.journal.proofs.RunWhole.{behind, StillOn, Ended, SoFar}
 
 -- The progress of a run that has not begun.
-unfoldable pub atStart : Forest.Capacities → Progress
-atStart caps = record { shape = record { caps = caps; vertices = 0; edges = 0 }; place = 0; commands = 0; written = 0; refusal = 0 }
+unfoldable pub atStart : Shape → Progress
+atStart shape = record { shape = shape; place = 0; commands = 0; written = 0; refusal = 0 }
 
 -- a run that goes on is not refused, and has more of the journal before it
 pub goes-on-tells : (p : Progress) (end : ℕ) → (eqb (p .refusal) 0 && ltb (p .place) end) ≡ true → (p .refusal ≡ 0) × (p .place < end)
@@ -59,51 +60,71 @@ fewer-steps p p′ journal old new oldAnswers newAnswers e h (inl w) =
 fewer-steps p p′ journal old new oldAnswers newAnswers e h (inr w) =
     rw (eq-eqb (p′ .refusal) 0 (w .accepted .not-refused), eq-eqb (p .refusal) 0 e) (omega (arith, w .accepted .place-is))
 
--- The definition's run, within the room of an answer buffer.
-abbrev pub wholeOf : Forest.Capacities → List ℕ → List ℕ → Run
-wholeOf caps journal answers = runWithin (length answers) (capacitiesOf caps) (emptyBook never) journal
+-- a run begins with the limits that it was given
+pub begun-limits : {limits : Limits} {t : List ℕ} {shape : Shape} → Begun limits t shape → shape .limits ≡ limits
+begun-limits b = ap (λ (s : Shape). s .limits) (b .shape-is)
 
--- its answers fit
-pub whole-fits : (caps : Forest.Capacities) (journal answers : List ℕ)
+-- which are the limits of its shape
+pub begun-own : {limits : Limits} {t : List ℕ} {shape : Shape} → Begun limits t shape → Begun (shape .limits) t shape
+begun-own b =
+    record {
+      shape-is = b .shape-is ∙ ap (λ (l : Limits). let s : Shape = record { limits = l; vertices = 0; edges = 0 } in s) (sym (begun-limits b));
+      holds = b .holds;
+      state-is = b .state-is;
+    }
+
+-- the answers of the definition's run fit
+pub whole-fits : (caps : Capacities) (journal answers : List ℕ)
     → length (bytesOfAnswers (wholeOf caps journal answers .accepted)) ≤ length answers
 unfolding runWithin
 whole-fits caps journal answers = answers-fit (length answers) _ _
 
-module _ (caps : Forest.Capacities) (journal old oldAnswers : List ℕ) where
+module _ (limits : Limits) (journal old oldAnswers : List ℕ) where
   -- the run within the answer buffer
   abbrev whole : Run
-  whole = wholeOf caps journal oldAnswers
+  whole = wholeOf (capacitiesOf limits) journal oldAnswers
 
   -- at the start all of the run is left
-  pub starts : Valid caps 0 0 old → bookOf caps 0 0 old ≡ emptyBook never → SoFar caps whole journal (atStart caps) old old oldAnswers oldAnswers
-  unfolding atStart behind leftOf bookIn over bytesOfAnswers placeAfter bookFed feedAll
-  starts v e =
+  pub starts : (shape : Shape) → Begun limits old shape
+      → SoFar limits whole journal (atStart shape) old old oldAnswers oldAnswers
+  unfolding atStart behind leftOf over bytesOfAnswers placeAfter bookFed feedAll emptyState
+  starts shape begun =
       record {
         done = [];
-        same-capacities = refl;
+        same-limits = begun-limits begun;
         place-is = refl;
         commands-are = refl;
         written-is = refl;
-        cabinets-are = unfold emptyBook in refl;
-        spans-are = unfold emptyBook edgeCount in refl;
+        cabinets-are = unfold emptyBook in (ap (λ (s : Shape). s .vertices) (begun .shape-is));
+        spans-are = unfold emptyBook edgeCount in (ap (λ (s : Shape). s .edges) (begun .shape-is));
         answers-are = refl;
         as-long = refl;
-        same-beyond = same-beyond-self (atStart caps) old;
-        state = inl (record { left-is = rw (e, sub-zero); not-refused = refl; holds = v; book-is = e });
+        same-beyond = same-beyond-refl limits old;
+        state =
+            inl
+            (record {
+              left-is = rw (book, begun-limits begun, sub-zero);
+              not-refused = refl;
+              holds = begun .holds;
+              book-is = book;
+            });
       }
+    where
+      book : bookIn shape old ≡ emptyBook never
+      book = ap (λ (s : State). s .book) (begun .state-is)
 
   -- the run is what is done
-  ends : (p : Progress) (new newAnswers : List ℕ) (far : SoFar caps whole journal p old new oldAnswers newAnswers)
-      → caps .vertices ≤ 4096 → caps .edges ≤ 8192 → length journal ≤ 65536
+  ends : (p : Progress) (new newAnswers : List ℕ) (far : SoFar limits whole journal p old new oldAnswers newAnswers)
+      → limits .vertices ≤ 4096 → limits .edges ≤ 8192 → length journal ≤ 65536
       → (end : Option Refusal) → whole ≡ record { accepted = far .done; refusal = end } → p .refusal ≡ numberOf end
-      → RunPromise caps whole p old new oldAnswers newAnswers
+      → RunPromise limits whole p old new oldAnswers newAnswers
   unfolding bookFed bookAfter commandsOf capacitiesOf
   ends p new newAnswers far few-vertices few-edges short end e number =
       let same : far .done ≡ whole .accepted = sym (ap (λ (r : Run). r .accepted) e) in
       let place-is : p .place ≡ placeAfter (whole .accepted) = rw same at (far .place-is) in
       let written-is : p .written ≡ length (bytesOfAnswers (whole .accepted)) = rw same at (far .written-is) in
-      let place-fits = place-within-journal (length oldAnswers) (capacitiesOf caps) (emptyBook never) journal in
-      let written-fits = run-short (capacitiesOf caps) few-vertices few-edges (length oldAnswers) (emptyBook never) journal (empty-sound (capacitiesOf caps) never never-mates) in
+      let place-fits = place-within-journal (length oldAnswers) (capacitiesOf limits) (emptyBook never) journal in
+      let written-fits = run-short (capacitiesOf limits) few-vertices few-edges (length oldAnswers) (emptyBook never) journal (empty-sound (capacitiesOf limits) never never-mates) in
       record {
         refusal-is = number ∙ ap numberOf (sym (ap (λ (r : Run). r .refusal) e));
         place-is = place-is;
@@ -118,20 +139,20 @@ module _ (caps : Forest.Capacities) (journal old oldAnswers : List ℕ) where
       }
 
   -- a run that goes on no further is the whole run
-  pub run-promised : (p : Progress) (new newAnswers : List ℕ) → SoFar caps whole journal p old new oldAnswers newAnswers
-      → caps .vertices ≤ 4096 → caps .edges ≤ 8192 → length journal ≤ 65536
+  pub run-promised : (p : Progress) (new newAnswers : List ℕ) → SoFar limits whole journal p old new oldAnswers newAnswers
+      → limits .vertices ≤ 4096 → limits .edges ≤ 8192 → length journal ≤ 65536
       → (eqb (p .refusal) 0 && ltb (p .place) (length journal)) ≡ false
-      → RunPromise caps whole p old new oldAnswers newAnswers
+      → RunPromise limits whole p old new oldAnswers newAnswers
   unfolding behind stop atEnd leftOf runWithin fitting numberOf
   run-promised p new newAnswers far few-vertices few-edges short stopped = go (far .state)
     where
       go : StillOn whole (far .done) p journal (length oldAnswers) new ⊎ Ended whole (far .done) p
-          → RunPromise caps whole p old new oldAnswers newAnswers
+          → RunPromise limits whole p old new oldAnswers newAnswers
       go (inl on) =
           let past : length journal ≤ p .place = ltb-ge (p .place) (length journal) (rw (eq-eqb (p .refusal) 0 (on .not-refused)) at stopped) in
           let nothing : drop (p .place) journal ≡ [] = drop-of-length-le journal past in
           ends p new newAnswers far few-vertices few-edges short none
-          (on .left-is ∙ rw (nothing, run-ends (capacitiesOf (p .shape .caps)) (bookIn (p .shape) new), append-nil (far .done)))
+          (on .left-is ∙ rw (nothing, run-ends (capacitiesOf (p .shape .limits)) (bookIn (p .shape) new), append-nil (far .done)))
           (on .not-refused)
       go (inr end) =
           ends p new newAnswers far few-vertices few-edges short (some (end .by))

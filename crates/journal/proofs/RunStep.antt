@@ -8,25 +8,23 @@ use native.Mathlib.Numerals.{add-one}
 use native.Mathlib.Omega.{arith}
 use lib.ListN.{length, take, drop, getD, length-drop, take-append-drop, drop-of-length-le}
 use lib.Seq.{take-all, drop-cons, drop-drop}
+use Rattle.naming.specs.Book.{Book}
 use Rattle.commands.specs.Command.{Command, readCommand, unknownByte, cutOff, command}
-use Rattle.commands.specs.Refusal.{badByte, cutOperands, refusalNumber}
-use Rattle.commands.specs.Answer.{Answer, answerBytes}
+use Rattle.commands.specs.Refusal.{Refusal, badByte, cutOperands, refusalNumber}
+use Rattle.commands.specs.Answer.{answerBytes}
 use Rattle.commands.specs.Step.{after}
-use Rattle.commands.specs.Run.{andThen, runWithin}
+use Rattle.commands.specs.Run.{Accepted, Verdict, refused, accepted, verdict, within, andThen, runWithin}
 use Rattle.commands.proofs.Cases.{impossible}
 use Rattle.commands.proofs.Reading.{operands-fit}
+use Rattle.commands.proofs.Room.{within-kept}
+use Rattle.commands.proofs.Steps.{was-accepted, within-refuses, within-accepts}
 use Rattle.forest.specs.declared.Shape.{Shape}
-use Rattle.forest.specs.Promise.{SameBeyond}
+use Rattle.forest.specs.Promise.{bookIn, same-beyond-refl}
 use Rattle.journal.specs.declared.run.Progress.{Progress}
 use Rattle.journal.specs.declared.step.Stepped.{Stepped}
 use Rattle.journal.specs.declared.step.Stepped.the-variants as S
-use Rattle.journal.specs.Steps.{capacitiesOf, Expected, refuse, accept, expected, shapeOf, StepMeets, bookIn, StepPromise}
-use Rattle.journal.specs.Runs.{leftOf, Underway, Ready, refusedProgress, writtenBehind, RunAccepted, OrderMeets, OrderPromise, RunOn}
-use Rattle.journal.proofs.RunLeft.{accepted-fits, within-unknown, within-cut-off, within-expects-refusal, within-expects-answer}
-
--- the words beyond the table's are as before where the table is
-pub same-beyond-self : (p : Progress) (t : List ℕ) → SameBeyond (p .shape .caps) t t
-same-beyond-self p t = record { as-long = refl; beyond = refl }
+use Rattle.journal.specs.Inside.Steps.{capacitiesOf, shapeOf, StepMeets, verdictHere, StepPromise}
+use Rattle.journal.specs.Inside.Runs.{leftOf, Underway, Ready, refusedProgress, writtenBehind, RunAccepted, OrderMeets, OrderPromise, RunOn}
 
 module _ (p p′ : Progress) (journal : List ℕ) where
   -- the byte at the run's place, and those behind it
@@ -39,32 +37,34 @@ module _ (p p′ : Progress) (journal : List ℕ) where
   -- what is left of a run begins with what stands at its place
   left-begins : (room : ℕ) (t : List ℕ) → p .place < length journal
       → leftOf p journal room t
-      ≡ runWithin (room - p .written) (capacitiesOf (p .shape .caps)) (bookIn (p .shape) t) (byteHere ∷ bytesBehind)
+      ≡ runWithin (room - p .written) (capacitiesOf (p .shape .limits)) (bookIn (p .shape) t) (byteHere ∷ bytesBehind)
   unfolding leftOf
   left-begins room t h = rw (drop-cons journal (p .place) 0 h, add-one)
 
   module _ (t answers : List ℕ) (under : Underway p journal t answers) where
-    -- an unknown byte ends the run
-    pub unknown-ends : readCommand byteHere bytesBehind ≡ unknownByte → p′ ≡ refusedProgress p 4 → RunOn p p′ journal t t answers answers
-    unfolding refusalNumber
-    unknown-ends e d =
+    -- what cannot be read ends the run
+    unread-ends : (r : Refusal) → ((b : Book) → verdict (capacitiesOf (p .shape .limits)) b (readCommand byteHere bytesBehind) ≡ refused r)
+        → p′ ≡ refusedProgress p (refusalNumber r) → RunOn p p′ journal t t answers answers
+    unfolding within
+    unread-ends r e d =
         inl
         (record {
-          by = badByte;
-          left-is = left-begins (length answers) t (under .at-command) ∙ within-unknown _ _ _ byteHere bytesBehind e;
-          refused = record { progress-is = d; answers-are = refl; same-beyond = same-beyond-self p t };
+          by = r;
+          left-is =
+              left-begins (length answers) t (under .at-command)
+              ∙ within-refuses _ _ _ byteHere bytesBehind (ap (within (length answers - p .written)) (e (bookIn (p .shape) t)));
+          refused = record { progress-is = d; answers-are = refl; same-beyond = same-beyond-refl (p .shape .limits) t };
         })
 
-    -- cut-off operands end the run
+    -- an unknown byte
+    pub unknown-ends : readCommand byteHere bytesBehind ≡ unknownByte → p′ ≡ refusedProgress p 4 → RunOn p p′ journal t t answers answers
+    unfolding refusalNumber verdict
+    unknown-ends e d = unread-ends badByte (λ b. rw (e, verdict)) d
+
+    -- cut-off operands
     pub cut-off-ends : readCommand byteHere bytesBehind ≡ cutOff → p′ ≡ refusedProgress p 5 → RunOn p p′ journal t t answers answers
-    unfolding refusalNumber
-    cut-off-ends e d =
-        inl
-        (record {
-          by = cutOperands;
-          left-is = left-begins (length answers) t (under .at-command) ∙ within-cut-off _ _ _ byteHere bytesBehind e;
-          refused = record { progress-is = d; answers-are = refl; same-beyond = same-beyond-self p t };
-        })
+    unfolding refusalNumber verdict
+    cut-off-ends e d = unread-ends cutOperands (λ b. rw (e, verdict)) d
 
     module _ (c : Command) (width : ℕ) (reads : readCommand byteHere bytesBehind ≡ command c width) where
       -- a command that was read whole stands in the journal
@@ -79,44 +79,42 @@ module _ (p p′ : Progress) (journal : List ℕ) where
           }
 
       -- behind an accepted command stands what is left of the run further on
-      left-behind : (new newAnswers : List ℕ) (a : Answer)
-          → RunAccepted p p′ t new answers newAnswers (record { command = c; answer = a; width = width })
+      left-behind : (new newAnswers : List ℕ) (a : Accepted) → RunAccepted p p′ t new answers newAnswers a
           → leftOf p′ journal (length answers) new
           ≡ runWithin
-          (length answers - p .written - length (answerBytes a))
-          (capacitiesOf (p .shape .caps))
-          (after (bookIn (p .shape) t) c)
-          (drop width bytesBehind)
+          (length answers - p .written - length (answerBytes (a .answer)))
+          (capacitiesOf (p .shape .limits))
+          (after (bookIn (p .shape) t) (a .command))
+          (drop (a .width) bytesBehind)
       unfolding leftOf
       left-behind new newAnswers a w =
-          let left : length answers - p′ .written ≡ length answers - p .written - length (answerBytes a) = omega (arith, w .written-is) in
-          rw (left, w .book-is, w .same-capacities, w .place-is, drop-drop width (p .place + 1) journal)
+          let left : length answers - p′ .written ≡ length answers - p .written - length (answerBytes (a .answer)) = omega (arith, w .written-is) in
+          rw (left, w .book-is, w .same-limits, w .place-is, drop-drop (a .width) (p .place + 1) journal)
 
-      -- what is expected of it is what is left of the run
+      -- what the paper fixes for it is what is left of the run
       pub order-goes-on : (new newAnswers : List ℕ) → OrderPromise p p′ t new answers newAnswers c width
           → RunOn p p′ journal t new answers newAnswers
-      order-goes-on new newAnswers o = go (expected (capacitiesOf (p .shape .caps)) (bookIn (p .shape) t) (length answers - p .written) c) refl o
+      order-goes-on new newAnswers o = go (verdictHere (p .shape) t (length answers - p .written) c width) refl o
         where
-          go : (x : Expected)
-              → expected (capacitiesOf (p .shape .caps)) (bookIn (p .shape) t) (length answers - p .written) c ≡ x
-              → OrderMeets p p′ t new answers newAnswers c width x → RunOn p p′ journal t new answers newAnswers
-          go (refuse r) e w =
+          go : (v : Verdict) → verdictHere (p .shape) t (length answers - p .written) c width ≡ v
+              → OrderMeets p p′ t new answers newAnswers v → RunOn p p′ journal t new answers newAnswers
+          go (refused r) e w =
               inl
               (record {
                 by = r;
                 left-is =
                     left-begins (length answers) t (under .at-command)
-                    ∙ within-expects-refusal _ _ _ byteHere bytesBehind c width reads r e;
+                    ∙ within-refuses _ _ _ byteHere bytesBehind (rw reads e);
                 refused = w;
               })
-          go (accept a) e w =
+          go (accepted a) e w =
               inr
               (record {
-                next = record { command = c; answer = a; width = width };
+                next = a;
                 left-is =
                     left-begins (length answers) t (under .at-command)
-                    ∙ within-expects-answer _ _ _ byteHere bytesBehind c width reads a e
-                    ∙ ap (andThen (record { command = c; answer = a; width = width })) (sym (left-behind new newAnswers a w));
+                    ∙ within-accepts _ _ _ byteHere bytesBehind (rw reads e)
+                    ∙ ap (andThen a) (sym (left-behind new newAnswers a w));
                 accepted = w;
               })
 
@@ -139,25 +137,32 @@ with-room-is written answers room =
 
 -- What a step into the room behind what is written promises, said of the run.
 module _ (p : Progress) (c : Command) (width : ℕ) (old new answers newRoom : List ℕ) (result : Stepped) (promise : StepPromise (p .shape) c old new (roomBehind (p .written) answers) newRoom result) where
-  -- what is expected with the room that is left
-  abbrev expectedHere : Expected
-  expectedHere = expected (capacitiesOf (p .shape .caps)) (bookIn (p .shape) old) (length answers - p .written) c
+  -- what the paper fixes with the room that is left
+  abbrev fixedHere : Verdict
+  fixedHere = verdictHere (p .shape) old (length answers - p .written) c width
 
   -- the step is promised for the length of what is lent, which is the room that is left
-  step-in-room : StepMeets (p .shape .caps) (after (bookIn (p .shape) old) c) old new (drop (p .written) answers) newRoom result expectedHere
-  step-in-room = rw (room-is (p .written) answers, length-drop (p .written) answers) at promise
+  step-in-room : StepMeets (p .shape .limits) (after (bookIn (p .shape) old) c) old new (drop (p .written) answers) newRoom result fixedHere
+  step-in-room = rw (room-is (p .written) answers, length-drop (p .written) answers) at (promise width)
+
+  -- an accepted command is the one that was read
+  fixed-command : (a : Accepted) → fixedHere ≡ accepted a → (a .command ≡ c) × (a .width ≡ width) × (length (answerBytes (a .answer)) ≤ length answers - p .written)
+  fixed-command a d =
+      let kept = within-kept (length answers - p .written) _ a d in
+      let was = was-accepted (capacitiesOf (p .shape .limits)) (bookIn (p .shape) old) (command c width) a (kept .0) in
+      (cc (was .was-read), cc (was .was-read), kept .1)
 
   -- a written answer fits the room
   pub size-fits : (next : Shape) (size : ℕ) → result ≡ S.Done next size → size ≤ length answers - p .written
-  size-fits next size e = go expectedHere refl step-in-room
+  size-fits next size e = go fixedHere refl step-in-room
     where
-      go : (x : Expected) → expectedHere ≡ x
-          → StepMeets (p .shape .caps) (after (bookIn (p .shape) old) c) old new (drop (p .written) answers) newRoom result x
+      go : (v : Verdict) → fixedHere ≡ v
+          → StepMeets (p .shape .limits) (after (bookIn (p .shape) old) c) old new (drop (p .written) answers) newRoom result v
           → size ≤ length answers - p .written
-      go (refuse r) d w = impossible (cc (w .number))
-      go (accept a) d w =
-          let size-is : size ≡ length (answerBytes a) = cc (w .done) in
-          rw size-is (accepted-fits (capacitiesOf (p .shape .caps)) (bookIn (p .shape) old) (length answers - p .written) c a d)
+      go (refused r) d w = impossible (cc (w .number))
+      go (accepted a) d w =
+          let size-is : size ≡ length (answerBytes (a .answer)) = cc (w .done) in
+          rw size-is (fixed-command a d .2)
 
   -- a command that was answered
   pub order-done : (next : Shape) (size : ℕ) → result ≡ S.Done next size
@@ -176,8 +181,8 @@ module _ (p : Progress) (c : Command) (width : ℕ) (old new answers newRoom : L
       (withRoom (p .written) answers newRoom)
       c
       width
-  unfolding shapeOf writtenBehind bookIn
-  order-done next size e = go expectedHere step-in-room
+  unfolding shapeOf writtenBehind
+  order-done next size e = go fixedHere refl step-in-room
     where
       further : Progress
       further =
@@ -189,34 +194,34 @@ module _ (p : Progress) (c : Command) (width : ℕ) (old new answers newRoom : L
             refusal = 0;
           }
 
-      go : (x : Expected)
-          → StepMeets (p .shape .caps) (after (bookIn (p .shape) old) c) old new (drop (p .written) answers) newRoom result x
-          → OrderMeets p further old new answers (withRoom (p .written) answers newRoom) c width x
-      go (refuse r) w = impossible (cc (w .number))
-      go (accept a) w =
-          let shape-is : next ≡ shapeOf (p .shape .caps) (after (bookIn (p .shape) old) c) = cc (w .done) in
-          let size-is : size ≡ length (answerBytes a) = cc (w .done) in
+      go : (v : Verdict) → fixedHere ≡ v
+          → StepMeets (p .shape .limits) (after (bookIn (p .shape) old) c) old new (drop (p .written) answers) newRoom result v
+          → OrderMeets p further old new answers (withRoom (p .written) answers newRoom) v
+      go (refused r) d w = impossible (cc (w .number))
+      go (accepted a) d w =
+          let shape-is : next ≡ shapeOf (p .shape .limits) (after (bookIn (p .shape) old) c) = cc (w .done) in
+          let size-is : size ≡ length (answerBytes (a .answer)) = cc (w .done) in
           record {
-            same-capacities = ap (λ (x : Shape). x .caps) shape-is;
-            place-is = refl;
+            same-limits = ap (λ (x : Shape). x .limits) shape-is;
+            place-is = ap (λ n. p .place + 1 + n) (sym (fixed-command a d .1));
             commands-are = refl;
             written-is = ap (λ n. p .written + n) size-is;
             not-refused = refl;
             answers-are = with-room-is (p .written) answers newRoom ∙ ap (λ l. take (p .written) answers ++ l) (w .buffer);
-            holds = rw shape-is (w .valid);
-            book-is = rw shape-is (w .book);
+            holds = rw shape-is (w .holds);
+            book-is = rw (shape-is, fixed-command a d .0) (w .book);
             same-beyond = w .same-beyond;
           }
 
   -- a command that was refused
   pub order-refused : (number : ℕ) → result ≡ S.Refused number → (p′ : Progress) → p′ ≡ refusedProgress p number
       → OrderPromise p p′ old new answers (withRoom (p .written) answers newRoom) c width
-  order-refused number e p′ d = go expectedHere step-in-room
+  order-refused number e p′ d = go fixedHere step-in-room
     where
-      go : (x : Expected)
-          → StepMeets (p .shape .caps) (after (bookIn (p .shape) old) c) old new (drop (p .written) answers) newRoom result x
-          → OrderMeets p p′ old new answers (withRoom (p .written) answers newRoom) c width x
-      go (refuse r) w =
+      go : (v : Verdict)
+          → StepMeets (p .shape .limits) (after (bookIn (p .shape) old) c) old new (drop (p .written) answers) newRoom result v
+          → OrderMeets p p′ old new answers (withRoom (p .written) answers newRoom) v
+      go (refused r) w =
           let same : number ≡ refusalNumber r = cc (w .number) in
           record {
             progress-is = d ∙ ap (refusedProgress p) same;
@@ -226,4 +231,4 @@ module _ (p : Progress) (c : Command) (width : ℕ) (old new answers newRoom : L
                 ∙ take-append-drop (p .written) answers;
             same-beyond = w .same-beyond;
           }
-      go (accept a) w = impossible (cc (w .done))
+      go (accepted a) w = impossible (cc (w .done))

@@ -8,7 +8,6 @@ use lib.ListN.{length, drop, length-append}
 use lib.Seq.{drop-drop, take-append-seam, drop-append-seam}
 use Rattle.graph.specs.Network.{never, edgeCount}
 use Rattle.naming.specs.Book.{Book, emptyBook}
-use Rattle.naming.proofs.Listed.{length-tabulate}
 use Rattle.commands.specs.Refusal.{Refusal, refusalNumber}
 use Rattle.commands.specs.Answer.{answerBytes}
 use Rattle.commands.specs.Step.{after}
@@ -17,13 +16,10 @@ use Rattle.commands.specs.Entry.{over}
 use Rattle.commands.proofs.Room.{bytes-append}
 use Rattle.commands.proofs.Table.{number-above-zero}
 use Rattle.commands.proofs.Place.{bookFed, fed-more, fed-none}
-use Rattle.table.specs.declared.words.Capacities as Forest
-use Rattle.forest.specs.declared.Shape.{Shape}
-use Rattle.forest.specs.Valid.{endsOf, networkOf, bookOf}
-use Rattle.forest.specs.Promise.{SameBeyond}
+use Rattle.numbers.specs.declared.Limits.{Limits}
+use Rattle.forest.specs.Promise.{Holds, bookIn, vertices-held, edges-held, SameBeyond, same-beyond-trans}
 use Rattle.journal.specs.declared.run.Progress.{Progress}
-use Rattle.journal.specs.Steps.{bookIn, Holds}
-use Rattle.journal.specs.Runs.{leftOf, Underway, refusedProgress, writtenBehind, RunStops, RunContinues, RunOn}
+use Rattle.journal.specs.Inside.Runs.{leftOf, Underway, refusedProgress, writtenBehind, RunStops, RunContinues, RunOn}
 
 -- A run behind commands that were accepted before.
 unfoldable pub behind : List Accepted → Run → Run
@@ -43,9 +39,9 @@ pub record Ended (whole : Run) (done : List Accepted) (p : Progress) : Type 0 wh
   pub number-is : p .refusal ≡ refusalNumber by
 
 -- How far the run is, from the tables and answers at its start.
-pub record SoFar (caps : Forest.Capacities) (whole : Run) (journal : List ℕ) (p : Progress) (old new oldAnswers newAnswers : List ℕ) : Type 0 where
+pub record SoFar (limits : Limits) (whole : Run) (journal : List ℕ) (p : Progress) (old new oldAnswers newAnswers : List ℕ) : Type 0 where
   pub done : List Accepted
-  pub same-capacities : p .shape .caps ≡ caps
+  pub same-limits : p .shape .limits ≡ limits
   pub place-is : p .place ≡ placeAfter done
   pub commands-are : p .commands ≡ length done
   pub written-is : p .written ≡ length (bytesOfAnswers done)
@@ -53,7 +49,7 @@ pub record SoFar (caps : Forest.Capacities) (whole : Run) (journal : List ℕ) (
   pub spans-are : p .shape .edges ≡ edgeCount (bookFed (emptyBook never) done .network)
   pub answers-are : newAnswers ≡ over (bytesOfAnswers done) oldAnswers
   pub as-long : length newAnswers ≡ length oldAnswers
-  pub same-beyond : SameBeyond caps old new
+  pub same-beyond : SameBeyond limits old new
   pub state : StillOn whole done p journal (length oldAnswers) new ⊎ Ended whole done p
 
 -- what is left behind one more accepted command
@@ -98,25 +94,11 @@ over-more bytes more buffer =
       append-assoc bytes more (drop (length bytes + length more) buffer),
     )
 
--- the words beyond the table's are as before, over two changes
-same-beyond-twice : (caps : Forest.Capacities) {x y z : List ℕ} → SameBeyond caps x y → SameBeyond caps y z → SameBeyond caps x z
-same-beyond-twice caps e d = record { as-long = d .as-long ∙ e .as-long; beyond = d .beyond ∙ e .beyond }
-
--- the counts of the book that a table holds
-vertices-in : (shape : Shape) (t : List ℕ) {b : Book} → bookIn shape t ≡ b → shape .vertices ≡ b .network .vertices
-unfolding bookIn bookOf networkOf
-vertices-in shape t e = ap (λ (b : Book). b .network .vertices) e
-
-edges-in : (shape : Shape) (t : List ℕ) {b : Book} → bookIn shape t ≡ b → shape .edges ≡ edgeCount (b .network)
-unfolding bookIn bookOf networkOf edgeCount
-edges-in shape t e =
-    sym (length-tabulate (shape .edges) (endsOf t (shape .caps))) ∙ ap (λ (b : Book). edgeCount (b .network)) e
-
 -- The run of a journal from the empty network, within a room.
-module _ (caps : Forest.Capacities) (whole : Run) (journal old oldAnswers : List ℕ) where
+module _ (limits : Limits) (whole : Run) (journal old oldAnswers : List ℕ) where
   -- how far the run is
   abbrev pub Far : Progress → List ℕ → List ℕ → Type 0
-  Far p new newAnswers = SoFar caps whole journal p old new oldAnswers newAnswers
+  Far p new newAnswers = SoFar limits whole journal p old new oldAnswers newAnswers
 
   -- one more accepted command
   step-accepted : (p p′ : Progress) (new new′ newAnswers newAnswers′ : List ℕ) (far : Far p new newAnswers)
@@ -126,17 +108,17 @@ module _ (caps : Forest.Capacities) (whole : Run) (journal old oldAnswers : List
   step-accepted p p′ new new′ newAnswers newAnswers′ far on w same =
       record {
         done = far .done ++ w .next ∷ [];
-        same-capacities = w .accepted .same-capacities ∙ far .same-capacities;
+        same-limits = w .accepted .same-limits ∙ far .same-limits;
         place-is = w .accepted .place-is ∙ ap (λ n. n + 1 + w .next .width) (far .place-is) ∙ sym (place-more (far .done) (w .next));
         commands-are = rw (length-append (far .done) (w .next ∷ [])) (omega (arith, w .accepted .commands-are, far .commands-are));
         written-is =
             rw (bytes-more (far .done) (w .next), length-append (bytesOfAnswers (far .done)) (answerBytes (w .next .answer)))
             (omega (arith, w .accepted .written-is, far .written-is));
-        cabinets-are = vertices-in (p′ .shape) new′ book;
-        spans-are = edges-in (p′ .shape) new′ book;
+        cabinets-are = sym (vertices-held (p′ .shape) new′) ∙ ap (λ (b : Book). b .network .vertices) book;
+        spans-are = sym (edges-held (p′ .shape) new′) ∙ ap (λ (b : Book). edgeCount (b .network)) book;
         answers-are = answers;
         as-long = same ∙ far .as-long;
-        same-beyond = same-beyond-twice caps (far .same-beyond) (rw (far .same-capacities) at (w .accepted .same-beyond));
+        same-beyond = same-beyond-trans (far .same-beyond) (rw (far .same-limits) at (w .accepted .same-beyond));
         state =
             inl
             (record {
@@ -174,7 +156,7 @@ module _ (caps : Forest.Capacities) (whole : Run) (journal old oldAnswers : List
       let same = w .refused .progress-is in
       record {
         done = far .done;
-        same-capacities = ap (λ (q : Progress). q .shape .caps) same ∙ far .same-capacities;
+        same-limits = ap (λ (q : Progress). q .shape .limits) same ∙ far .same-limits;
         place-is = ap (λ (q : Progress). q .place) same ∙ far .place-is;
         commands-are = ap (λ (q : Progress). q .commands) same ∙ far .commands-are;
         written-is = ap (λ (q : Progress). q .written) same ∙ far .written-is;
@@ -182,7 +164,7 @@ module _ (caps : Forest.Capacities) (whole : Run) (journal old oldAnswers : List
         spans-are = ap (λ (q : Progress). q .shape .edges) same ∙ far .spans-are;
         answers-are = w .refused .answers-are ∙ far .answers-are;
         as-long = ap length (w .refused .answers-are) ∙ far .as-long;
-        same-beyond = same-beyond-twice caps (far .same-beyond) (rw (far .same-capacities) at (w .refused .same-beyond));
+        same-beyond = same-beyond-trans (far .same-beyond) (rw (far .same-limits) at (w .refused .same-beyond));
         state =
             inr
             (record {

@@ -3,7 +3,7 @@ use mathlib.Core.Bool.{Bool, true, false}
 use mathlib.Core.List.{List, [], _∷_}
 use mathlib.Core.Option.{Option, none, some}
 use mathlib.Core.Path.{_≡_, refl}
-use Prim.Native.Nat.{ℕ, _+_, _<_}
+use Prim.Native.Nat.{ℕ, _<_}
 use mir.Val as Machine
 use Rattle.graph.specs.Groups.{bridge}
 use Rattle.graph.specs.Block.{sharedBlock}
@@ -13,16 +13,17 @@ use Rattle.commands.specs.Command.{addCabinet, districtName, ringName, sharedMe
 use Rattle.commands.specs.Answer.{boolByte, answerBytes}
 use Rattle.commands.specs.Step.{meshAnswer, answer}
 use Rattle.forest.specs.declared.Shape.{Shape}
-use Rattle.forest.specs.declared.query.Shared.{Shared}
-use Rattle.forest.specs.Valid.{bookOf, networkOf}
-use Rattle.forest.specs.Promise.{VertexAdded, sharedName}
+use Rattle.forest.specs.declared.Shared.{Shared}
+use Rattle.forest.specs.declared.VertexGroups.{VertexGroups}
+use Rattle.forest.specs.declared.VertexGroups.the-variants as G
+use Rattle.forest.specs.Promise.{Holds, bookIn, networkIn, vertices-held, same-beyond-refl, oneVertexMore, VertexAdded, vertexNames, sharedName}
 use Rattle.journal.specs.declared.step.Stepped.the-variants as S
-use Rattle.journal.specs.declared.write.Written.{Written}
-use Rattle.journal.specs.declared.write.Written.the-variants as W
-use Rattle.journal.specs.Writes.{Wrote}
-use Rattle.journal.specs.Steps.{oneUnknown, sharedAnswer, bookIn, Holds, StepPromise, answeredOf}
-use Rattle.journal.proofs.StepLaws.{cabinets-held, same-beyond-itself, written-step, no-room-step, answered-step, holds-untouched, holds-one-cabinet-more}
-use Rattle.journal.proofs.StepTests.{cabinet-accepted, district-accepted, ring-accepted, shared-accepted, sole-accepted}
+use Rattle.writing.specs.declared.write.Written.{Written}
+use Rattle.writing.specs.declared.write.Written.the-variants as W
+use Rattle.writing.specs.Inside.Writes.{Wrote, sharedAnswer}
+use Rattle.journal.specs.Inside.Steps.{oneUnknown, asksName, nameCode, StepPromise, answeredOf}
+use Rattle.journal.proofs.StepLaws.{written-step, no-room-step, answered-step, table-untouched, table-with-cabinet}
+use Rattle.journal.proofs.StepTests.{cabinet-accepted, name-accepted, shared-accepted, sole-accepted}
 
 -- a test as a byte
 pub flag-byte : (b : Bool) → Machine.boolByte b ≡ boolByte b
@@ -33,18 +34,17 @@ flag-byte false = refl
 -- 01: the cabinet's number
 cabinet-bytes : (shape : Shape) (t : List ℕ) → 0x81 ∷ twoBytes (shape .vertices) ≡ answerBytes (answer (bookIn shape t) addCabinet)
 unfolding answer answerBytes
-cabinet-bytes shape t = rw (cabinets-held shape t)
+cabinet-bytes shape t = rw (vertices-held shape t)
 
-module _ (shape : Shape) (oldOut newOut : List ℕ) (h : shape .vertices < shape .caps .vertices) where
+module _ (shape : Shape) (oldOut newOut : List ℕ) (h : shape .vertices < shape .limits .vertices) where
   -- it was written, and the cabinet entered
   pub cabinet-step : (old new : List ℕ) (size : ℕ) → Wrote oldOut newOut (W.Bytes size) (0x81 ∷ twoBytes (shape .vertices))
-      → VertexAdded (shape .caps) (shape .vertices) (shape .edges) old new
-      → StepPromise shape addCabinet old new oldOut newOut
-      (S.Done (record { caps = shape .caps; vertices = shape .vertices + 1; edges = shape .edges }) size)
+      → VertexAdded shape old new
+      → StepPromise shape addCabinet old new oldOut newOut (S.Done (oneVertexMore shape) size)
   cabinet-step old new size w a =
       written-step shape addCabinet old new oldOut newOut (cabinet-accepted shape old h) _ size
       (rw (cabinet-bytes shape old) at w)
-      (holds-one-cabinet-more shape old new a)
+      (table-with-cabinet shape old new a)
 
   -- there was no room for it
   pub cabinet-no-room : (t : List ℕ) → Wrote oldOut newOut W.NoRoom (0x81 ∷ twoBytes (shape .vertices))
@@ -52,58 +52,47 @@ module _ (shape : Shape) (oldOut newOut : List ℕ) (h : shape .vertices < shape
   cabinet-no-room t w =
       no-room-step shape addCabinet t t oldOut newOut (cabinet-accepted shape t h)
       (rw (cabinet-bytes shape t) at w)
-      (same-beyond-itself (shape .caps) t)
+      (same-beyond-refl (shape .limits) t)
 
 -- A question whose answer was written, or found no room.
-module _ (shape : Shape) (t oldOut newOut : List ℕ) (w : Written) (valid : Holds shape t) where
-  -- 03: the name of the cabinet's district
-  pub district-step : (x name : ℕ) → x < shape .vertices
-      → name ≡ nameOf (bookOf (shape .caps) (shape .vertices) (shape .edges) t .components) x
-      → Wrote oldOut newOut w (0x83 ∷ twoBytes name)
-      → StepPromise shape (districtName x) t t oldOut newOut (answeredOf shape w)
-  unfolding addition answer answerBytes bookIn
-  district-step x name h e wrote =
-      answered-step shape (districtName x) t t oldOut newOut (district-accepted shape t x h) shape w
+module _ (shape : Shape) (t oldOut newOut : List ℕ) (w : Written) (holds : Holds shape t) where
+  -- 03 and 04: the name of the cabinet's district, and of its ring
+  pub name-step : (groups : VertexGroups) (x name : ℕ) → x < shape .vertices → name ≡ nameOf (vertexNames groups (bookIn shape t)) x
+      → Wrote oldOut newOut w (nameCode groups ∷ twoBytes name)
+      → StepPromise shape (asksName groups x) t t oldOut newOut (answeredOf shape w)
+  unfolding asksName nameCode addition answer answerBytes
+  name-step G.Components x name h e wrote =
+      answered-step shape (districtName x) t t oldOut newOut (name-accepted shape t G.Components x h) shape w
       (rw e at wrote)
-      (holds-untouched shape (districtName x) refl t valid)
-
-  -- 04: the name of its ring
-  pub ring-step : (x name : ℕ) → x < shape .vertices
-      → name ≡ nameOf (bookOf (shape .caps) (shape .vertices) (shape .edges) t .bridgeBlocks) x
-      → Wrote oldOut newOut w (0x84 ∷ twoBytes name)
-      → StepPromise shape (ringName x) t t oldOut newOut (answeredOf shape w)
-  unfolding addition answer answerBytes bookIn
-  ring-step x name h e wrote =
-      answered-step shape (ringName x) t t oldOut newOut (ring-accepted shape t x h) shape w
+      (table-untouched shape (districtName x) refl t holds)
+  name-step G.BridgeBlocks x name h e wrote =
+      answered-step shape (ringName x) t t oldOut newOut (name-accepted shape t G.BridgeBlocks x h) shape w
       (rw e at wrote)
-      (holds-untouched shape (ringName x) refl t valid)
+      (table-untouched shape (ringName x) refl t holds)
 
   shared-bytes : (o : Option ℕ)
-      → answerBytes (sharedAnswer (sharedName (bookOf (shape .caps) (shape .vertices) (shape .edges) t .blocks) o))
-      ≡ answerBytes (meshAnswer (bookIn shape t) o)
-  unfolding sharedAnswer sharedName answerBytes meshAnswer bookIn
+      → answerBytes (sharedAnswer (sharedName (bookIn shape t .blocks) o)) ≡ answerBytes (meshAnswer (bookIn shape t) o)
+  unfolding sharedAnswer answerBytes meshAnswer
   shared-bytes none = refl
   shared-bytes (some s) = refl
 
   -- 05: the name of the mesh that two cabinets share
   pub shared-step : (x y : ℕ) (shared : Shared) → oneUnknown shape x y ≡ false → (x ≡ y → ⊥)
-      → shared ≡ sharedName (bookOf (shape .caps) (shape .vertices) (shape .edges) t .blocks)
-      (sharedBlock (networkOf (shape .caps) (shape .vertices) (shape .edges) t) x y)
+      → shared ≡ sharedName (bookIn shape t .blocks) (sharedBlock (networkIn shape t) x y)
       → Wrote oldOut newOut w (answerBytes (sharedAnswer shared))
       → StepPromise shape (sharedMesh x y) t t oldOut newOut (answeredOf shape w)
-  unfolding addition answer bookIn bookOf
+  unfolding addition answer
   shared-step x y shared e d is wrote =
       answered-step shape (sharedMesh x y) t t oldOut newOut (shared-accepted shape t x y e d) shape w
-      (rw (is, shared-bytes) at wrote)
-      (holds-untouched shape (sharedMesh x y) refl t valid)
+      (rw (is, shared-bytes (sharedBlock (networkIn shape t) x y)) at wrote)
+      (table-untouched shape (sharedMesh x y) refl t holds)
 
   -- 08: whether the span is sole
-  pub sole-step : (s : ℕ) (sole : Bool) → s < shape .edges
-      → sole ≡ bridge (networkOf (shape .caps) (shape .vertices) (shape .edges) t) s
+  pub sole-step : (s : ℕ) (sole : Bool) → s < shape .edges → sole ≡ bridge (networkIn shape t) s
       → Wrote oldOut newOut w (0x88 ∷ boolByte sole ∷ [])
       → StepPromise shape (isSole s) t t oldOut newOut (answeredOf shape w)
-  unfolding addition answer answerBytes bookIn bookOf
+  unfolding addition answer answerBytes
   sole-step s sole h e wrote =
       answered-step shape (isSole s) t t oldOut newOut (sole-accepted shape t s h) shape w
       (rw e at wrote)
-      (holds-untouched shape (isSole s) refl t valid)
+      (table-untouched shape (isSole s) refl t holds)

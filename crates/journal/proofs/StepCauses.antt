@@ -13,20 +13,21 @@ use Rattle.commands.proofs.Cases.{leb-gt}
 use Rattle.commands.specs.Refusal.{cabinetsKnown, spansKnown}
 use Rattle.commands.proofs.Causes.{unknown-cabinet-exactly, unknown-span-exactly, equal-cabinets-exactly, full-exactly, two-districts-exactly}
 use Rattle.forest.specs.declared.Shape.{Shape}
+use Rattle.forest.specs.Promise.{bookIn, vertices-held}
 use Rattle.journal.specs.declared.step.Stepped.the-variants as S
-use Rattle.journal.specs.Steps.{capacitiesOf, oneUnknown, bookIn, StepPromise}
-use Rattle.journal.proofs.StepLaws.{cabinets-held, refused-step}
+use Rattle.journal.specs.Inside.Steps.{capacitiesOf, oneUnknown, StepPromise}
+use Rattle.journal.proofs.StepLaws.{refused-step}
 
 module _ (shape : Shape) (t : List ℕ) where
   -- a cabinet below the number of cabinets is known
   pub cabinet-known : (x : ℕ) → x < shape .vertices → allIn (λ a. ltb a (bookIn shape t .network .vertices)) (x ∷ []) ≡ true
   unfolding allIn
-  cabinet-known x h = rw (cabinets-held shape t, lt-ltb x (shape .vertices) h)
+  cabinet-known x h = rw (vertices-held shape t, lt-ltb x (shape .vertices) h)
 
   -- any other is not
   pub cabinet-unknown : (x : ℕ) → shape .vertices ≤ x → allIn (λ a. ltb a (bookIn shape t .network .vertices)) (x ∷ []) ≡ false
   unfolding allIn
-  cabinet-unknown x h = rw (cabinets-held shape t, ge-ltb x (shape .vertices) h)
+  cabinet-unknown x h = rw (vertices-held shape t, ge-ltb x (shape .vertices) h)
 
   -- the test of two cabinets: none is unknown
   pub both-known : (x y : ℕ) → oneUnknown shape x y ≡ false → (x < shape .vertices) × (y < shape .vertices)
@@ -42,13 +43,13 @@ module _ (shape : Shape) (t : List ℕ) where
   unfolding allIn
   cabinets-known x y e =
       let k = both-known x y e in
-      rw (cabinets-held shape t, lt-ltb x (shape .vertices) (k .0), lt-ltb y (shape .vertices) (k .1))
+      rw (vertices-held shape t, lt-ltb x (shape .vertices) (k .0), lt-ltb y (shape .vertices) (k .1))
 
   -- or one of them is not
   pub cabinets-unknown : (x y : ℕ) → oneUnknown shape x y ≡ true
       → allIn (λ a. ltb a (bookIn shape t .network .vertices)) (x ∷ y ∷ []) ≡ false
   unfolding oneUnknown allIn
-  cabinets-unknown x y e = rw (cabinets-held shape t) (go (or-cases (leb (shape .vertices) x) (leb (shape .vertices) y) e))
+  cabinets-unknown x y e = rw (vertices-held shape t) (go (or-cases (leb (shape .vertices) x) (leb (shape .vertices) y) e))
     where
       go : (leb (shape .vertices) x ≡ true) ⊎ (leb (shape .vertices) y ≡ true)
           → (ltb x (shape .vertices) && (ltb y (shape .vertices) && true)) ≡ false
@@ -61,7 +62,7 @@ module _ (shape : Shape) (c : Command) (t out : List ℕ) where
   pub unknown-cabinet-step : cabinetsKnown (bookIn shape t) c ≡ false → StepPromise shape c t t out out (S.Refused 6)
   unfolding refusalNumber
   unknown-cabinet-step e =
-      refused-step shape c t out unknownCabinet (unknown-cabinet-exactly (capacitiesOf (shape .caps)) (bookIn shape t) c .1 e)
+      refused-step shape c t out unknownCabinet (unknown-cabinet-exactly (capacitiesOf (shape .limits)) (bookIn shape t) c .1 e)
 
   module _ (cabinets : cabinetsKnown (bookIn shape t) c ≡ true) where
     -- refusal 7: an unknown span
@@ -69,7 +70,7 @@ module _ (shape : Shape) (c : Command) (t out : List ℕ) where
     unfolding refusalNumber
     unknown-span-step e =
         refused-step shape c t out unknownSpan
-        (unknown-span-exactly (capacitiesOf (shape .caps)) (bookIn shape t) c .1 (cabinets, e))
+        (unknown-span-exactly (capacitiesOf (shape .limits)) (bookIn shape t) c .1 (cabinets, e))
 
     module _ (spans : spansKnown (bookIn shape t) c ≡ true) where
       -- refusal 8: equal cabinets
@@ -77,20 +78,20 @@ module _ (shape : Shape) (c : Command) (t out : List ℕ) where
       unfolding refusalNumber
       equal-cabinets-step e =
           refused-step shape c t out equalCabinets
-          (equal-cabinets-exactly (capacitiesOf (shape .caps)) (bookIn shape t) c .1 (cabinets, (spans, e)))
+          (equal-cabinets-exactly (capacitiesOf (shape .limits)) (bookIn shape t) c .1 (cabinets, (spans, e)))
 
       module _ (different : hasEqualCabinets c ≡ false) where
         -- refusal 9: full
-        pub full-step : isFull (capacitiesOf (shape .caps)) (bookIn shape t) c ≡ true → StepPromise shape c t t out out (S.Refused 9)
+        pub full-step : isFull (capacitiesOf (shape .limits)) (bookIn shape t) c ≡ true → StepPromise shape c t t out out (S.Refused 9)
         unfolding refusalNumber
         full-step e =
             refused-step shape c t out full
-            (full-exactly (capacitiesOf (shape .caps)) (bookIn shape t) c .1 (cabinets, (spans, (different, e))))
+            (full-exactly (capacitiesOf (shape .limits)) (bookIn shape t) c .1 (cabinets, (spans, (different, e))))
 
         -- refusal 10: two districts
-        pub two-districts-step : isFull (capacitiesOf (shape .caps)) (bookIn shape t) c ≡ false → isAcross (bookIn shape t) c ≡ true
+        pub two-districts-step : isFull (capacitiesOf (shape .limits)) (bookIn shape t) c ≡ false → isAcross (bookIn shape t) c ≡ true
             → StepPromise shape c t t out out (S.Refused 10)
         unfolding refusalNumber
         two-districts-step e f =
             refused-step shape c t out twoDistricts
-            (two-districts-exactly (capacitiesOf (shape .caps)) (bookIn shape t) c .1 (cabinets, (spans, (different, (e, f)))))
+            (two-districts-exactly (capacitiesOf (shape .limits)) (bookIn shape t) c .1 (cabinets, (spans, (different, (e, f)))))

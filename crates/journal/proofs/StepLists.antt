@@ -6,33 +6,29 @@ use mathlib.Core.Path.{_≡_, refl, sym, _∙_, ap}
 use Prim.Native.Nat.{ℕ, _<_}
 use native.Mathlib.Omega.{arith}
 use lib.ListN.{length}
-use Rattle.graph.specs.Below.{tabulate}
+use Rattle.graph.specs.Below.{tabulate, length-tabulate}
 use Rattle.graph.specs.Lists.{allIn}
 use Rattle.graph.specs.Network.{Network}
 use Rattle.graph.specs.Groups.{component}
 use Rattle.graph.specs.Between.{bridgesBetween, cutsBetween}
 use Rattle.graph.proofs.Truth.{true-or-false, not-of-true, not-of-false}
 use Rattle.naming.specs.Book.{neither}
-use Rattle.naming.proofs.Listed.{length-tabulate}
 use Rattle.commands.specs.Bytes.{twoBytes, twoBytesEach}
 use Rattle.commands.specs.Command.{Command, soleSpans, cutCabinets, addition}
-use Rattle.commands.specs.Refusal.{cabinetsOf, spansOf, hasEqualCabinets, isFull, isAcross}
+use Rattle.commands.specs.Refusal.{cabinetsOf, spansOf, hasEqualCabinets, isFull, isAcross, cabinetsKnown, spansKnown}
 use Rattle.commands.specs.Answer.{answerBytes}
 use Rattle.commands.specs.Step.{answer}
-use Rattle.commands.specs.Refusal.{cabinetsKnown, spansKnown}
-use Rattle.table.specs.declared.words.Capacities.{Capacities}
 use Rattle.forest.specs.declared.Shape.{Shape}
-use Rattle.forest.specs.Valid.{bookOf, networkOf}
-use Rattle.forest.specs.Promise.{WrittenDown, bridgesWritten, cutsWritten}
+use Rattle.forest.specs.Promise.{bookIn, networkIn, ListWritten}
 use Rattle.journal.specs.declared.step.Stepped.the-variants as S
-use Rattle.journal.specs.declared.write.Answered.{Answered}
-use Rattle.journal.specs.declared.write.Answered.the-variants as L
-use Rattle.journal.specs.declared.write.Written.{Written}
-use Rattle.journal.specs.Writes.{Wrote, itemAt}
-use Rattle.journal.specs.Steps.{capacitiesOf, oneUnknown, pairRefusal, bookIn, Holds, StepPromise, answeredOf}
-use Rattle.journal.proofs.StepLaws.{answered-step, holds-written-down}
+use Rattle.writing.specs.declared.write.Answered.{Answered}
+use Rattle.writing.specs.declared.write.Answered.the-variants as L
+use Rattle.writing.specs.declared.write.Written.{Written}
+use Rattle.writing.specs.Inside.Writes.{Wrote, itemAt}
+use Rattle.journal.specs.Inside.Steps.{capacitiesOf, oneUnknown, pairRefusal, StepPromise, answeredOf}
+use Rattle.journal.proofs.StepLaws.{answered-step, table-with-list}
 use Rattle.journal.proofs.StepCauses.{both-known, cabinets-known, cabinets-unknown, unknown-cabinet-step, two-districts-step}
-use Rattle.journal.proofs.StepTests.{Accepted, accepted}
+use Rattle.journal.proofs.StepTests.{Passes, passes}
 
 -- The question that this list answers.
 unfoldable pub asks : Answered → ℕ → ℕ → Command
@@ -45,7 +41,7 @@ pub record PairQuestion (c : Command) (x y : ℕ) : Type 0 where
   pub of-spans : spansOf c ≡ []
   pub may-be-equal : hasEqualCabinets c ≡ false
   pub adds-nothing : addition c ≡ neither
-  pub never-full : (shape : Shape) (t : List ℕ) → isFull (capacitiesOf (shape .caps)) (bookIn shape t) c ≡ false
+  pub never-full : (shape : Shape) (t : List ℕ) → isFull (capacitiesOf (shape .limits)) (bookIn shape t) c ≡ false
   pub across : (shape : Shape) (t : List ℕ) → isAcross (bookIn shape t) c ≡ not (component (bookIn shape t .network) x y)
 
 -- both questions are of this kind
@@ -70,7 +66,7 @@ asks-pair L.Cabinets x y =
       across = λ shape t. refl;
     }
 
-module _ (shape : Shape) (t : List ℕ) (valid : Holds shape t) (list : Answered) (x y : ℕ) where
+module _ (shape : Shape) (t : List ℕ) (list : Answered) (x y : ℕ) where
   -- the two cabinets are in one district
   together : Bool
   together = component (bookIn shape t .network) x y
@@ -112,12 +108,12 @@ module _ (shape : Shape) (t : List ℕ) (valid : Holds shape t) (list : Answered
   pub record PairAccepted : Type 0 where
     pub first-known : x < shape .vertices
     pub second-known : y < shape .vertices
-    pub one-district : component (networkOf (shape .caps) (shape .vertices) (shape .edges) t) x y ≡ true
-    pub not-refused : Accepted shape t (asks list x y)
+    pub one-district : component (networkIn shape t) x y ≡ true
+    pub not-refused : Passes shape t (asks list x y)
 
   -- refusal 0 is none
   pub pair-accepted : pairRefusal shape t x y ≡ 0 → PairAccepted
-  unfolding pairRefusal together bookIn bookOf
+  unfolding pairRefusal together
   pair-accepted q = go (true-or-false (oneUnknown shape x y)) (true-or-false together)
     where
       p : PairQuestion (asks list x y) x y
@@ -135,50 +131,38 @@ module _ (shape : Shape) (t : List ℕ) (valid : Holds shape t) (list : Answered
             first-known = both-known shape t x y u .0;
             second-known = both-known shape t x y u .1;
             one-district = s;
-            not-refused = accepted shape t (asks list x y) (question-known u) question-of-no-span (p .may-be-equal) (p .never-full shape t)
+            not-refused = passes shape t (asks list x y) (question-known u) question-of-no-span (p .may-be-equal) (p .never-full shape t)
                 (p .across shape t ∙ not-of-true s);
           }
 
--- The list that a question asks for, as it is written down, and the code of its answer.
+-- The list that a question asks for, and the code of its answer.
 unfoldable pub listBetween : Answered → Network → ℕ → ℕ → List ℕ
 listBetween L.Spans g x y = bridgesBetween g x y
 listBetween L.Cabinets g x y = cutsBetween g x y
-
-unfoldable pub listWritten : Answered → Capacities → ℕ → List ℕ → List ℕ
-listWritten L.Spans caps k t = bridgesWritten caps k t
-listWritten L.Cabinets caps k t = cutsWritten caps k t
 
 unfoldable pub listCode : Answered → ℕ
 listCode L.Spans = 0x86
 listCode L.Cabinets = 0x87
 
--- what is written down is what the items are read from
-list-items : (list : Answered) (caps : Capacities) (k : ℕ) (t : List ℕ) → listWritten list caps k t ≡ tabulate k (itemAt list caps t)
-unfolding listWritten bridgesWritten cutsWritten itemAt
-list-items L.Spans caps k t = refl
-list-items L.Cabinets caps k t = refl
-
 -- the answer's bytes are the code, the list's length and the list
 list-answer : (list : Answered) (shape : Shape) (t : List ℕ) (x y : ℕ)
     → answerBytes (answer (bookIn shape t) (asks list x y))
-    ≡ (let l = listBetween list (networkOf (shape .caps) (shape .vertices) (shape .edges) t) x y in
+    ≡ (let l = listBetween list (networkIn shape t) x y in
     listCode list ∷ twoBytes (length l) ++ twoBytesEach l)
-unfolding listBetween listCode asks answer answerBytes bookIn bookOf
+unfolding listBetween listCode asks answer answerBytes
 list-answer L.Spans shape t x y = refl
 list-answer L.Cabinets shape t x y = refl
 
 -- an accepted question, with its list written down and then written into the answer
 pub list-step : (list : Answered) (shape : Shape) (old new oldOut newOut : List ℕ) (x y count : ℕ) (w : Written)
-    → Accepted shape old (asks list x y)
-    → WrittenDown (shape .caps) (shape .vertices) (shape .edges) old new (listWritten list (shape .caps) count new)
-    (listBetween list (networkOf (shape .caps) (shape .vertices) (shape .edges) old) x y)
-    → Wrote oldOut newOut w
-    (listCode list ∷ twoBytes count ++ twoBytesEach (tabulate count (itemAt list (shape .caps) new)))
+    → Passes shape old (asks list x y)
+    → ListWritten shape old new (itemAt list shape new) count (listBetween list (networkIn shape old) x y)
+    → Wrote oldOut newOut w (listCode list ∷ twoBytes count ++ twoBytesEach (tabulate count (itemAt list shape new)))
     → StepPromise shape (asks list x y) old new oldOut newOut (answeredOf shape w)
 list-step list shape old new oldOut newOut x y count w a d wrote =
-    let l = listBetween list (networkOf (shape .caps) (shape .vertices) (shape .edges) old) x y in
-    let items : tabulate count (itemAt list (shape .caps) new) ≡ l = sym (list-items list (shape .caps) count new) ∙ d .is-list in
-    let counted : count ≡ length l = sym (length-tabulate count (itemAt list (shape .caps) new)) ∙ ap length items in
+    let l = listBetween list (networkIn shape old) x y in
+    let items : tabulate count (itemAt list shape new) ≡ l = d .is-list in
+    let counted : count ≡ length l = sym (length-tabulate count (itemAt list shape new)) ∙ ap length items in
     answered-step shape (asks list x y) old new oldOut newOut a shape w
     (rw (list-answer list shape old x y) (rw (items, counted) at wrote))
-    (holds-written-down shape (asks list x y) (asks-pair list x y .adds-nothing) old new _ l d)
+    (table-with-list shape (asks list x y) (asks-pair list x y .adds-nothing) old new _ count l d)

@@ -1,6 +1,2 @@
-pub mod Reads
-pub mod Writes
-pub mod Told
-pub mod Steps
-pub mod Runs
+pub mod Inside
 pub mod Promise

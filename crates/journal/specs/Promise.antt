@@ -1,23 +1,12 @@
 -- What the entry promises, in every case and with nothing required of its caller.
-use mathlib.Core.List.{List, [], _∷_}
+use mathlib.Core.List.{List}
 use mathlib.Core.Path.{_≡_}
-use Prim.Native.Nat.{ℕ, _≤_, _<_}
+use Prim.Native.Nat.{ℕ}
 use lib.ListN.{length}
 use Rattle.commands.specs.Refusal.{Capacities}
 use Rattle.commands.specs.Entry.{Buffers, wholeRun, acceptedCommands}
 use Rattle.commands.specs.Register.{registerRule, register}
 use Rattle.commands.specs.WholeRun.{WholeRunClaim}
-use Rattle.journal.specs.declared.run.Progress.{Progress}
-
--- The six numbers of the report, of a run that has come so far.
-unfoldable pub sixNumbers : Progress → List ℕ
-sixNumbers p = p .refusal ∷ p .place ∷ p .commands ∷ p .written ∷ p .shape .vertices ∷ p .shape .edges ∷ []
-
--- The report has room for them, and each fits a number of 32 bits.
-pub record Reportable (p : Progress) (report : List ℕ) : Type 0 where
-  pub long : 6 ≤ length report
-  pub place-fits : p .place < 4294967296
-  pub written-fits : p .written < 4294967296
 
 -- For these capacities, this journal and these buffers: the returned number and every buffer are those of the register, and the
 -- whole-run claim holds of the accepted commands and of the answer buffer as it stands on return.

@@ -3,25 +3,27 @@ ghost use mathlib.Core.Bool.{not};
 ghost use mathlib.Core.Path.{_≡_};
 ghost use Rattle.commands.specs.Refusal.{firstThatApplies};
 ghost use Rattle.commands.specs.Entry.{workNeeded, goodCapacities, startLines, numberOf, over};
-ghost use Rattle.journal.specs.Promise.{sixNumbers, Reportable, RegisterPromise};
+ghost use Rattle.journal.specs.Inside.Steps.{capacitiesOf};
+ghost use Rattle.journal.specs.Inside.Runs.{sixNumbers, Reportable};
+ghost use Rattle.journal.specs.Promise.{RegisterPromise};
 
-pub mod notice;
-pub mod read;
-pub mod reader;
 pub mod run;
 pub mod step;
-pub mod write;
 
 use crate::run::Progress;
 use crate::run::run;
 use forest::clear;
-use table::words::Capacities;
+use forest::words_needed;
+use numbers::Limits;
 
-// The words of the working table that a run uses: W.
-fn work_needed(c: u32, s: u32) -> usize
-    ensures { λ r. ⌜ r ≡ workNeeded (record { cabinets = c; spans = s }) ⌝ }
+// How many words a run uses beside those that the table takes.
+const SPARE: usize = 64;
+
+// W, the words of the working table that a run uses.
+fn work_needed(limits: Limits) -> usize
+    ensures { λ r. ⌜ r ≡ workNeeded (capacitiesOf limits) ⌝ }
 {
-    24 * (c as usize) + 8 * (s as usize) + 64
+    words_needed(limits) + SPARE
 }
 
 // A capacity is out of its range.
@@ -47,7 +49,11 @@ fn start_refusal(c: u32, s: u32, journal: usize, work: usize, report: usize) -> 
     if bad_capacity(c, s) {
         return 1;
     }
-    if work < work_needed(c, s) {
+    let limits = Limits {
+        vertices: c as u16,
+        edges: s as u16,
+    };
+    if work < work_needed(limits) {
         return 2;
     }
     if report < 6 {
@@ -89,12 +95,12 @@ pub extern "C" fn register_run(
     if refusal != 0 {
         return refusal;
     }
-    let caps = Capacities {
+    let limits = Limits {
         vertices: c as u16,
         edges: s as u16,
     };
-    let p = run(journal, work, answers, caps);
-    clear(work, work_needed(c, s));
+    let p = run(journal, work, answers, limits);
+    clear(work, work_needed(limits));
     fill_report(report, p);
     p.refusal
 }

@@ -1,23 +1,22 @@
 // The run of a journal, from an empty network to its end or to the command that is refused.
 ghost use mathlib.Core.Bool.{_&&_};
 ghost use mathlib.Core.Path.{_≡_};
-ghost use Prim.Native.Nat.{_+_, _*_, _≤_};
+ghost use Prim.Native.Nat.{_≤_};
 ghost use lib.Dec.{eqb, ltb};
 ghost use lib.ListN.{length};
-ghost use Rattle.graph.specs.Network.{never};
-ghost use Rattle.naming.specs.Book.{emptyBook};
-ghost use Rattle.commands.specs.Run.{runWithin};
-ghost use Rattle.journal.specs.Reads.{meaning};
-ghost use Rattle.journal.specs.Steps.{capacitiesOf};
-ghost use Rattle.journal.specs.Runs.{refusedProgress, Underway, Ready, OrderPromise, RunOn, RunPromise};
-use crate::read::Order;
-use crate::read::Taken;
-use crate::reader::place_after;
-use crate::reader::taken_at;
+ghost use Rattle.forest.specs.Promise.{wordsNeeded};
+ghost use Rattle.reading.specs.Inside.Reads.{meaning};
+ghost use Rattle.journal.specs.Inside.Steps.{capacitiesOf};
+ghost use Rattle.journal.specs.Inside.Runs.{wholeOf, refusedProgress, Underway, Ready, OrderPromise, RunOn, RunPromise};
 use crate::step::Stepped;
 use crate::step::step;
 use forest::Shape;
-use table::words::Capacities;
+use forest::begin;
+use numbers::Limits;
+use reading::read::Order;
+use reading::read::Taken;
+use reading::reader::place_after;
+use reading::reader::taken_at;
 
 // How far a run has come: the network's size, the place of the next command, the commands accepted, the bytes of their answers, and the
 // number of the refusal that ended the run, 0 if none did.
@@ -96,21 +95,13 @@ fn goes_on(p: Progress, end: usize) -> bool
 }
 
 // The whole run.
-pub(crate) fn run(
-    journal: &[u8],
-    work: &mut [u32],
-    answers: &mut [u8],
-    caps: Capacities,
-) -> Progress
-    requires { ⌜ (caps .vertices ≤ 4096) × (caps .edges ≤ 8192) × (caps .vertices * 24 + caps .edges * 8 ≤ length (now work)) × (length (now journal) ≤ 65536) ⌝ }
-    ensures { λ r. ⌜ RunPromise caps (runWithin (length (now (answers .entry))) (capacitiesOf caps) (emptyBook never) (now (journal .entry))) r (now (work .entry)) (now (work .exit)) (now (answers .entry)) (now (answers .exit)) ⌝ }
+pub(crate) fn run(journal: &[u8], work: &mut [u32], answers: &mut [u8], limits: Limits) -> Progress
+    requires { ⌜ (limits .vertices ≤ 4096) × (limits .edges ≤ 8192) × (wordsNeeded limits ≤ length (now work)) × (length (now journal) ≤ 65536) ⌝ }
+    ensures { λ r. ⌜ RunPromise limits (wholeOf (capacitiesOf limits) (now (journal .entry)) (now (answers .entry))) r (now (work .entry)) (now (work .exit)) (now (answers .entry)) (now (answers .exit)) ⌝ }
 {
+    let empty = begin(work, limits);
     let mut p = Progress {
-        shape: Shape {
-            caps: caps,
-            vertices: 0,
-            edges: 0,
-        },
+        shape: empty,
         place: 0,
         commands: 0,
         written: 0,

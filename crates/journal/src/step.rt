@@ -1,31 +1,29 @@
 // One command: the refusal that it meets first, or its answer.
 ghost use mathlib.Core.Path.{_≡_};
-ghost use Rattle.commands.specs.Answer.{answerBytes};
-ghost use Rattle.commands.specs.Command.{addCabinet, addSpan, districtName, ringName, sharedMesh, soleSpans, cutCabinets, isSole};
-ghost use Rattle.journal.specs.Reads.{meaning};
-ghost use Rattle.journal.specs.Steps.{Holds, StepPromise, answeredOf, oneUnknown, pairRefusal, sharedAnswer};
-ghost use Rattle.journal.specs.Writes.{Wrote};
-use crate::notice::write_span;
-use crate::read::Order;
-use crate::write::Answered;
-use crate::write::Written;
-use crate::write::write_choice;
-use crate::write::write_field;
-use crate::write::write_flag;
-use crate::write::write_list;
+ghost use Rattle.commands.specs.Command.{addCabinet, addSpan, sharedMesh, soleSpans, cutCabinets, isSole};
+ghost use Rattle.forest.specs.Promise.{Holds};
+ghost use Rattle.reading.specs.Inside.Reads.{meaning};
+ghost use Rattle.journal.specs.Inside.Steps.{StepPromise, answeredOf, oneUnknown, pairRefusal, asksName, nameCode};
 use forest::Shape;
+use forest::VertexGroups;
 use forest::add_edge;
 use forest::add_vertex;
-use forest::bridge_block_of;
 use forest::bridges_between;
-use forest::component_of;
 use forest::cuts_between;
+use forest::group_of;
 use forest::is_bridge;
-use forest::query::Shared;
 use forest::same_component;
 use forest::shared_block;
-use table::words::Edge;
-use table::words::Vertex;
+use numbers::Edge;
+use numbers::Vertex;
+use reading::read::Order;
+use writing::notice::write_span;
+use writing::write::Answered;
+use writing::write::Written;
+use writing::write::write_cabinet;
+use writing::write::write_flag;
+use writing::write::write_list;
+use writing::write::write_shared;
 
 // What a command gives: the network's new size and the bytes of its answer, or the number of the refusal that it meets.
 pub enum Stepped {
@@ -58,17 +56,17 @@ fn add_cabinet(t: &mut [u32], out: &mut [u8], shape: Shape) -> Stepped
     requires { ⌜ Holds shape (now t) ⌝ }
     ensures { λ r. ⌜ StepPromise shape addCabinet (now (t .entry)) (now (t .exit)) (now (out .entry)) (now (out .exit)) r ⌝ }
 {
-    let caps = shape.caps;
-    if (caps.vertices as u32) <= shape.vertices {
+    let limits = shape.limits;
+    if (limits.vertices as u32) <= shape.vertices {
         return Stepped::Refused(9);
     }
-    let w = write_field(out, 0x81, shape.vertices);
+    let w = write_cabinet(out, 0x81, Vertex(shape.vertices));
     match w {
         Written::Bytes(size) => {
             add_vertex(t, shape);
             Stepped::Done(
                 Shape {
-                    caps: caps,
+                    limits: limits,
                     vertices: shape.vertices + 1,
                     edges: shape.edges,
                 },
@@ -84,62 +82,48 @@ fn add_span(t: &mut [u32], out: &mut [u8], shape: Shape, a: Vertex, b: Vertex) -
     requires { ⌜ Holds shape (now t) ⌝ }
     ensures { λ r. ⌜ StepPromise shape (addSpan (a .0) (b .0)) (now (t .entry)) (now (t .exit)) (now (out .entry)) (now (out .exit)) r ⌝ }
 {
-    let caps = shape.caps;
+    let limits = shape.limits;
     if one_unknown(shape, a, b) {
         return Stepped::Refused(6);
     }
     if a.0 == b.0 {
         return Stepped::Refused(8);
     }
-    if (caps.edges as u32) <= shape.edges {
+    if (limits.edges as u32) <= shape.edges {
         return Stepped::Refused(9);
     }
     let growth = add_edge(t, shape, a, b);
-    let w = write_span(t, caps, out, shape.edges, growth);
-    answered(
-        Shape {
-            caps: caps,
-            vertices: shape.vertices,
-            edges: shape.edges + 1,
-        },
-        w,
-    )
+    let grown = Shape {
+        limits: limits,
+        vertices: shape.vertices,
+        edges: shape.edges + 1,
+    };
+    let w = write_span(t, grown, out, Edge(shape.edges), growth);
+    answered(grown, w)
 }
 
-// 03: the name of a cabinet's district.
-fn district_name(t: &[u32], out: &mut [u8], shape: Shape, a: Vertex) -> Stepped
+// The code of the answer to 03 or 04.
+fn name_code(groups: VertexGroups) -> u8
+    ensures { λ r. ⌜ r ≡ nameCode groups ⌝ }
+{
+    match groups {
+        VertexGroups::Components => 0x83,
+        VertexGroups::BridgeBlocks => 0x84,
+    }
+}
+
+// 03 and 04: the name of a cabinet's district, and of its ring.
+fn group_name(t: &[u32], out: &mut [u8], shape: Shape, groups: VertexGroups, a: Vertex) -> Stepped
     requires { ⌜ Holds shape (now t) ⌝ }
-    ensures { λ r. ⌜ StepPromise shape (districtName (a .0)) (now (t .entry)) (now (t .entry)) (now (out .entry)) (now (out .exit)) r ⌝ }
+    ensures { λ r. ⌜ StepPromise shape (asksName groups (a .0)) (now (t .entry)) (now (t .entry)) (now (out .entry)) (now (out .exit)) r ⌝ }
 {
     if shape.vertices <= a.0 {
         return Stepped::Refused(6);
     }
-    let group = component_of(t, shape, a);
+    let group = group_of(t, shape, groups, a);
     let name = group.name;
-    answered(shape, write_field(out, 0x83, name.0))
-}
-
-// 04: the name of a cabinet's ring.
-fn ring_name(t: &[u32], out: &mut [u8], shape: Shape, a: Vertex) -> Stepped
-    requires { ⌜ Holds shape (now t) ⌝ }
-    ensures { λ r. ⌜ StepPromise shape (ringName (a .0)) (now (t .entry)) (now (t .entry)) (now (out .entry)) (now (out .exit)) r ⌝ }
-{
-    if shape.vertices <= a.0 {
-        return Stepped::Refused(6);
-    }
-    let group = bridge_block_of(t, shape, a);
-    let name = group.name;
-    answered(shape, write_field(out, 0x84, name.0))
-}
-
-// The answer to 05.
-fn write_shared(out: &mut [u8], shared: Shared) -> Written
-    ensures { λ r. ⌜ Wrote (now (out .entry)) (now (out .exit)) r (answerBytes (sharedAnswer shared)) ⌝ }
-{
-    match shared {
-        Shared::Block(name) => write_choice(out, 0x85, 1, name.0),
-        Shared::Nothing => write_choice(out, 0x85, 0, 0),
-    }
+    let code = name_code(groups);
+    answered(shape, write_cabinet(out, code, name))
 }
 
 // 05: the mesh that two cabinets share.
@@ -177,7 +161,6 @@ fn sole_spans(t: &mut [u32], out: &mut [u8], shape: Shape, a: Vertex, b: Vertex)
     requires { ⌜ Holds shape (now t) ⌝ }
     ensures { λ r. ⌜ StepPromise shape (soleSpans (a .0) (b .0)) (now (t .entry)) (now (t .exit)) (now (out .entry)) (now (out .exit)) r ⌝ }
 {
-    let caps = shape.caps;
     let refusal = pair_refusal(t, shape, a, b);
     if refusal != 0 {
         return Stepped::Refused(refusal);
@@ -185,7 +168,7 @@ fn sole_spans(t: &mut [u32], out: &mut [u8], shape: Shape, a: Vertex, b: Vertex)
     let count = bridges_between(t, shape, a, b);
     answered(
         shape,
-        write_list(t, caps, out, 0x86, Answered::Spans, count),
+        write_list(t, shape, out, 0x86, Answered::Spans, count),
     )
 }
 
@@ -194,7 +177,6 @@ fn cut_cabinets(t: &mut [u32], out: &mut [u8], shape: Shape, a: Vertex, b: Verte
     requires { ⌜ Holds shape (now t) ⌝ }
     ensures { λ r. ⌜ StepPromise shape (cutCabinets (a .0) (b .0)) (now (t .entry)) (now (t .exit)) (now (out .entry)) (now (out .exit)) r ⌝ }
 {
-    let caps = shape.caps;
     let refusal = pair_refusal(t, shape, a, b);
     if refusal != 0 {
         return Stepped::Refused(refusal);
@@ -202,7 +184,7 @@ fn cut_cabinets(t: &mut [u32], out: &mut [u8], shape: Shape, a: Vertex, b: Verte
     let count = cuts_between(t, shape, a, b);
     answered(
         shape,
-        write_list(t, caps, out, 0x87, Answered::Cabinets, count),
+        write_list(t, shape, out, 0x87, Answered::Cabinets, count),
     )
 }
 
@@ -226,8 +208,8 @@ pub(crate) fn step(t: &mut [u32], out: &mut [u8], shape: Shape, order: Order) ->
     match order {
         Order::AddCabinet => add_cabinet(t, out, shape),
         Order::AddSpan(a, b) => add_span(t, out, shape, a, b),
-        Order::DistrictName(a) => district_name(t, out, shape, a),
-        Order::RingName(a) => ring_name(t, out, shape, a),
+        Order::DistrictName(a) => group_name(t, out, shape, VertexGroups::Components, a),
+        Order::RingName(a) => group_name(t, out, shape, VertexGroups::BridgeBlocks, a),
         Order::SharedMesh(a, b) => shared_mesh(t, out, shape, a, b),
         Order::SoleSpans(a, b) => sole_spans(t, out, shape, a, b),
         Order::CutCabinets(a, b) => cut_cabinets(t, out, shape, a, b),

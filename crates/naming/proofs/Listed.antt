@@ -6,9 +6,9 @@ use mathlib.Core.Path.{_≡_, refl, _∙_, ap}
 use Prim.Native.Nat.{ℕ, zero, suc, _<_}
 use native.Mathlib.Nat.{not-suc-le-zero}
 use native.Mathlib.Omega.{arith}
-use lib.ListN.{length, getD, length-append, List·getD-append}
+use lib.ListN.{getD, List·getD-append}
 use lib.Seq.{getD-at}
-use Rattle.graph.specs.Below.{listed, tabulate}
+use Rattle.graph.specs.Below.{listed, tabulate, length-tabulate}
 use Rattle.graph.proofs.Truth.{true-or-false}
 use Rattle.graph.proofs.Below.{below-or-last}
 
@@ -49,12 +49,6 @@ listed-passes (suc n) p i m = go (listed-passes n p i) (true-or-false (p n))
     go f (inl e) = cases f e (List·Memᴰ·append-cases (listed n p) (rw e at m))
     go f (inr e) = up (f (rw e at m))
 
--- the list of the values below n has n entries
-pub length-tabulate {ℓ} : {A : Type ℓ} (n : ℕ) (f : ℕ → A) → length (tabulate n f) ≡ n
-unfolding tabulate
-length-tabulate zero f = refl
-length-tabulate (suc n) f = rw (length-append (tabulate n f) (f n ∷ []), length-tabulate n f) (omega arith)
-
 -- entry i is the value at i
 pub getD-tabulate {ℓ} : {A : Type ℓ} (n : ℕ) (f : ℕ → A) (d : A) (i : ℕ) → i < n → getD (tabulate n f) i d ≡ f i
 unfolding tabulate
@@ -70,6 +64,12 @@ pub tabulate-same {ℓ} : {A : Type ℓ} (n : ℕ) (f g : ℕ → A) → ((i : �
 unfolding tabulate
 tabulate-same zero f g h = refl
 tabulate-same (suc n) f g h = rw (tabulate-same n f g (λ i l. h i (omega arith)), h n (omega arith))
+
+-- the first value, and behind it those that follow
+pub tabulate-first {ℓ} : {A : Type ℓ} (n : ℕ) (f : ℕ → A) → tabulate (suc n) f ≡ f 0 ∷ tabulate n (λ i. f (suc i))
+unfolding tabulate
+tabulate-first zero f = refl
+tabulate-first (suc n) f = ap (λ l. l ++ f (suc n) ∷ []) (tabulate-first n f)
 
 -- a function of each value
 pub map-tabulate {ℓ κ} : {A : Type ℓ} {B : Type κ} (h : A → B) (n : ℕ) (f : ℕ → A) → map h (tabulate n f) ≡ tabulate n (λ x. h (f x))

@@ -1,7 +1,7 @@
 -- Laws of the whole part of the logarithm to base 2.
 use mathlib.Core.Bool.{Bool, true, false, cond}
 use mathlib.Core.Logic.{_⊎_, inl, inr}
-use mathlib.Core.Path.{_≡_, refl, sym, subst}
+use mathlib.Core.Path.{_≡_, sym, subst}
 use Prim.Native.Nat.{ℕ, zero, suc, _^_, _≤_, _<_}
 use native.Mathlib.Omega.{arith}
 use lib.Dec.{leb}
@@ -45,12 +45,3 @@ log2-most k i h = greatest-most (λ j. leb (2 ^ j) k) k i (omega (arith, below-p
 pub log2-power : (k : ℕ) → 1 ≤ k → 2 ^ wholeLog2 k ≤ k
 unfolding wholeLog2
 log2-power k h = leb-le (2 ^ wholeLog2 k) k (greatest-passes (λ i. leb (2 ^ i) k) k (le-leb 1 k h))
-
-log2-zero : wholeLog2 0 ≡ 0
-unfolding wholeLog2 greatest
-log2-zero = refl
-
--- a greater number has no smaller logarithm
-pub log2-monotone : (j k : ℕ) → j ≤ k → wholeLog2 j ≤ wholeLog2 k
-log2-monotone zero k h = rw log2-zero (omega arith)
-log2-monotone (suc j) k h = log2-most k (wholeLog2 (suc j)) (omega (arith, log2-power (suc j) (omega arith)))

@@ -5,11 +5,11 @@ use mathlib.Core.Logic.{_⊎_, inl, inr}
 use mathlib.Core.Path.{_≡_, ap, ap₂}
 use Prim.Native.Nat.{ℕ, _<_}
 use lib.ListN.{length}
-use Rattle.graph.specs.Below.{listed}
+use Rattle.graph.specs.Below.{listed, length-tabulate}
 use Rattle.graph.proofs.Truth.{false-of-not, true-of-not-false, and-both, not-both}
 use Rattle.graph.proofs.Below.{any-below, any-below-same, listed-same}
 use Rattle.naming.specs.Rename.{Grouping, size, nameOf, Candidate, bestOf, candidate, holdsSeveral, bestName, rename}
-use Rattle.naming.proofs.Listed.{passes-listed, listed-passes, length-tabulate, getD-tabulate, tabulate-same}
+use Rattle.naming.proofs.Listed.{passes-listed, listed-passes, getD-tabulate, tabulate-same}
 use Rattle.naming.proofs.Equivalent.{size-agree}
 use Rattle.naming.proofs.Best.{BestOf, best-name, best-same, best-of-list, best-of-agree}
 

@@ -1,6 +1,6 @@
 -- Names of groups of any item, and what becomes of them when groups become one.
 use mathlib.Core.Bool.{Bool, not, cond, _&&_, _||_}
-use mathlib.Core.List.{List, [], _∷_}
+use mathlib.Core.List.{List, [], _∷_, map}
 use Prim.Native.Nat.{ℕ}
 use lib.Dec.{eqb, leb, ltb}
 use lib.ListN.{length, getD}
@@ -21,6 +21,15 @@ nameOf names x = getD names x 0
 -- The items that had a name before and have another now, rising.
 unfoldable pub changedItems : List ℕ → List ℕ → List ℕ
 changedItems old new = listed (length old) (λ x. not (eqb (nameOf old x) (nameOf new x)))
+
+-- An item with its new name.
+pub record Change : Type 0 where
+  pub item : ℕ
+  pub name : ℕ
+
+-- The items that had a name before and have another now, rising, each with its new name.
+unfoldable pub changesBetween : List ℕ → List ℕ → List Change
+changesBetween old new = map (λ x. record { item = x; name = nameOf new x }) (changedItems old new)
 
 -- What a group brings to a join: its size and its name.
 pub record Candidate : Type 0 where

@@ -1,19 +1,18 @@
 // Runs the operations of the working table on a few networks, and prints what they tell.
 ghost use Prim.Native.Nat.{_<_};
-ghost use Rattle.forest.specs.Valid.{Valid};
-use forest::Group;
+ghost use Rattle.forest.specs.Promise.{Holds};
+use forest::Growth;
 use forest::Shape;
-use forest::query::Shared;
-use forest::tree::Growth;
-use table::words::Capacities;
-use table::words::Edge;
-use table::words::Vertex;
+use forest::Shared;
+use forest::VertexGroups;
+use numbers::Edge;
+use numbers::Limits;
+use numbers::Vertex;
 
 // The lists that an operation leaves in the table: the items that changed their name, and what lies between two vertices.
 enum List {
-    Components,
-    BridgeBlocks,
-    Blocks,
+    VertexChanges(VertexGroups),
+    EdgeChanges,
     Bridges,
     Cuts,
 }
@@ -24,61 +23,59 @@ fn say(label: &[u8], x: u32) {
     io::print_decimal(1, x as u64);
 }
 
-// Prints a label, the name of a group and its size.
-fn say_group(label: &[u8], g: Group) {
-    let name = g.name;
-    say(label, name.0);
-    say(b" of ", g.size);
-}
-
 // Prints item i of a list.
-fn say_item(t: &[u32], caps: Capacities, list: List, i: u32) {
+fn say_item(t: &[u32], shape: Shape, list: List, i: u32) {
     let x = match list {
-        List::Components => forest::component_change(t, caps, i).0,
-        List::BridgeBlocks => forest::bridge_block_change(t, caps, i).0,
-        List::Blocks => forest::block_change(t, caps, i).0,
-        List::Bridges => forest::bridge_at(t, caps, i).0,
-        List::Cuts => forest::cut_at(t, caps, i).0,
+        List::VertexChanges(groups) => forest::vertex_change_at(t, shape, groups, i).item.0,
+        List::EdgeChanges => forest::edge_change_at(t, shape, i).item.0,
+        List::Bridges => forest::bridge_at(t, shape, i).0,
+        List::Cuts => forest::cut_at(t, shape, i).0,
     };
     say(b" ", x);
 }
 
-fn say_items(t: &[u32], caps: Capacities, list: List, count: u32) {
+fn say_items(t: &[u32], shape: Shape, list: List, count: u32) {
     let mut i: u32 = 0;
     while i < count {
-        say_item(t, caps, list, i);
+        say_item(t, shape, list, i);
         i += 1;
     }
 }
 
 // Prints a list in a line: a label, how many items there are, and the items.
-fn say_list(label: &[u8], t: &[u32], caps: Capacities, list: List, count: u32) {
+fn say_list(label: &[u8], t: &[u32], shape: Shape, list: List, count: u32) {
     say(label, count);
     io::write_all(1, b":");
-    say_items(t, caps, list, count);
+    say_items(t, shape, list, count);
     io::write_all(1, b"\n");
 }
 
-// Prints the block of an edge that was added, and the items of each kind that changed their name.
-fn say_growth(t: &[u32], shape: Shape, g: Growth) {
-    let caps = shape.caps;
+// Prints an edge that was added, its block, and the items of each kind that changed their name. The shape is the one with the edge.
+fn say_growth(t: &[u32], shape: Shape, s: Edge, g: Growth) {
+    let components = List::VertexChanges(VertexGroups::Components);
+    let bridge_blocks = List::VertexChanges(VertexGroups::BridgeBlocks);
     let block = g.block;
-    let vertices = g.bridge_blocks;
-    say(b"added edge ", shape.edges);
+    say(b"added edge ", s.0);
     say(b", block ", block.0);
     io::write_all(1, b"; changed\n");
-    say_list(b"  components ", t, caps, List::Components, g.components);
-    say_list(b"  bridge-blocks ", t, caps, List::BridgeBlocks, vertices);
-    say_list(b"  blocks ", t, caps, List::Blocks, g.blocks);
+    say_list(b"  components ", t, shape, components, g.components);
+    say_list(
+        b"  bridge-blocks ",
+        t,
+        shape,
+        bridge_blocks,
+        g.bridge_blocks,
+    );
+    say_list(b"  blocks ", t, shape, List::EdgeChanges, g.blocks);
 }
 
 // Adds vertices until there is no room for more.
 fn fill(t: &mut [u32], empty: Shape) -> Shape
-    requires { ⌜ Valid (empty .caps) (empty .vertices) (empty .edges) (now t) ⌝ }
-    ensures { λ r. ⌜ Valid (r .caps) (r .vertices) (r .edges) (now (t .exit)) ⌝ }
+    requires { ⌜ Holds empty (now t) ⌝ }
+    ensures { λ r. ⌜ Holds r (now (t .exit)) ⌝ }
 {
     let mut shape = empty;
-    while shape.vertices < shape.caps.vertices as u32 {
+    while shape.vertices < shape.limits.vertices as u32 {
         forest::add_vertex(t, shape);
         shape.vertices += 1;
     }
@@ -86,86 +83,96 @@ fn fill(t: &mut [u32], empty: Shape) -> Shape
 }
 
 // Adds an edge, where there is room and its ends are two vertices; prints what it changed.
-fn grow(t: &mut [u32], shape: Shape, a: u32, b: u32) -> Shape
-    requires { ⌜ Valid (shape .caps) (shape .vertices) (shape .edges) (now t) ⌝ }
-    ensures { λ r. ⌜ Valid (r .caps) (r .vertices) (r .edges) (now (t .exit)) ⌝ }
+fn grow(t: &mut [u32], shape: Shape, a: Vertex, b: Vertex) -> Shape
+    requires { ⌜ Holds shape (now t) ⌝ }
+    ensures { λ r. ⌜ Holds r (now (t .exit)) ⌝ }
 {
     let mut grown = shape;
-    let most = shape.caps.edges as u32;
-    if shape.edges < most && a < shape.vertices && b < shape.vertices && a != b {
-        let g = forest::add_edge(t, shape, Vertex(a), Vertex(b));
-        say_growth(t, shape, g);
+    let most = shape.limits.edges as u32;
+    if shape.edges < most && a.0 < shape.vertices && b.0 < shape.vertices && a.0 != b.0 {
+        let g = forest::add_edge(t, shape, a, b);
         grown.edges += 1;
+        say_growth(t, grown, Edge(shape.edges), g);
     }
     grown
 }
 
 // Adds edges, each given by its two ends.
 fn grow_all(t: &mut [u32], apart: Shape, ends: &[u32]) -> Shape
-    requires { ⌜ Valid (apart .caps) (apart .vertices) (apart .edges) (now t) ⌝ }
-    ensures { λ r. ⌜ Valid (r .caps) (r .vertices) (r .edges) (now (t .exit)) ⌝ }
+    requires { ⌜ Holds apart (now t) ⌝ }
+    ensures { λ r. ⌜ Holds r (now (t .exit)) ⌝ }
 {
     let mut shape = apart;
     let mut i: usize = 0;
     while i < ends.len() / 2 {
-        shape = grow(t, shape, ends[i * 2], ends[i * 2 + 1]);
+        let a = ends[i * 2];
+        let b = ends[i * 2 + 1];
+        shape = grow(t, shape, Vertex(a), Vertex(b));
         i += 1;
     }
     shape
 }
 
-// Prints the names of a vertex, and the sizes of its groups.
-fn say_vertex(t: &[u32], shape: Shape, x: u32)
-    requires { ⌜ Valid (shape .caps) (shape .vertices) (shape .edges) (now t) × (x < shape .vertices) ⌝ }
+// Prints a label, and the name and the size of a vertex's group.
+fn say_group(label: &[u8], t: &[u32], shape: Shape, groups: VertexGroups, x: Vertex)
+    requires { ⌜ Holds shape (now t) × (x .0 < shape .vertices) ⌝ }
 {
-    let bridge_block = forest::bridge_block_of(t, shape, Vertex(x));
-    say(b"vertex ", x);
-    say_group(b": component ", forest::component_of(t, shape, Vertex(x)));
-    say_group(b", bridge-block ", bridge_block);
+    let g = forest::group_of(t, shape, groups, x);
+    let name = g.name;
+    say(label, name.0);
+    say(b" of ", g.size);
+}
+
+// Prints the names of a vertex, and the sizes of its groups.
+fn say_vertex(t: &[u32], shape: Shape, x: Vertex)
+    requires { ⌜ Holds shape (now t) × (x .0 < shape .vertices) ⌝ }
+{
+    say(b"vertex ", x.0);
+    say_group(b": component ", t, shape, VertexGroups::Components, x);
+    say_group(b", bridge-block ", t, shape, VertexGroups::BridgeBlocks, x);
     io::write_all(1, b"\n");
 }
 
 fn say_vertices(t: &[u32], shape: Shape)
-    requires { ⌜ Valid (shape .caps) (shape .vertices) (shape .edges) (now t) ⌝ }
+    requires { ⌜ Holds shape (now t) ⌝ }
 {
     let mut x: u32 = 0;
     while x < shape.vertices {
-        say_vertex(t, shape, x);
+        say_vertex(t, shape, Vertex(x));
         x += 1;
     }
 }
 
 // Prints the block of an edge, and whether it is a bridge.
-fn say_edge(t: &[u32], shape: Shape, s: u32)
-    requires { ⌜ Valid (shape .caps) (shape .vertices) (shape .edges) (now t) × (s < shape .edges) ⌝ }
+fn say_edge(t: &[u32], shape: Shape, s: Edge)
+    requires { ⌜ Holds shape (now t) × (s .0 < shape .edges) ⌝ }
 {
-    let caps = shape.caps;
-    say(b"edge ", s);
-    say(b": block ", forest::block_name(t, caps, Edge(s)).0);
-    if forest::is_bridge(t, shape, Edge(s)) {
+    say(b"edge ", s.0);
+    say(b": block ", forest::block_name(t, shape, s).0);
+    if forest::is_bridge(t, shape, s) {
         io::write_all(1, b", bridge");
     }
     io::write_all(1, b"\n");
 }
 
 fn say_edges(t: &[u32], shape: Shape)
-    requires { ⌜ Valid (shape .caps) (shape .vertices) (shape .edges) (now t) ⌝ }
+    requires { ⌜ Holds shape (now t) ⌝ }
 {
     let mut s: u32 = 0;
     while s < shape.edges {
-        say_edge(t, shape, s);
+        say_edge(t, shape, Edge(s));
         s += 1;
     }
 }
 
 // Prints the block that two vertices share, where they differ.
-fn say_shared(t: &[u32], shape: Shape, a: u32, b: u32)
-    requires { ⌜ Valid (shape .caps) (shape .vertices) (shape .edges) (now t) × (a < shape .vertices) × (b < shape .vertices) ⌝ }
+fn say_shared(t: &[u32], shape: Shape, a: Vertex, b: Vertex)
+    requires { ⌜ Holds shape (now t) × (a .0 < shape .vertices) × (b .0 < shape .vertices) ⌝ }
 {
-    if a == b {
+    if a.0 == b.0 {
         return;
     }
-    let shared = forest::shared_block(t, shape, Vertex(a), Vertex(b));
+    let shared = forest::shared_block(t, shape, a, b);
     if let Shared::Block(name) = shared {
         say(b"shared block ", name.0);
     } else {
@@ -175,22 +182,21 @@ fn say_shared(t: &[u32], shape: Shape, a: u32, b: u32)
 }
 
 // Prints the bridges and the cut vertices between two vertices, where they share a component.
-fn say_between(t: &mut [u32], shape: Shape, a: u32, b: u32)
-    requires { ⌜ Valid (shape .caps) (shape .vertices) (shape .edges) (now t) × (a < shape .vertices) × (b < shape .vertices) ⌝ }
+fn say_between(t: &mut [u32], shape: Shape, a: Vertex, b: Vertex)
+    requires { ⌜ Holds shape (now t) × (a .0 < shape .vertices) × (b .0 < shape .vertices) ⌝ }
 {
-    let caps = shape.caps;
-    if !forest::same_component(t, shape, Vertex(a), Vertex(b)) {
+    if !forest::same_component(t, shape, a, b) {
         return;
     }
-    let bridges = forest::bridges_between(t, shape, Vertex(a), Vertex(b));
-    say_list(b"bridges ", t, caps, List::Bridges, bridges);
-    let cuts = forest::cuts_between(t, shape, Vertex(a), Vertex(b));
-    say_list(b"cut vertices ", t, caps, List::Cuts, cuts);
+    let bridges = forest::bridges_between(t, shape, a, b);
+    say_list(b"bridges ", t, shape, List::Bridges, bridges);
+    let cuts = forest::cuts_between(t, shape, a, b);
+    say_list(b"cut vertices ", t, shape, List::Cuts, cuts);
 }
 
 // Prints all that the table tells of its vertices and edges, and of the first and the last vertex.
 fn tell(t: &mut [u32], shape: Shape)
-    requires { ⌜ Valid (shape .caps) (shape .vertices) (shape .edges) (now t) ⌝ }
+    requires { ⌜ Holds shape (now t) ⌝ }
 {
     say_vertices(t, shape);
     say_edges(t, shape);
@@ -200,27 +206,24 @@ fn tell(t: &mut [u32], shape: Shape)
     let last = shape.vertices - 1;
     say(b"from vertex 0 to vertex ", last);
     io::write_all(1, b"\n");
-    say_shared(t, shape, 0, last);
-    say_between(t, shape, 0, last);
+    say_shared(t, shape, Vertex(0), Vertex(last));
+    say_between(t, shape, Vertex(0), Vertex(last));
 }
 
-// A network of as many vertices as there is room for, and the edges with these ends: makes it in a table, and prints what it tells.
+// A network of as many vertices as there is room for, and the edges with these ends: makes it in a table, where a table of 256 words is
+// enough, and prints what it tells.
 fn show(title: &[u8], vertices: u16, edges: u16, ends: &[u32]) {
-    let mut words = [0u32; 256];
-    let t: &mut [u32] = &mut words;
-    if 256 < (vertices as u32) * 24 + (edges as u32) * 8 {
-        return;
-    }
-    io::write_all(1, title);
-    let caps = Capacities {
+    let limits = Limits {
         vertices: vertices,
         edges: edges,
     };
-    let empty = Shape {
-        caps: caps,
-        vertices: 0,
-        edges: 0,
-    };
+    let mut words = [0u32; 256];
+    let t: &mut [u32] = &mut words;
+    if 4096 < vertices || 8192 < edges || 256 < forest::words_needed(limits) {
+        return;
+    }
+    io::write_all(1, title);
+    let empty = forest::begin(t, limits);
     let apart = fill(t, empty);
     let whole = grow_all(t, apart, ends);
     tell(t, whole);

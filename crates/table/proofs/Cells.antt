@@ -6,9 +6,9 @@ use native.Mathlib.Omega.{arith}
 use lib.Arith.{digits-lt, digits-div}
 use lib.ListN.{length, getD, length-set}
 use lib.Seq.{getD-set-same, getD-set-other}
-use Rattle.table.specs.declared.words.Capacities.{Capacities}
+use Rattle.numbers.specs.declared.Limits.{Limits}
 use Rattle.table.specs.declared.words.Area.{Area}
-use Rattle.table.specs.Layout.{place, cell, put, vertexArea, bridgeBlockArea, edgeArea}
+use Rattle.table.specs.Inside.Layout.{place, cell, put, vertexArea, bridgeBlockArea, edgeArea}
 
 -- The table has the first k columns of the area.
 abbrev pub HasColumns : List ℕ → Area → ℕ → Type 0
@@ -79,33 +79,33 @@ getD-put-outside t area k c x v p h l o = getD-put-other t area c x v p (λ e. o
     below e = omega (arith, place-below area k c x h l)
 
 -- the columns of the vertices end where those of the edges begin
-apart : (caps : Capacities) (c x d s : ℕ) → c < 24 → x < caps .vertices → place (vertexArea caps) c x < place (edgeArea caps) d s
-apart caps c x d s h l =
-    omega (arith, place-below (vertexArea caps) 24 c x h l, place-from (edgeArea caps) d s)
+apart : (limits : Limits) (c x d s : ℕ) → c < 24 → x < limits .vertices → place (vertexArea limits) c x < place (edgeArea limits) d s
+apart limits c x d s h l =
+    omega (arith, place-below (vertexArea limits) 24 c x h l, place-from (edgeArea limits) d s)
 
 -- stores among the words of vertices leave those of edges, and the other way round
-pub cell-edge-after-vertex : (caps : Capacities) (t : List ℕ) (c x v d s : ℕ) → c < 24 → x < caps .vertices
-    → cell (put t (vertexArea caps) c x v) (edgeArea caps) d s ≡ cell t (edgeArea caps) d s
+pub cell-edge-after-vertex : (limits : Limits) (t : List ℕ) (c x v d s : ℕ) → c < 24 → x < limits .vertices
+    → cell (put t (vertexArea limits) c x v) (edgeArea limits) d s ≡ cell t (edgeArea limits) d s
 unfolding cell
-cell-edge-after-vertex caps t c x v d s h l =
-    getD-put-other t (vertexArea caps) c x v (place (edgeArea caps) d s) (λ e. omega (arith, apart caps c x d s h l))
+cell-edge-after-vertex limits t c x v d s h l =
+    getD-put-other t (vertexArea limits) c x v (place (edgeArea limits) d s) (λ e. omega (arith, apart limits c x d s h l))
 
-pub cell-vertex-after-edge : (caps : Capacities) (t : List ℕ) (d s v c x : ℕ) → c < 24 → x < caps .vertices
-    → cell (put t (edgeArea caps) d s v) (vertexArea caps) c x ≡ cell t (vertexArea caps) c x
+pub cell-vertex-after-edge : (limits : Limits) (t : List ℕ) (d s v c x : ℕ) → c < 24 → x < limits .vertices
+    → cell (put t (edgeArea limits) d s v) (vertexArea limits) c x ≡ cell t (vertexArea limits) c x
 unfolding cell
-cell-vertex-after-edge caps t d s v c x h l =
-    getD-put-other t (edgeArea caps) d s v (place (vertexArea caps) c x) (λ e. omega (arith, apart caps c x d s h l))
+cell-vertex-after-edge limits t d s v c x h l =
+    getD-put-other t (edgeArea limits) d s v (place (vertexArea limits) c x) (λ e. omega (arith, apart limits c x d s h l))
 
 -- the columns of bridge-blocks are columns 4 to 7 of the vertices
-bridge-block-place : (caps : Capacities) (c x : ℕ) → place (bridgeBlockArea caps) c x ≡ place (vertexArea caps) (4 + c) x
+bridge-block-place : (limits : Limits) (c x : ℕ) → place (bridgeBlockArea limits) c x ≡ place (vertexArea limits) (4 + c) x
 unfolding place
-bridge-block-place caps c x = omega arith
+bridge-block-place limits c x = omega arith
 
-pub cell-bridge-block : (caps : Capacities) (t : List ℕ) (c x : ℕ) → cell t (bridgeBlockArea caps) c x ≡ cell t (vertexArea caps) (4 + c) x
+pub cell-bridge-block : (limits : Limits) (t : List ℕ) (c x : ℕ) → cell t (bridgeBlockArea limits) c x ≡ cell t (vertexArea limits) (4 + c) x
 unfolding cell
-cell-bridge-block caps t c x = rw (bridge-block-place caps c x)
+cell-bridge-block limits t c x = rw (bridge-block-place limits c x)
 
-pub put-bridge-block : (caps : Capacities) (t : List ℕ) (c x v : ℕ)
-    → put t (bridgeBlockArea caps) c x v ≡ put t (vertexArea caps) (4 + c) x v
+pub put-bridge-block : (limits : Limits) (t : List ℕ) (c x v : ℕ)
+    → put t (bridgeBlockArea limits) c x v ≡ put t (vertexArea limits) (4 + c) x v
 unfolding put
-put-bridge-block caps t c x v = rw (bridge-block-place caps c x)
+put-bridge-block limits t c x v = rw (bridge-block-place limits c x)

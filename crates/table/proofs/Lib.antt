@@ -1,6 +1,6 @@
 pub mod Cells
-pub mod Fits
 pub mod Halves
+pub mod KindNames
 pub mod MergeAbsorb
 pub mod MergeAbsorbed
 pub mod MergeBest

@@ -1,5 +1,5 @@
 -- Absorbing the groups of listed items: the winner's size becomes that of all of them, theirs 0, and the pass holds their items.
-use mathlib.Core.Bool.{Bool, true, false, not, cond, _&&_, _||_}
+use mathlib.Core.Bool.{Bool, true, false, not, cond, _&&_, _||_, or-false, or-true, or-assoc}
 use mathlib.Core.List.{List}
 use mathlib.Core.Logic.{_⊎_, inl, inr}
 use mathlib.Core.Path.{_≡_, refl, sym, _∙_, ap}
@@ -12,16 +12,14 @@ use Rattle.graph.proofs.Truth.{true-or-false, not-both, or-cases, or-left, or-r
 use Rattle.graph.proofs.Below.{count-same}
 use Rattle.naming.specs.Rename.{Grouping, size}
 use Rattle.naming.proofs.Count.{count-at-most}
-use Rattle.naming.proofs.Naming.{group-by-name}
 use Rattle.table.specs.declared.words.Area.{Area}
 use Rattle.table.specs.declared.merge.Pass.{Pass}
-use Rattle.table.specs.Layout.{cell, put}
-use Rattle.table.specs.Merge.{nameIn, sizeIn, rangeIn, leastOf, greatestOf, widened}
-use Rattle.table.specs.Merge.{absorbTable, absorbPass}
-use Rattle.table.specs.KindValid.{namesIn, KindValid}
+use Rattle.table.specs.Inside.Layout.{cell, put}
+use Rattle.table.specs.Inside.Merge.{nameIn, sizeIn, rangeIn, leastOf, greatestOf, widened, absorbTable, absorbPass}
+use Rattle.table.specs.Inside.KindValid.{KindValid}
 use Rattle.table.proofs.Cells.{HasColumns, length-put, cell-put-same, cell-put-other-column, cell-put-other-item}
 use Rattle.table.proofs.MergeKept.{Kept, kept-trans, kept-put, kept-columns}
-use Rattle.table.proofs.MergeBest.{name-in-list}
+use Rattle.table.proofs.KindNames.{name-known, same-group}
 
 -- two tests that never both pass below n count together what either counts
 count-either : (n : ℕ) (p q : ℕ → Bool) → ((i : ℕ) → i < n → p i ≡ true → q i ≡ true → ⊥)
@@ -38,19 +36,6 @@ count-either (suc n) p q apart =
     step true false f c d e h = omega arith
     step false true f c d e h = omega arith
     step false false f c d e h = h
-
--- a test that fails adds nothing, one that passes settles it, and bracketing does not matter
-pub or-false : (a : Bool) → (a || false) ≡ a
-or-false true = refl
-or-false false = refl
-
-or-true : (a : Bool) → (a || true) ≡ true
-or-true true = refl
-or-true false = refl
-
-pub or-assoc : (a b c : Bool) → ((a || b) || c) ≡ (a || (b || c))
-or-assoc true b c = refl
-or-assoc false b c = refl
 
 -- Item x is in a group that is absorbed: in a merged group, and not in the winner's.
 abbrev pub loses : (ℕ → Bool) → List ℕ → Area → ℕ → ℕ → Bool
@@ -104,20 +89,8 @@ module _ (t₀ : List ℕ) (area : Area) (n : ℕ) (columns : HasColumns t₀ ar
   abbrev wins : ℕ → Bool
   wins x = eqb (nameIn t₀ area x) w
 
-  -- a name is below n
-  pub name-below : (x : ℕ) → x < n → name x < n
-  name-below x h = rw (name-in-list t₀ area n x h) at (valid .named .name-below x h)
-
   name-within : (x : ℕ) → x < n → name x < area .size
-  name-within x h = omega (arith, name-below x h)
-
-  -- items share a group exactly if they share a name
-  pub grouped : (x y : ℕ) → x < n → y < n → before x y ≡ eqb (name x) (name y)
-  grouped x y h k =
-      rw
-      (name-in-list t₀ area n x h, name-in-list t₀ area n y k)
-      at
-      (group-by-name n before (namesIn t₀ area n) (valid .named) x y h k)
+  name-within x h = omega (arith, name-known valid x h)
 
   module _ (merged : ℕ → Bool) (t : List ℕ) (p : Pass) (s : Absorbing t₀ area n before w merged t p) (i : ℕ) (h : i < n) where
     abbrev more : ℕ → Bool
@@ -128,7 +101,7 @@ module _ (t₀ : List ℕ) (area : Area) (n : ℕ) (columns : HasColumns t₀ ar
       where
         go : (merged x ≡ true) ⊎ (before i x ≡ true) → more y ≡ true
         go (inl m) = or-left (s .whole x y k l e m) (before i y)
-        go (inr b) = or-right (merged y) (grouped i y h l ∙ (rw e at (sym (grouped i x h k) ∙ b)))
+        go (inr b) = or-right (merged y) (same-group valid i y h l ∙ (rw e at (sym (same-group valid i x h k) ∙ b)))
 
     -- the winner's own group: nothing changes
     absorb-winner : name i ≡ w → Absorbing t₀ area n before w more t p
@@ -146,7 +119,7 @@ module _ (t₀ : List ℕ) (area : Area) (n : ℕ) (columns : HasColumns t₀ ar
         }
       where
         same : (x : ℕ) → x < n → before i x ≡ wins x
-        same x k = grouped i x h k ∙ (rw e (eqb-swap w (name x)))
+        same x k = same-group valid i x h k ∙ (rw e (eqb-swap w (name x)))
 
         twice : (a m : Bool) → (a || m) ≡ (a || (m || a))
         twice true m = refl
@@ -171,7 +144,7 @@ module _ (t₀ : List ℕ) (area : Area) (n : ℕ) (columns : HasColumns t₀ ar
       wide = omega arith
 
       shares : (x : ℕ) → x < n → before i x ≡ true → name i ≡ name x
-      shares x k b = eqb-eq (name i) (name x) (sym (grouped i x h k) ∙ b)
+      shares x k b = eqb-eq (name i) (name x) (sym (same-group valid i x h k) ∙ b)
 
       -- a group that was absorbed before brings 0, another its size
       sum-is : sum ≡ count n (λ x. wins x || more x)
@@ -257,7 +230,7 @@ module _ (t₀ : List ℕ) (area : Area) (n : ℕ) (columns : HasColumns t₀ ar
                   differ
                   (name x)
                   (λ e. eqb-ne (name x) w d (sym e))
-                  (eqb-ne (name i) (name x) (sym (grouped i x h k) ∙ b))
+                  (eqb-ne (name i) (name x) (sym (same-group valid i x h k) ∙ b))
                   ∙ s .others x k d)
 
           -- an item of an absorbed group was in one before, or is in the one absorbed now

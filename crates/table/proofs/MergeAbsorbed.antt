@@ -1,5 +1,5 @@
 -- What absorbing all groups of a listing leaves: the winner's size, the sizes of the others, and the pass.
-use mathlib.Core.Bool.{Bool, false, _||_, false≢true}
+use mathlib.Core.Bool.{Bool, false, _||_, false≢true, or-false, or-assoc}
 use mathlib.Core.List.{List, List·Memᴰ, List·Memᴰ·head, List·Memᴰ·tail}
 use mathlib.Core.Path.{_≡_, refl, sym, _∙_, ap, subst, subst₂, fun-ext}
 use Prim.Native.Nat.{ℕ, zero, suc, _+_, _≤_, _<_}
@@ -12,11 +12,12 @@ use Rattle.naming.proofs.Merge.{inMerged}
 use Rattle.table.specs.declared.words.Area.{Area}
 use Rattle.table.specs.declared.merge.Listing.{Listing}
 use Rattle.table.specs.declared.merge.Pass.{Pass}
-use Rattle.table.specs.Merge.{nameIn, sizeIn, itemOf, itemsFrom, absorbTable, absorbPass, Absorbed, absorbFrom, noPass, absorbListed}
-use Rattle.table.specs.KindValid.{KindValid}
+use Rattle.table.specs.Inside.Merge.{nameIn, sizeIn, itemOf, itemsFrom, absorbTable, absorbPass, Absorbed, absorbFrom, noPass, absorbListed}
+use Rattle.table.specs.Inside.KindValid.{KindValid}
 use Rattle.table.proofs.Cells.{HasColumns}
 use Rattle.table.proofs.MergeKept.{ListedOutside, kept-refl, kept-item}
-use Rattle.table.proofs.MergeAbsorb.{Absorbing, absorb-one, grouped, or-false, or-assoc}
+use Rattle.table.proofs.MergeAbsorb.{Absorbing, absorb-one}
+use Rattle.table.proofs.KindNames.{same-group}
 
 -- Over a valid table t₀, with the winner w.
 module _ (t₀ : List ℕ) (area : Area) (n : ℕ) (columns : HasColumns t₀ area 4) (fits : n ≤ area .size) (small : n < 65536)
@@ -86,7 +87,7 @@ module _ (t₀ : List ℕ) (area : Area) (n : ℕ) (columns : HasColumns t₀ ar
 
       own : (x : ℕ) → x < n → before w x ≡ (eqb (nameIn t₀ area x) w || false)
       own x h =
-          grouped t₀ area n columns fits small before valid w known w x known h
+          same-group valid w x known h
           ∙ (rw (self, or-false (eqb (nameIn t₀ area x) w)) (eqb-swap w (nameIn t₀ area x)))
 
   -- the groups of all listed items are absorbed

@@ -8,23 +8,13 @@ use native.Mathlib.Omega.{arith}
 use lib.Dec.{eqb, leb, ltb}
 use lib.ListN.{length}
 use Rattle.graph.proofs.Truth.{true-or-false, eq-eqb, ne-eqb, ltb-lt, ltb-ge}
-use Rattle.naming.specs.Rename.{Grouping, size, nameOf, Candidate, better, bestOf, candidate}
-use Rattle.naming.proofs.Listed.{length-tabulate, getD-tabulate}
+use Rattle.naming.specs.Rename.{Grouping, size, Candidate, better, bestOf, candidate}
 use Rattle.naming.proofs.Best.{Better, AtMost, Outdone, better-is, at-most-refl, best-of-lists, best-of-agree}
 use Rattle.table.specs.declared.words.Area.{Area}
 use Rattle.table.specs.declared.merge.Listing.{Listing}
-use Rattle.table.specs.Merge.{nameIn, sizeIn, itemOf, itemsFrom, betterName, bestOver, bestListed}
-use Rattle.table.specs.KindValid.{namesIn, KindValid}
-
--- the name of an item in the list of names
-pub name-in-list : (t : List ℕ) (area : Area) (n x : ℕ) → x < n → nameOf (namesIn t area n) x ≡ nameIn t area x
-unfolding nameOf namesIn
-name-in-list t area n x h = getD-tabulate n (nameIn t area) 0 x h
-
--- there are n names
-pub length-names : (t : List ℕ) (area : Area) (n : ℕ) → length (namesIn t area n) ≡ n
-unfolding namesIn
-length-names t area n = length-tabulate n (nameIn t area)
+use Rattle.table.specs.Inside.Merge.{nameIn, sizeIn, itemOf, itemsFrom, betterName, bestOver, bestListed}
+use Rattle.table.specs.Inside.KindValid.{namesIn, KindValid}
+use Rattle.table.proofs.KindNames.{name-in-list, length-names}
 
 -- What the table says of an item's group.
 abbrev standing : List ℕ → Area → ℕ → Candidate

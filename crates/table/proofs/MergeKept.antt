@@ -5,8 +5,8 @@ use Prim.Native.Nat.{ℕ, _+_, _*_, _≤_, _<_}
 use lib.ListN.{length, getD}
 use Rattle.table.specs.declared.words.Area.{Area}
 use Rattle.table.specs.declared.merge.Listing.{Listing}
-use Rattle.table.specs.Layout.{place, cell, put}
-use Rattle.table.specs.Merge.{itemOf}
+use Rattle.table.specs.Inside.Layout.{place, cell, put}
+use Rattle.table.specs.Inside.Merge.{itemOf}
 use Rattle.table.proofs.Cells.{HasColumns, length-put, getD-put-outside}
 
 -- Place p is not in the first four columns of the area.

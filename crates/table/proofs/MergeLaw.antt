@@ -7,24 +7,25 @@ use Prim.Native.Nat.{ℕ, _≤_, _<_}
 use lib.Dec.{eqb}
 use lib.ListN.{length, getD}
 use lib.Seq.{ext-getD}
-use Rattle.graph.specs.Below.{count, listed, tabulate}
+use Rattle.graph.specs.Below.{count, listed, tabulate, length-tabulate}
 use Rattle.graph.proofs.Truth.{true-or-false, false-of-not, not-both, bool-ext, or-left, or-right, and-left, and-right, and-both, eqb-eq, eqb-same}
 use Rattle.graph.proofs.Below.{count-same, listed-same}
 use Rattle.naming.specs.Rename.{Grouping, size, nameOf, candidate, bestOf, rename}
 use Rattle.naming.proofs.Equivalent.{Equivalent}
-use Rattle.naming.proofs.Listed.{length-tabulate, getD-tabulate, tabulate-same}
+use Rattle.naming.proofs.Listed.{getD-tabulate, tabulate-same}
 use Rattle.naming.proofs.Best.{BestOf, best-name, best-of-list}
 use Rattle.naming.proofs.Rename.{length-rename, rename-agree}
 use Rattle.naming.proofs.Naming.{Naming, naming-agree, names-after-rename, name-of-name}
 use Rattle.naming.proofs.Merge.{inMerged, holder, held, Merges, merge-best, merge-stays}
 use Rattle.table.specs.declared.words.Area.{Area}
 use Rattle.table.specs.declared.merge.Listing.{Listing}
-use Rattle.table.specs.Layout.{cell}
-use Rattle.table.specs.Merge.{nameIn, sizeIn, rangeIn, leastOf, greatestOf, itemsFrom, bestListed, mergeListed}
-use Rattle.table.specs.KindValid.{namesIn, KindValid}
+use Rattle.table.specs.Inside.Layout.{cell}
+use Rattle.table.specs.Inside.Merge.{nameIn, sizeIn, rangeIn, leastOf, greatestOf, itemsFrom, bestListed, mergeListed}
+use Rattle.table.specs.Inside.KindValid.{namesIn, KindValid}
 use Rattle.table.proofs.Cells.{HasColumns}
 use Rattle.table.proofs.MergeKept.{Kept, ListedOutside}
-use Rattle.table.proofs.MergeBest.{name-in-list, length-names, best-listed}
+use Rattle.table.proofs.MergeBest.{best-listed}
+use Rattle.table.proofs.KindNames.{name-in-list, length-names, one-group}
 use Rattle.table.proofs.MergeAbsorb.{loses}
 use Rattle.table.proofs.MergeOutcome.{Outcome, merge-outcome}
 
@@ -52,6 +53,13 @@ tabulate-entries n xs e =
     xs
     (length-tabulate n (λ i. getD xs i 0) ∙ sym e)
     (λ i h. getD-tabulate n (λ i. getD xs i 0) 0 i (rw (length-tabulate n (λ i. getD xs i 0)) at h))
+
+-- what shares a group with an item of merged groups is in them
+pub merged-whole : (groups : Grouping) → Equivalent groups → (is : List ℕ) (x y : ℕ)
+    → inMerged groups is x ≡ true → groups x y ≡ true → inMerged groups is y ≡ true
+merged-whole groups e is x y m b =
+    let k = holder groups is x m in
+    held groups is (k .at) y (k .member) (e .transitive (k .at) x y (k .holds) b)
 
 -- where groups merge, the names after name the groups after
 pub naming-merged : (n : ℕ) (before after : Grouping) (names : List ℕ) → Naming n before names → Equivalent before → Equivalent after
@@ -137,17 +145,9 @@ module _ (t : List ℕ) (area : Area) (n : ℕ) (columns : HasColumns t area 4) 
       (heir .member)
       (rw heir-name at (valid .named .name-within (heir .item) heir-known))
 
-  -- what shares a group with an item of the merged groups is in them
-  spreads : (x y : ℕ) → merged x ≡ true → before x y ≡ true → merged y ≡ true
-  spreads x y m b =
-      let k = holder before (r ∷ rs) x m in
-      held before (r ∷ rs) (k .at) y (k .member) (e .transitive (k .at) x y (k .holds) b)
-
   wins-merged : (x : ℕ) → x < n → wins x ≡ true → merged x ≡ true
   wins-merged x h d =
-      spreads w x among
-      (valid .named .one-group w x known h
-      (name-in-list t area n w known ∙ self ∙ sym (eqb-eq (name x) w d) ∙ sym (name-in-list t area n x h)))
+      merged-whole before e (r ∷ rs) w x among (one-group valid w x known h (self ∙ sym (eqb-eq (name x) w d)))
 
   lost : (x : ℕ) → x < n → merged x ≡ false → wins x ≡ false
   lost x h m = false-of-not (wins x) (λ d. not-both (wins-merged x h d) m)
@@ -201,7 +201,7 @@ module _ (t : List ℕ) (area : Area) (n : ℕ) (columns : HasColumns t area 4) 
 
   -- the groups after: a merged item shares its group with the merged items, another with those of its group before
   after-merged : (x y : ℕ) → x < n → y < n → merged x ≡ true → (wins y || merged y) ≡ after x y
-  after-merged x y h k m = rw (merges x y h k, m) (same (wins y) (before x y) (merged y) (wins-merged y k) (spreads x y m))
+  after-merged x y h k m = rw (merges x y h k, m) (same (wins y) (before x y) (merged y) (wins-merged y k) (merged-whole before e (r ∷ rs) x y m))
     where
       same : (a b c : Bool) → (a ≡ true → c ≡ true) → (b ≡ true → c ≡ true) → (a || c) ≡ (b || c)
       same a b true f g = bool-ext (a || true) (b || true) (λ d. or-right b refl) (λ d. or-right a refl)

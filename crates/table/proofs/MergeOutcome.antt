@@ -1,12 +1,10 @@
 -- What merging leaves in the words of a kind of group: absorbing, the pass and the winner's range taken together.
-use mathlib.Core.Bool.{Bool, true, false, not, cond, _&&_, _||_}
+use mathlib.Core.Bool.{Bool, true, false, not, cond, _&&_, _||_, and-false}
 use mathlib.Core.List.{List, List·Memᴰ}
 use mathlib.Core.Logic.{_⊎_, inl, inr}
-use mathlib.Core.Path.{_≡_, refl, sym, _∙_}
+use mathlib.Core.Path.{_≡_, sym, _∙_}
 use Prim.Native.Nat.{ℕ, _+_, _*_, _-_, _%_, _≤_, _<_, min, max}
-use native.Mathlib.Nat.{mod-eq-of-lt}
 use native.Mathlib.Omega.{arith}
-use lib.Arith.{digits-div, digits-mod}
 use lib.Dec.{eqb, ltb}
 use Rattle.graph.specs.Below.{count, listed, tabulate}
 use Rattle.graph.proofs.Truth.{true-or-false, or-left, and-both, not-of-false, eqb-eq, eqb-ne, eq-eqb, ne-eqb, lt-ltb}
@@ -18,21 +16,16 @@ use Rattle.naming.proofs.Merge.{inMerged}
 use Rattle.table.specs.declared.words.Area.{Area}
 use Rattle.table.specs.declared.merge.Listing.{Listing}
 use Rattle.table.specs.declared.merge.Pass.{Pass}
-use Rattle.table.specs.Layout.{cell, put}
-use Rattle.table.specs.Merge.{nameIn, sizeIn, rangeIn, leastOf, greatestOf, itemsFrom, widened}
-use Rattle.table.specs.Merge.{absorbListed, Renamed, renamePass, extended}
-use Rattle.table.specs.KindValid.{KindValid}
+use Rattle.table.specs.Inside.Layout.{cell, put}
+use Rattle.table.specs.Inside.Merge.{nameIn, sizeIn, rangeIn, leastOf, greatestOf, itemsFrom, widened, absorbListed, Renamed, renamePass, extended}
+use Rattle.table.specs.Inside.KindValid.{KindValid}
 use Rattle.table.proofs.Cells.{HasColumns, cell-put-same, cell-put-other-column, cell-put-other-item}
+use Rattle.table.proofs.Halves.{high-half, low-half}
 use Rattle.table.proofs.MergeKept.{Kept, ListedOutside, kept-trans, kept-put, kept-columns}
-use Rattle.table.proofs.MergeAbsorb.{Absorbing, loses, name-below}
+use Rattle.table.proofs.MergeAbsorb.{Absorbing, loses}
+use Rattle.table.proofs.KindNames.{name-known}
 use Rattle.table.proofs.MergeAbsorbed.{absorb-listed}
 use Rattle.table.proofs.MergeRename.{Renaming, rename-pass}
-
--- two numbers kept in one word
-pub two-halves : (a b : ℕ) → a < 65536 → b < 65536
-    → (leastOf (a % 65536 * 65536 + b % 65536) ≡ a) × (greatestOf (a % 65536 * 65536 + b % 65536) ≡ b)
-unfolding leastOf greatestOf
-two-halves a b h k = rw (mod-eq-of-lt h, mod-eq-of-lt k) (digits-div a k, digits-mod a k)
 
 -- Table t′ is table t with the groups of the items that pass the test merged into the group named w, and count items written down.
 pub record Outcome (t : List ℕ) (area : Area) (n : ℕ) (before : Grouping) (w : ℕ) (merged : ℕ → Bool) (t′ : List ℕ) (count′ : ℕ) : Type 0 where
@@ -58,9 +51,6 @@ module _ (t : List ℕ) (area : Area) (n : ℕ) (columns : HasColumns t area 4) 
   abbrev wins : ℕ → Bool
   wins x = eqb (nameIn t area x) w
 
-  below : (x : ℕ) → x < n → name x < n
-  below = name-below t area n columns fits small before valid w known
-
   -- once all groups are absorbed, an item's group has size 0 exactly if it was absorbed
   module _ (merged : ℕ → Bool) (t₁ : List ℕ) (p : Pass) (a : Absorbing t area n before w merged t₁ p) where
     named : (x : ℕ) → x < n → nameIn t₁ area x ≡ name x
@@ -78,16 +68,12 @@ module _ (t : List ℕ) (area : Area) (n : ℕ) (columns : HasColumns t area 4) 
         size-is : (b : Bool) → merged x ≡ b → wins x ≡ false → sizeIn t₁ area (name x) ≡ cond b 0 (size n before x)
         size-is b m d = rw (← m) (a .others x h d)
 
-        none : (b : Bool) → (b && false) ≡ false
-        none true = refl
-        none false = refl
-
         go : (wins x ≡ true) ⊎ (wins x ≡ false) → (merged x ≡ true) ⊎ (merged x ≡ false)
             → eqb (sizeIn t₁ area (name x)) 0 ≡ (merged x && not (wins x))
         go (inl d) m =
             rw
             (d, eqb-eq (name x) w d)
-            (ne-eqb (sizeIn t₁ area w) 0 (λ z. omega (arith, filled)) ∙ sym (none (merged x)))
+            (ne-eqb (sizeIn t₁ area w) 0 (λ z. omega (arith, filled)) ∙ sym (and-false (merged x)))
         go (inr d) (inl m) = rw (d, m) (eq-eqb (sizeIn t₁ area (name x)) 0 (size-is true m d))
         go (inr d) (inr m) =
             rw
@@ -110,7 +96,7 @@ module _ (t : List ℕ) (area : Area) (n : ℕ) (columns : HasColumns t area 4) 
         fits
         w
         (loses merged t area w)
-        (λ x h. rw (named x h) (below x h))
+        (λ x h. rw (named x h) (name-known valid x h))
         empty
         p
         (a .to-known)
@@ -150,14 +136,17 @@ module _ (t : List ℕ) (area : Area) (n : ℕ) (columns : HasColumns t area 4) 
 
     -- the hull is kept whole in its word
     hull-parts : (leastOf hull ≡ min (p .from) least) × (greatestOf hull + 1 ≡ max (p .to) (greatest + 1)) × (greatestOf hull < n)
-    unfolding hull
-    hull-parts = go (two-halves (min (p .from) least) (max (p .to) (greatest + 1) - 1) low high)
+    unfolding hull leastOf greatestOf
+    hull-parts = go (high-half (min (p .from) least) last low high, low-half (min (p .from) least) last low high)
       where
         low : min (p .from) least < 65536
         low = omega (arith, rw self at (valid .from-least w known))
 
         ends : max (p .to) (greatest + 1) ≤ n
         ends = omega (arith, rw self at (valid .range-known w known), a .to-known)
+
+        last : ℕ
+        last = max (p .to) (greatest + 1) - 1
 
         high : max (p .to) (greatest + 1) - 1 < 65536
         high = omega (arith, ends)
@@ -192,7 +181,7 @@ module _ (t : List ℕ) (area : Area) (n : ℕ) (columns : HasColumns t area 4) 
         wide = omega arith
 
         wide-name : (x : ℕ) → x < n → name x < area .size
-        wide-name x h = omega (arith, below x h)
+        wide-name x h = omega (arith, name-known valid x h)
 
         column : (c x : ℕ) → x < area .size → (2 ≡ c → ⊥)
             → cell (put (passed .table) area 2 w hull) area c x ≡ cell (passed .table) area c x

@@ -1,5 +1,5 @@
 -- The pass over the items: those whose group has size 0 take the winner's name and are written down, rising.
-use mathlib.Core.Bool.{Bool, true, false, cond, _&&_}
+use mathlib.Core.Bool.{Bool, true, false, cond, _&&_, and-false}
 use mathlib.Core.List.{List, [], _∷_, _++_}
 use mathlib.Core.Logic.{_⊎_, inl, inr}
 use mathlib.Core.Path.{_≡_, refl, sym, _∙_, ap, ap₂, subst}
@@ -13,8 +13,8 @@ use Rattle.graph.proofs.Below.{listed-skip}
 use Rattle.naming.proofs.Listed.{tabulate-same}
 use Rattle.table.specs.declared.words.Area.{Area}
 use Rattle.table.specs.declared.merge.Pass.{Pass}
-use Rattle.table.specs.Layout.{cell, put}
-use Rattle.table.specs.Merge.{nameIn, sizeIn, rangeIn, renameTable, renameCount, renameFrom, renamePass}
+use Rattle.table.specs.Inside.Layout.{cell, put}
+use Rattle.table.specs.Inside.Merge.{nameIn, sizeIn, rangeIn, renameTable, renameCount, renameFrom, renamePass}
 use Rattle.table.proofs.Cells.{HasColumns, length-put, cell-put-same, cell-put-other-column, cell-put-other-item}
 use Rattle.table.proofs.MergeSteps.{rename-end}
 use Rattle.table.proofs.MergeKept.{Kept, kept-refl, kept-trans, kept-put, kept-columns}
@@ -81,12 +81,8 @@ module _ (t₁ : List ℕ) (area : Area) (n : ℕ) (columns : HasColumns t₁ ar
         few = omega (arith, s .few);
       }
     where
-      none : (b : Bool) → (b && false) ≡ false
-      none true = refl
-      none false = refl
-
       same : (x : ℕ) → (eqb x y ≡ true) ⊎ (eqb x y ≡ false) → (ltb x y && loser x) ≡ (ltb x (suc y) && loser x)
-      same x (inl d) = rw (eqb-eq x y d, e) (none (ltb y y) ∙ sym (none (ltb y (suc y))))
+      same x (inl d) = rw (eqb-eq x y d, e) (and-false (ltb y y) ∙ sym (and-false (ltb y (suc y))))
       same x (inr d) = ap (λ (b : Bool). b && loser x) (sym (ltb-suc x y (eqb-ne x y d)))
 
   -- an item that passes takes the winner's name and is written down

@@ -9,8 +9,8 @@ use lib.Dec.{eqb}
 use Rattle.table.specs.declared.words.Area.{Area}
 use Rattle.table.specs.declared.merge.Listing.{Listing}
 use Rattle.table.specs.declared.merge.Pass.{Pass}
-use Rattle.table.specs.Merge.{nameIn, sizeIn, itemOf, itemsFrom, betterName, bestOver, widened}
-use Rattle.table.specs.Merge.{absorbTable, absorbPass, absorbFrom, renameTable, renameCount, renameFrom}
+use Rattle.table.specs.Inside.Merge.{nameIn, sizeIn, itemOf, itemsFrom, betterName, bestOver, widened}
+use Rattle.table.specs.Inside.Merge.{absorbTable, absorbPass, absorbFrom, renameTable, renameCount, renameFrom}
 
 -- what is left before an item is one more than what is left after it
 one-more-left : (i n : ℕ) → i < n → n - i ≡ suc (n - (i + 1))

@@ -1,3 +1,1 @@
-pub mod Layout
-pub mod Merge
-pub mod KindValid
+pub mod Inside

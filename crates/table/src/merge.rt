@@ -1,8 +1,8 @@
 // Merging groups of one kind: the best of their names, and the items that take it.
 ghost use mathlib.Core.Path.{_≡_};
 ghost use Prim.Native.Nat.{_≤_, _<_, min, max};
-ghost use Rattle.table.specs.Merge.{betterName, bestListed, widened, absorbTable, absorbPass, absorbListed};
-ghost use Rattle.table.specs.Merge.{renameTable, renameCount, renamePass, extended, mergeListed};
+ghost use Rattle.table.specs.Inside.Merge.{betterName, bestListed, widened, absorbTable, absorbPass, absorbListed};
+ghost use Rattle.table.specs.Inside.Merge.{renameTable, renameCount, renamePass, extended, mergeListed};
 use crate::words::Area;
 use crate::words::CHANGED;
 use crate::words::NAME;

@@ -2,19 +2,8 @@
 // vertices, then those of the edges.
 ghost use mathlib.Core.Path.{_≡_};
 ghost use Prim.Native.Nat.{suc};
-ghost use Rattle.table.specs.Layout.{place, cell, put, vertexArea, bridgeBlockArea, edgeArea};
-
-// The number of a vertex. Component and bridge-block names are vertices.
-pub struct Vertex(pub u32);
-
-// The number of an edge. Block names are edges.
-pub struct Edge(pub u32);
-
-// How many vertices and edges the table has words for.
-pub struct Capacities {
-    pub vertices: u16,
-    pub edges: u16,
-}
+ghost use Rattle.table.specs.Inside.Layout.{place, cell, put, vertexArea, bridgeBlockArea, edgeArea};
+use numbers::Limits;
 
 // The columns of each kind of group: an item's name; by a name, its group's size and the range of its items; the items that changed their
 // name.
@@ -50,30 +39,30 @@ pub struct Area {
     pub size: u16,
 }
 
-pub fn vertex_area(caps: Capacities) -> Area
-    ensures { λ r. ⌜ r ≡ vertexArea caps ⌝ }
+pub fn vertex_area(limits: Limits) -> Area
+    ensures { λ r. ⌜ r ≡ vertexArea limits ⌝ }
 {
     Area {
         base: 0,
-        size: caps.vertices,
+        size: limits.vertices,
     }
 }
 
-pub fn bridge_block_area(caps: Capacities) -> Area
-    ensures { λ r. ⌜ r ≡ bridgeBlockArea caps ⌝ }
+pub fn bridge_block_area(limits: Limits) -> Area
+    ensures { λ r. ⌜ r ≡ bridgeBlockArea limits ⌝ }
 {
     Area {
-        base: (caps.vertices as u32) * 4,
-        size: caps.vertices,
+        base: (limits.vertices as u32) * 4,
+        size: limits.vertices,
     }
 }
 
-pub fn edge_area(caps: Capacities) -> Area
-    ensures { λ r. ⌜ r ≡ edgeArea caps ⌝ }
+pub fn edge_area(limits: Limits) -> Area
+    ensures { λ r. ⌜ r ≡ edgeArea limits ⌝ }
 {
     Area {
-        base: (caps.vertices as u32) * 24,
-        size: caps.edges,
+        base: (limits.vertices as u32) * 24,
+        size: limits.edges,
     }
 }
 

@@ -1,5 +1,6 @@
 -- `add_edge` does to the book what the naming book does for one edge more.
 use borrow.Author.Needs.{needs}
+use Rattle.forest.specs.Promise.{Holds}
 use Rattle.forest.proofs.add_edge.Statement.{statement}
 use Rattle.forest.proofs.AddEdge.{edge-added}
 use Rattle.forest.proofs.add_edge.Tie as tie
@@ -11,20 +12,23 @@ same-length : tie.Need-same-length
 same-length c = search needs
 
 returns : tie.Need-returns
+unfolding Holds
 returns c =
     let s = c .before .before .before .before .before .before in
     edge-added
-    (s .args .shape .caps)
-    (s .args .shape .vertices)
-    (s .args .shape .edges)
-    (s .args .t .now)
-    (s .pre .0)
-    (s .pre .1)
-    (s .args .a .0)
-    (s .args .b .0)
-    (s .pre .2)
-    (s .pre .3)
-    (s .pre .4)
+    (record {
+      limits = s .args .shape .limits;
+      n = s .args .shape .vertices;
+      m = s .args .shape .edges;
+      t = s .args .t .now;
+      valid = s .pre .0;
+      room = s .pre .1;
+      a = s .args .a .0;
+      b = s .args .b .0;
+      a-known = s .pre .2;
+      b-known = s .pre .3;
+      differ = s .pre .4;
+    })
     (c .before .before .grow-edge .last .0)
     (c .before .before .grow-edge .result)
     (c .before .before .grow-edge .ensures)

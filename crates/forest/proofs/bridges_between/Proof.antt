@@ -15,7 +15,7 @@ returns c =
     let s = c .before .before .before .before .before .before in
     rw
     (c .before .before .find-bridges .ensures .0, c .before .before .find-bridges .ensures .1)
-    (bridges-written (s .pre .0) (s .args .a .0) (s .args .b .0) (s .pre .1) (s .pre .2) (s .pre .3))
+    (bridges-written (s .args .shape) (s .args .t .now) (s .pre .0) (s .args .a .0) (s .args .b .0) (s .pre .1) (s .pre .2) (s .pre .3))
 
 pub bridges-between-spec : {M : Type 1} → statement M
 bridges-between-spec = tie.close (tie.spec find-bridges-requires same-length returns)

@@ -10,7 +10,6 @@ use lib.Dec.{ltb}
 use lib.ListN.{length, getD, set, drop, replicate, length-set, length-replicate, replicate-append-replicate, drop-of-length-le}
 use lib.Seq.{drop-cons, set-at}
 use Rattle.graph.proofs.Truth.{true-or-false, ltb-lt, ltb-ge}
-use Rattle.forest.specs.Promise.{cleared}
 use Rattle.forest.proofs.clear.Statement.{statement}
 use Rattle.forest.proofs.clear.Tie as tie
 
@@ -77,7 +76,6 @@ same-length : tie.Need-same-length Inv-loop μ-loop
 same-length c = c .before .loop .inv .2
 
 returns : tie.Need-returns Inv-loop μ-loop
-unfolding cleared
 returns c =
     let l = c .before .loop in
     let s = c .before .before .before in

@@ -1,5 +1,6 @@
 -- `cut_at` reads cut vertex i of those that are written down: the vertex behind vertex i of the path.
 use borrow.Author.Needs.{needs}
+use Rattle.forest.specs.Promise.{cutAt}
 use Rattle.forest.proofs.cut_at.Statement.{statement}
 use Rattle.forest.proofs.cut_at.Tie as tie
 
@@ -10,6 +11,7 @@ word-behind-requires : tie.Need-word-behind-requires
 word-behind-requires c κs = search needs
 
 returns : tie.Need-returns
+unfolding cutAt
 returns c = rw (c .word-behind .ensures, c .before .vertex-area .ensures)
 
 pub cut-at-spec : {M : Type 1} → statement M

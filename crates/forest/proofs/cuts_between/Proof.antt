@@ -15,7 +15,7 @@ returns c =
     let s = c .before .before .before .before .before .before in
     rw
     (c .before .before .find-cuts .ensures .0, c .before .before .find-cuts .ensures .1)
-    (cuts-written (s .pre .0) (s .args .a .0) (s .args .b .0) (s .pre .1) (s .pre .2) (s .pre .3))
+    (cuts-written (s .args .shape) (s .args .t .now) (s .pre .0) (s .args .a .0) (s .args .b .0) (s .pre .1) (s .pre .2) (s .pre .3))
 
 pub cuts-between-spec : {M : Type 1} → statement M
 cuts-between-spec = tie.close (tie.spec find-cuts-requires same-length returns)

@@ -1,6 +1,8 @@
 -- `shared_block` gives the block that has an edge at each of two vertices.
 use mathlib.Core.Path.{_∙_}
 use borrow.Author.Needs.{needs}
+use Rattle.forest.specs.Inside.Valid.{bookOf}
+use Rattle.forest.specs.Promise.{Holds, stateOf}
 use Rattle.forest.proofs.shared_block.Statement.{statement}
 use Rattle.forest.proofs.shared_block.Tie as tie
 use Rattle.forest.proofs.QueryShared.{shared-in}
@@ -9,6 +11,7 @@ find-shared-requires : tie.Need-find-shared-requires
 find-shared-requires c κs = search needs
 
 returns : tie.Need-returns
+unfolding Holds stateOf bookOf
 returns c =
     let s = c .before .before .before in
     c .find-shared .ensures

@@ -2,8 +2,8 @@
 use native.Mathlib.Omega.{arith}
 use lib.ListN.{length-set}
 use borrow.Author.Needs.{needs}
-use Rattle.journal.specs.Promise.{sixNumbers}
-use Rattle.journal.proofs.EntryLaws.{stored-over}
+use Rattle.journal.specs.Inside.Runs.{sixNumbers}
+use Rattle.commands.proofs.Over.{stored-over}
 use Rattle.journal.proofs.fill_report.Statement.{statement}
 use Rattle.journal.proofs.fill_report.Tie as tie
 

@@ -2,9 +2,10 @@
 use native.Mathlib.Omega.{arith}
 use borrow.Author.Needs.{needs}
 use lib.ListN.{length}
-use Rattle.commands.specs.Entry.{Buffers, workNeeded}
-use Rattle.journal.specs.Steps.{capacitiesOf}
-use Rattle.journal.proofs.EntryLaws.{promised-at-start, Begins, begins, promised-by-run}
+use Rattle.commands.specs.Entry.{Buffers}
+use Rattle.numbers.specs.declared.Limits.{Limits}
+use Rattle.journal.specs.Inside.Steps.{capacitiesOf}
+use Rattle.journal.proofs.EntryLaws.{work-is-words, promised-at-start, Begins, begins, promised-by-run}
 use Rattle.journal.proofs.register_run.Statement.{statement}
 use Rattle.journal.proofs.register_run.Tie as tie
 
@@ -29,7 +30,7 @@ begun c =
     (lent s)
     (at-start-refusal .start-refusal .result)
     (at-start-refusal .start-refusal .ensures)
-    (c .if1 .left)
+    (omega (arith, c .if1 .left))
 
 start-refusal-requires : tie.Need-start-refusal-requires
 start-refusal-requires c κs = search needs
@@ -53,10 +54,12 @@ cast-t15 : tie.Need-cast-t15
 cast-t15 c = omega (arith, begun c .few-spans)
 
 run-requires : tie.Need-run-requires
-unfolding workNeeded
+unfolding capacitiesOf
 run-requires c κs =
     let b = begun (c .before .before) in
-    (b .few-cabinets, b .few-spans, omega (arith, b .long-work), b .short-journal)
+    let s = c .before .before .before .before .before .before .before .before in
+    let limits : Limits = record { vertices = s .args .c; edges = s .args .s } in
+    (b .few-cabinets, b .few-spans, omega (arith, b .long-work, work-is-words limits), b .short-journal)
 
 work-needed-requires : tie.Need-work-needed-requires
 work-needed-requires c κs = search needs

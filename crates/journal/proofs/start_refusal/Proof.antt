@@ -1,8 +1,13 @@
 -- `start_refusal` gives the number of the first line that applies before the journal is read: the branches are the lines in their order.
+use mathlib.Core.Path.{sym, _∙_}
+use native.Mathlib.Omega.{arith}
 use borrow.Author.Needs.{needs}
 use borrow.Author.Tests.{lt-ltb, le-ltb}
+use Rattle.graph.proofs.Truth.{true-of-not-false}
 use Rattle.commands.specs.Refusal.{firstThatApplies, refusalNumber}
 use Rattle.commands.specs.Entry.{shortBuffers, startLines, numberOf}
+use Rattle.commands.proofs.Start.{InRange, good-exactly}
+use Rattle.journal.specs.Inside.Steps.{capacitiesOf}
 use Rattle.journal.proofs.start_refusal.Statement.{statement}
 use Rattle.journal.proofs.start_refusal.Tie as tie
 
@@ -13,11 +18,22 @@ returns : tie.Need-returns
 unfolding startLines shortBuffers firstThatApplies numberOf refusalNumber
 returns c = rw (← c .before .bad-capacity .ensures, c .if1 .taken)
 
+-- capacities that are not refused are few
+few : (c : tie.Else1)
+    → InRange (record { cabinets = c .before .before .args .c; spans = c .before .before .args .s })
+few c = good-exactly _ .0 (true-of-not-false _ (sym (c .before .bad-capacity .ensures) ∙ c .if1 .left))
+
+cast-t8 : tie.Need-cast-t8
+cast-t8 c = omega (arith, few c .few-cabinets)
+
+cast-t9 : tie.Need-cast-t9
+cast-t9 c = omega (arith, few c .few-spans)
+
 work-needed-requires : tie.Need-work-needed-requires
 work-needed-requires c κs = search needs
 
 returns-2 : tie.Need-returns-2
-unfolding startLines shortBuffers firstThatApplies numberOf refusalNumber
+unfolding startLines shortBuffers firstThatApplies numberOf refusalNumber capacitiesOf
 returns-2 c =
     let at-work-needed = c .before in
     let at-if1 = at-work-needed .before in
@@ -29,7 +45,7 @@ returns-2 c =
     )
 
 returns-3 : tie.Need-returns-3
-unfolding startLines shortBuffers firstThatApplies numberOf refusalNumber
+unfolding startLines shortBuffers firstThatApplies numberOf refusalNumber capacitiesOf
 returns-3 c =
     let at-if2 = c .before in
     let at-work-needed = at-if2 .before in
@@ -43,7 +59,7 @@ returns-3 c =
     )
 
 returns-4 : tie.Need-returns-4
-unfolding startLines shortBuffers firstThatApplies numberOf refusalNumber
+unfolding startLines shortBuffers firstThatApplies numberOf refusalNumber capacitiesOf
 returns-4 c =
     let at-if3 = c .before in
     let at-if2 = at-if3 .before in
@@ -59,7 +75,7 @@ returns-4 c =
     )
 
 returns-5 : tie.Need-returns-5
-unfolding startLines shortBuffers firstThatApplies numberOf refusalNumber
+unfolding startLines shortBuffers firstThatApplies numberOf refusalNumber capacitiesOf
 returns-5 c =
     let at-if3 = c .before in
     let at-if2 = at-if3 .before in
@@ -80,6 +96,8 @@ start-refusal-spec =
     (tie.spec
     bad-capacity-requires
     returns
+    cast-t8
+    cast-t9
     work-needed-requires
     returns-2
     returns-3

@@ -1,25 +1,19 @@
--- `work_needed` gives W.
-use mathlib.Core.Path.{refl}
+-- `work_needed` gives W: the words that the table takes, and 64 more.
+use native.Mathlib.Omega.{arith}
 use borrow.Author.Needs.{needs}
-use Rattle.commands.specs.Entry.{workNeeded}
+use Rattle.forest.specs.Promise.{words-needed}
+use Rattle.journal.proofs.EntryLaws.{work-is-words}
 use Rattle.journal.proofs.work_needed.Statement.{statement}
 use Rattle.journal.proofs.work_needed.Tie as tie
 
-mul-result : tie.Need-mul-result
-mul-result c = search needs
-
-mul-result-2 : tie.Need-mul-result-2
-mul-result-2 c = search needs
+words-needed-requires : tie.Need-words-needed-requires
+words-needed-requires c κs = search needs
 
 add-result : tie.Need-add-result
-add-result c = search needs
-
-add-result-2 : tie.Need-add-result-2
-add-result-2 c = search needs
+add-result c = record { fits = omega (arith, c .words-needed .ensures, words-needed (c .before .args .limits)) }
 
 returns : tie.Need-returns
-unfolding workNeeded
-returns c = refl
+returns c = rw (c .words-needed .ensures) (work-is-words (c .before .args .limits))
 
 pub work-needed-spec : {M : Type 1} → statement M
-work-needed-spec = tie.close (tie.spec mul-result mul-result-2 add-result add-result-2 returns)
+work-needed-spec = tie.close (tie.spec words-needed-requires add-result returns)

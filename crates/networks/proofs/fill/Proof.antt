@@ -1,20 +1,19 @@
--- `fill` keeps the table valid from vertex to vertex. The measure is the room that is left.
-use mathlib.Core.Path.{_≡_, refl, _∙_}
+-- `fill` adds one vertex after another: the table holds a network throughout. The measure is the room that is left.
+use mathlib.Core.Path.{_≡_, refl}
 use Prim.Native.Nat.{_-_}
-use native.Mathlib.Numerals.{add-one}
 use native.Mathlib.Omega.{arith}
 use borrow.Author.Needs.{needs}
 use lib.ListN.{length}
-use Rattle.forest.specs.Valid.{Valid}
+use Rattle.forest.specs.Promise.{Holds}
 use Rattle.networks.proofs.fill.Statement.{statement}
 use Rattle.networks.proofs.fill.Tie as tie
 
 abbrev Inv-loop : tie.InvT-loop
 Inv-loop t₀ shape₀ t shape =
-    Valid (shape .caps) (shape .vertices) (shape .edges) t × (length t ≡ length t₀)
+    Holds shape t × (length t ≡ length t₀)
 
 abbrev μ-loop : tie.MeasureT-loop
-μ-loop t₀ shape₀ t shape = shape .caps .vertices - shape .vertices
+μ-loop t₀ shape₀ t shape = shape .limits .vertices - shape .vertices
 
 loop-holds : tie.Need-loop-holds Inv-loop μ-loop
 loop-holds c = (c .before .pre, refl)
@@ -32,10 +31,7 @@ loop-less : tie.Need-loop-less Inv-loop μ-loop
 loop-less c = omega arith
 
 loop-again : tie.Need-loop-again Inv-loop μ-loop
-loop-again c =
-    let at-add-vertex = c .before .before .before in
-    let now = at-add-vertex .before .before .before .before .before .loop in
-    (rw add-one (at-add-vertex .add-vertex .ensures .valid), at-add-vertex .add-vertex .kept .0 ∙ now .inv .1)
+loop-again c = search needs
 
 same-length : tie.Need-same-length Inv-loop μ-loop
 same-length c = search needs

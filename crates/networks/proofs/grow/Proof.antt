@@ -1,8 +1,6 @@
--- `grow` leaves a valid table: where there is room and the ends are two vertices, the one that `forest::add_edge` promises.
-use native.Mathlib.Numerals.{add-one}
-use native.Mathlib.Omega.{arith}
+-- `grow` adds an edge only where `forest::add_edge` may: there is room, and the ends are two vertices.
 use borrow.Author.Needs.{needs}
-use borrow.Author.Tests.{ltb-true, eqb-false, not-true}
+use borrow.Author.Tests.{eqb-false, not-true}
 use Rattle.networks.proofs.grow.Statement.{statement}
 use Rattle.networks.proofs.grow.Tie as tie
 
@@ -11,25 +9,19 @@ cast-most c = search needs
 
 add-edge-requires : tie.Need-add-edge-requires
 add-edge-requires c κs =
-    let s = c .before .before .before .before .before .before .before .before .before .before in (
-      s .pre,
-      omega (arith, ltb-true),
-      omega (arith, ltb-true),
-      omega (arith, ltb-true),
-      eqb-false _ _ (not-true _ (c .before .if4 .taken)),
-    )
-
-say-growth-requires : tie.Need-say-growth-requires
-say-growth-requires c κs = search needs
+    (search needs, search needs, search needs, search needs, eqb-false _ _ (not-true _ (c .before .if4 .taken)))
 
 add-grown : tie.Need-add-grown
 add-grown c = search needs
+
+say-growth-requires : tie.Need-say-growth-requires
+say-growth-requires c κs = search needs
 
 same-length : tie.Need-same-length
 same-length c = search needs
 
 returns : tie.Need-returns
-returns c = rw add-one (c .before .before .before .before .before .add-edge .ensures .valid)
+returns c = search needs
 
 returns-2 : tie.Need-returns-2
 returns-2 c = search needs
@@ -40,8 +32,8 @@ grow-spec =
     (tie.spec
     cast-most
     add-edge-requires
-    say-growth-requires
     add-grown
+    say-growth-requires
     same-length
     returns
     returns-2)

@@ -5,10 +5,10 @@ use Rattle.networks.proofs.say_items.Statement.{statement}
 use Rattle.networks.proofs.say_items.Tie as tie
 
 abbrev Inv-loop : tie.InvT-loop
-Inv-loop t caps list count i₀ i = Unit {0}
+Inv-loop t shape list count i₀ i = Unit {0}
 
 abbrev μ-loop : tie.MeasureT-loop
-μ-loop t caps list count i₀ i = count - i
+μ-loop t shape list count i₀ i = count - i
 
 loop-holds : tie.Need-loop-holds Inv-loop μ-loop
 loop-holds c = tt

@@ -1,21 +1,13 @@
--- `show` starts from a table without vertices and edges, which is valid where it is long enough.
-use native.Mathlib.Omega.{arith}
+-- `show` begins a run only in a table that has the words that its limits take.
 use borrow.Author.Needs.{needs}
-use Rattle.forest.proofs.EmptyTable.{empty-valid}
 use Rattle.networks.proofs.show.Statement.{statement}
 use Rattle.networks.proofs.show.Tie as tie
 
 slice-aggregate-t : tie.Need-slice-aggregate-t
 slice-aggregate-t c = search needs
 
-mul-if1 : tie.Need-mul-if1
-mul-if1 c = search needs
-
-mul-if1-2 : tie.Need-mul-if1-2
-mul-if1-2 c = search needs
-
-add-if1 : tie.Need-add-if1
-add-if1 c = search needs
+words-needed-requires : tie.Need-words-needed-requires
+words-needed-requires c κs = search needs
 
 returns : tie.Need-returns
 returns c = search needs
@@ -23,8 +15,13 @@ returns c = search needs
 write-all-requires : tie.Need-write-all-requires
 write-all-requires c κs = search needs
 
+begin-requires : tie.Need-begin-requires
+begin-requires c κs =
+    let at-words-needed = c .before .before .before in
+    (search needs, search needs, rw (← at-words-needed .words-needed .ensures) (search needs))
+
 fill-requires : tie.Need-fill-requires
-fill-requires c κs = empty-valid _ _ (omega arith) (omega arith) (omega arith)
+fill-requires c κs = search needs
 
 grow-all-requires : tie.Need-grow-all-requires
 grow-all-requires c κs = search needs
@@ -40,11 +37,10 @@ show-spec =
     tie.close
     (tie.spec
     slice-aggregate-t
-    mul-if1
-    mul-if1-2
-    add-if1
+    words-needed-requires
     returns
     write-all-requires
+    begin-requires
     fill-requires
     grow-all-requires
     tell-requires

@@ -1,4 +1,4 @@
--- `main` runs just the bytes that were read.
+-- `main` runs just the bytes that were read, and writes just the output.
 use mathlib.Core.Path.{sym}
 use lib.Seq.{length-take-le}
 use borrow.Author.Needs.{needs}
@@ -17,34 +17,30 @@ enum-known-got c = search needs
 array-share-prefix-input : tie.Need-array-share-prefix-input
 array-share-prefix-input c = rw (c .before .got .given .1) at (c .before .before .before .before .read-input .ensures)
 
-slice-aggregate-register-run : tie.Need-slice-aggregate-register-run
-slice-aggregate-register-run c =
+slice-aggregate-run-input : tie.Need-slice-aggregate-run-input
+slice-aggregate-run-input c =
     sym
     (length-take-le
     (c .before .before .got .given .0 .0)
     (c .before .before .before .before .before .read-input .last .0)
     (rw (c .before .before .got .given .1) at (c .before .before .before .before .before .read-input .ensures)))
 
-slice-aggregate-register-run-2 : tie.Need-slice-aggregate-register-run-2
-slice-aggregate-register-run-2 c = search needs
+slice-aggregate-run-input-2 : tie.Need-slice-aggregate-run-input-2
+slice-aggregate-run-input-2 c = search needs
 
-slice-aggregate-register-run-3 : tie.Need-slice-aggregate-register-run-3
-slice-aggregate-register-run-3 c = search needs
+run-input-requires : tie.Need-run-input-requires
+run-input-requires c κs = search needs
 
-slice-aggregate-register-run-4 : tie.Need-slice-aggregate-register-run-4
-slice-aggregate-register-run-4 c = search needs
+array-share-prefix-output : tie.Need-array-share-prefix-output
+array-share-prefix-output c = search needs
 
-register-run-requires : tie.Need-register-run-requires
-register-run-requires c κs = search needs
+slice-aggregate-write-all : tie.Need-slice-aggregate-write-all
+slice-aggregate-write-all c =
+    let run-input = c .before .before .run-input in
+    sym (length-take-le (run-input .result) (run-input .last .1 .0) (run-input .ensures .fits))
 
-slice-aggregate-write-outcome : tie.Need-slice-aggregate-write-outcome
-slice-aggregate-write-outcome c = search needs
-
-slice-aggregate-write-outcome-2 : tie.Need-slice-aggregate-write-outcome-2
-slice-aggregate-write-outcome-2 c = search needs
-
-write-outcome-requires : tie.Need-write-outcome-requires
-write-outcome-requires c κs = search needs
+write-all-requires : tie.Need-write-all-requires
+write-all-requires c κs = search needs
 
 enum-told : tie.Need-enum-told
 enum-told c = search needs
@@ -63,14 +59,12 @@ main-spec =
     read-input-requires
     enum-known-got
     array-share-prefix-input
-    slice-aggregate-register-run
-    slice-aggregate-register-run-2
-    slice-aggregate-register-run-3
-    slice-aggregate-register-run-4
-    register-run-requires
-    slice-aggregate-write-outcome
-    slice-aggregate-write-outcome-2
-    write-outcome-requires
+    slice-aggregate-run-input
+    slice-aggregate-run-input-2
+    run-input-requires
+    array-share-prefix-output
+    slice-aggregate-write-all
+    write-all-requires
     enum-told
     returns
     returns-2)

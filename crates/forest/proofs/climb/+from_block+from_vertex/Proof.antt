@@ -1,12 +1,12 @@
--- The cycle of `climb::from_vertex` and `climb::from_block`, which climb as the model climbs. Each call leaves less to climb: the measure is
--- twice the remaining depth, and one more for a block.
+-- `climb::from_vertex` and `climb::from_block` call each other, and make the steps that the model makes, no more than remain. Each call has
+-- fewer left: the measure is twice the remaining steps, and one more for a block.
 use mathlib.Core.Path.{sym, _∙_, ap}
 use Prim.Native.Nat.{ℕ, _+_, _*_, _<_}
 use native.Mathlib.Omega.{arith}
 use borrow.Author.Needs.{needs}
 use borrow.Fn.Kinds.{In}
 use borrow.Fn.PlainCycle.{Measures, is, falls, and}
-use Rattle.forest.specs.Climb.{climbFromBlock}
+use Rattle.forest.specs.Inside.Climb.{climbFromBlock}
 use Rattle.forest.proofs.ClimbSteps.{recorded-steps, climb-none, climb-met, climb-root, climber-up, climb-by-block}
 use Rattle.forest.proofs.climb.from_block.Reads as from-block
 use Rattle.forest.proofs.climb.from_block.Kinds as from-block-kinds

@@ -1,6 +1,6 @@
 -- `climb::above` gives the vertex above an edge's block.
 use borrow.Author.Needs.{needs}
-use Rattle.forest.specs.Climb.{aboveEdge}
+use Rattle.forest.specs.Inside.Climb.{aboveEdge}
 use Rattle.forest.proofs.climb.above.Statement.{statement}
 use Rattle.forest.proofs.climb.above.Tie as tie
 

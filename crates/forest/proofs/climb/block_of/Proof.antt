@@ -10,7 +10,7 @@ word-requires : tie.Need-word-requires
 word-requires c κs = search needs
 
 returns : tie.Need-returns
-returns c = cc
+returns c = rw (c .before .edge-area .ensures) at (c .word .ensures)
 
 pub block-of-spec : {M : Type 1} → statement M
 block-of-spec = tie.close (tie.spec edge-area-requires word-requires returns)

@@ -2,7 +2,7 @@
 use Prim.Native.Nat.{_+_, _<_}
 use native.Mathlib.Omega.{arith}
 use borrow.Author.Needs.{needs}
-use Rattle.forest.specs.Climb.{climbBoth, climbTable, climbRoute}
+use Rattle.forest.specs.Inside.Climb.{climbBoth, climbTable, climbRoute}
 use Rattle.forest.proofs.ClimbSteps.{kept-most, reach-most}
 use Rattle.forest.proofs.climb.climb.Statement.{statement}
 use Rattle.forest.proofs.climb.climb.Tie as tie

@@ -1,23 +1,23 @@
--- `climb::climb_on` climbs in nests of a few steps. The loop's invariant: climbing what is left from where the climb has come gives the
--- whole climb. The measure is how many steps are left.
+-- `climb::climb_on` climbs in nests of calls, one after another. The loop's invariant: climbing what is left from where the climb has come
+-- gives the whole climb. The measure is how many steps are left.
 use mathlib.Core.Path.{_≡_, refl, sym, _∙_, ap}
 use Prim.Native.Nat.{_+_, _-_, _≤_}
 use native.Mathlib.Omega.{arith}
 use borrow.Author.Needs.{needs}
 use lib.ListN.{length}
-use Rattle.forest.specs.Climb.{climbFrom}
+use Rattle.forest.specs.Inside.Climb.{climbFrom}
 use Rattle.forest.proofs.ClimbSteps.{climb-add, climb-stays, steps-left}
 use Rattle.forest.proofs.climb.climb_on.Statement.{statement}
 use Rattle.forest.proofs.climb.climb_on.Tie as tie
 
 abbrev Inv-loop : tie.InvT-loop
-Inv-loop t₀ caps steps start steps₀ t r remaining =
-    (climbFrom remaining t caps r ≡ climbFrom steps₀ t₀ caps start)
+Inv-loop t₀ limits steps start steps₀ t r remaining =
+    (climbFrom remaining t limits r ≡ climbFrom steps₀ t₀ limits start)
     × (r .left + r .right + remaining ≤ start .left + start .right + steps₀)
     × (length t ≡ length t₀)
 
 abbrev μ-loop : tie.MeasureT-loop
-μ-loop t₀ caps steps start steps₀ t r remaining = remaining
+μ-loop t₀ limits steps start steps₀ t r remaining = remaining
 
 loop-holds : tie.Need-loop-holds Inv-loop μ-loop
 loop-holds c = (refl, omega arith, refl)
@@ -48,11 +48,11 @@ loop-again c =
     let at-from-vertex = c .before .before in
     let at-nested = at-from-vertex .before .before .before .before in
     let at-loop = at-nested .before .before .before in
-    let caps = at-loop .before .before .args .caps in
+    let limits = at-loop .before .before .args .limits in
     let l = at-loop .loop in
     let rest = l .remaining - at-nested .nested .result in (
       rw (at-from-vertex .from-vertex .ensures .0, at-from-vertex .from-vertex .ensures .1)
-          (sym (climb-add (at-nested .nested .result) rest (l .remaining) (l .t) caps (l .r) (omega (arith, at-nested .nested .ensures)))
+          (sym (climb-add (at-nested .nested .result) rest (l .remaining) (l .t) limits (l .r) (omega (arith, at-nested .nested .ensures)))
           ∙ l .inv .0),
       omega (arith, at-from-vertex .from-vertex .ensures .2, at-nested .nested .ensures),
       at-from-vertex .from-vertex .kept .0 ∙ l .inv .2,
@@ -65,9 +65,9 @@ returns : tie.Need-returns Inv-loop μ-loop
 returns c =
     let at-goes-on = c .before in
     let at-loop = at-goes-on .before in
-    let caps = at-loop .before .before .args .caps in
+    let limits = at-loop .before .before .args .limits in
     let l = at-loop .loop in
-    let stays = climb-stays (l .remaining) (l .t) caps (l .r) (sym (at-goes-on .goes-on .ensures) ∙ c .if1 .left) in
+    let stays = climb-stays (l .remaining) (l .t) limits (l .r) (sym (at-goes-on .goes-on .ensures) ∙ c .if1 .left) in
     let whole = sym stays ∙ l .inv .0 in
     (ap (λ x. x .table) whole, ap (λ x. x .trail) whole, omega arith)
 

@@ -4,17 +4,17 @@ use mathlib.Core.Path.{_≡_, refl, sym, _∙_}
 use Prim.Native.Nat.{_+_}
 use native.Mathlib.Omega.{arith}
 use lib.ListN.{length}
-use Rattle.forest.specs.Climb.{joinFrom}
+use Rattle.forest.specs.Inside.Climb.{joinFrom}
 use Rattle.forest.proofs.ClimbSteps.{join-step}
 use Rattle.forest.proofs.climb.join.Statement.{statement}
 use Rattle.forest.proofs.climb.join.Tie as tie
 
 abbrev Inv-loop : tie.InvT-loop
-Inv-loop t₀ caps kept right k₀ at₀ t k at =
-    (at + k ≡ kept + right) × (length t ≡ length t₀) × (joinFrom k t caps at ≡ joinFrom right t₀ caps kept)
+Inv-loop t₀ limits kept right k₀ at₀ t k at =
+    (at + k ≡ kept + right) × (length t ≡ length t₀) × (joinFrom k t limits at ≡ joinFrom right t₀ limits kept)
 
 abbrev μ-loop : tie.MeasureT-loop
-μ-loop t₀ caps kept right k₀ at₀ t k at = k
+μ-loop t₀ limits kept right k₀ at₀ t k at = k
 
 loop-holds : tie.Need-loop-holds Inv-loop μ-loop
 loop-holds c = (refl, refl, refl)
@@ -39,7 +39,7 @@ loop-again c =
     let s = at-loop-test .before .before .before in (
       omega arith,
       at-join-one .join-one .kept .0 ∙ l .inv .1,
-      rw (at-join-one .join-one .ensures) (sym (join-step (l .k) (l .t) (s .args .caps) (l .at) (λ e. omega arith)) ∙ l .inv .2),
+      rw (at-join-one .join-one .ensures) (sym (join-step (l .k) (l .t) (s .args .limits) (l .at) (λ e. omega arith)) ∙ l .inv .2),
     )
 
 same-length : tie.Need-same-length Inv-loop μ-loop

@@ -1,6 +1,6 @@
 -- `climb::join_one` puts one step of the right side behind the path.
 use borrow.Author.Needs.{needs}
-use Rattle.forest.specs.Climb.{joinOne}
+use Rattle.forest.specs.Inside.Climb.{joinOne}
 use Rattle.forest.proofs.climb.join_one.Statement.{statement}
 use Rattle.forest.proofs.climb.join_one.Tie as tie
 

@@ -6,7 +6,7 @@ use borrow.Author.Needs.{needs}
 use lib.Dec.{eqb}
 use denote.Ref.{now}
 use Rattle.graph.proofs.Truth.{eq-eqb, ne-eqb}
-use Rattle.forest.specs.Climb.{keptLeft}
+use Rattle.forest.specs.Inside.Climb.{keptLeft}
 use Rattle.forest.proofs.ClimbSteps.{kept-no-left, kept-no-right, kept-both}
 use Rattle.forest.proofs.climb.kept_left.Statement.{statement}
 use Rattle.forest.proofs.climb.kept_left.Tie as tie
@@ -46,7 +46,7 @@ sub-result c = search needs
 
 kept-by-blocks : (c : tie.After-block-of2) →
     let s = c .before .before .before .before .before .before .before .before .before .before .before .before .before in
-    cond (eqb (c .before .block-of .result .0) (c .block-of2 .result .0)) (s .args .r .left - 1) (s .args .r .left) ≡ keptLeft (now (s .args .t)) (s .args .caps) (s .args .r)
+    cond (eqb (c .before .block-of .result .0) (c .block-of2 .result .0)) (s .args .r .left - 1) (s .args .r .left) ≡ keptLeft (now (s .args .t)) (s .args .limits) (s .args .r)
 kept-by-blocks c =
     let at-block-of = c .before in
     let at-word2 = at-block-of .before in

@@ -1,7 +1,7 @@
 -- `climb::reach_of` gives how many steps a climb may take.
 use native.Mathlib.Omega.{arith}
 use borrow.Author.Needs.{needs}
-use Rattle.forest.specs.Climb.{reach}
+use Rattle.forest.specs.Inside.Climb.{reach}
 use Rattle.forest.proofs.climb.reach_of.Statement.{statement}
 use Rattle.forest.proofs.climb.reach_of.Tie as tie
 

@@ -1,6 +1,6 @@
 -- `climb::record_step` writes a step down as the model does, on either side.
 use borrow.Author.Needs.{needs}
-use Rattle.forest.specs.Climb.{recordTable, recordTrail}
+use Rattle.forest.specs.Inside.Climb.{recordTable, recordTrail}
 use Rattle.forest.proofs.climb.record_step.Statement.{statement}
 use Rattle.forest.proofs.climb.record_step.Tie as tie
 

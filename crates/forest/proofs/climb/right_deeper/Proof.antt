@@ -1,6 +1,6 @@
 -- `climb::right_deeper` compares the depths of the two sides.
 use borrow.Author.Needs.{needs}
-use Rattle.forest.specs.Climb.{rightDeeper}
+use Rattle.forest.specs.Inside.Climb.{rightDeeper}
 use Rattle.forest.proofs.climb.right_deeper.Statement.{statement}
 use Rattle.forest.proofs.climb.right_deeper.Tie as tie
 

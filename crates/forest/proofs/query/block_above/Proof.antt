@@ -1,6 +1,6 @@
 -- `query::block_above` gives the name of the block above a vertex.
 use borrow.Author.Needs.{needs}
-use Rattle.forest.specs.Queries.{blockAbove}
+use Rattle.forest.specs.Inside.Queries.{blockAbove}
 use Rattle.forest.proofs.query.block_above.Statement.{statement}
 use Rattle.forest.proofs.query.block_above.Tie as tie
 

@@ -1,6 +1,6 @@
 -- `query::bridge_blocks_differ` compares the bridge-block names of two vertices.
 use borrow.Author.Needs.{needs}
-use Rattle.forest.specs.Queries.{bridgeBlocksDiffer}
+use Rattle.forest.specs.Inside.Queries.{bridgeBlocksDiffer}
 use Rattle.forest.proofs.query.bridge_blocks_differ.Statement.{statement}
 use Rattle.forest.proofs.query.bridge_blocks_differ.Tie as tie
 

@@ -1,6 +1,6 @@
 -- `query::ends_differ` compares the bridge-block names of an edge's two ends.
 use borrow.Author.Needs.{needs}
-use Rattle.forest.specs.Queries.{bridgeIn}
+use Rattle.forest.specs.Inside.Queries.{bridgeIn}
 use Rattle.forest.proofs.query.ends_differ.Statement.{statement}
 use Rattle.forest.proofs.query.ends_differ.Tie as tie
 

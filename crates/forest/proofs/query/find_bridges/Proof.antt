@@ -6,17 +6,17 @@ use native.Mathlib.Nat.{sub-zero}
 use native.Mathlib.Omega.{arith}
 use borrow.Author.Needs.{needs}
 use lib.ListN.{length}
-use Rattle.forest.specs.Queries.{findFrom, bridgesFound}
+use Rattle.forest.specs.Inside.Queries.{findFrom, bridgesFound}
 use Rattle.forest.proofs.QuerySteps.{find-step, find-end, find-count-bound}
 use Rattle.forest.proofs.query.find_bridges.Statement.{statement}
 use Rattle.forest.proofs.query.find_bridges.Tie as tie
 
 abbrev Inv-loop : tie.InvT-loop
-Inv-loop t₀ caps route count₀ i₀ t count i =
-    (findFrom t caps i (route .steps - i) count ≡ findFrom t₀ caps 0 (route .steps) 0) × (count ≤ i) × (length t ≡ length t₀)
+Inv-loop t₀ limits route count₀ i₀ t count i =
+    (findFrom t limits i (route .steps - i) count ≡ findFrom t₀ limits 0 (route .steps) 0) × (count ≤ i) × (length t ≡ length t₀)
 
 abbrev μ-loop : tie.MeasureT-loop
-μ-loop t₀ caps route count₀ i₀ t count i = route .steps - i
+μ-loop t₀ limits route count₀ i₀ t count i = route .steps - i
 
 climb-requires : tie.Need-climb-requires Inv-loop μ-loop
 climb-requires c κs = search needs
@@ -40,9 +40,9 @@ loop-again c =
     let at-loop = at-if1 .before .before in
     let l = at-loop .loop in
     let at-climb = at-loop .before .before .before in
-    let caps = at-climb .before .before .before .args .caps in
-    let step = find-step (l .t) caps (at-climb .climb .result .steps) (l .i) (l .count) (at-if1 .if1 .taken) in
-    let bound = find-count-bound (l .t) caps (l .i) (l .count) in (
+    let limits = at-climb .before .before .before .args .limits in
+    let step = find-step (l .t) limits (at-climb .climb .result .steps) (l .i) (l .count) (at-if1 .if1 .taken) in
+    let bound = find-count-bound (l .t) limits (l .i) (l .count) in (
       rw (at-find-one .find-one .ensures .0, at-find-one .find-one .ensures .1) (sym step ∙ l .inv .0),
       rw (at-find-one .find-one .ensures .1) (omega arith),
       at-find-one .find-one .kept .0 ∙ l .inv .2,
@@ -62,12 +62,12 @@ returns c =
     let args = at-climb .before .before .before .args in
     find-end
     (l .t)
-    (args .caps)
+    (args .limits)
     (at-climb .climb .result .steps)
     (l .i)
     (l .count)
     (c .if1 .left)
-    (bridgesFound (args .t .now) (args .caps) (args .a .0) (args .b .0))
+    (bridgesFound (args .t .now) (args .limits) (args .a .0) (args .b .0))
     (l .inv .0 ∙ rw (at-climb .climb .ensures .0, at-climb .climb .ensures .1))
 
 pub find-bridges-spec : {M : Type 1} → statement M

@@ -1,6 +1,6 @@
 -- `query::find_cuts` leaves the path in the table, and counts the vertices between its ends.
 use borrow.Author.Needs.{needs}
-use Rattle.forest.specs.Queries.{cutsCount}
+use Rattle.forest.specs.Inside.Queries.{cutsCount}
 use Rattle.forest.proofs.query.find_cuts.Statement.{statement}
 use Rattle.forest.proofs.query.find_cuts.Tie as tie
 

@@ -4,8 +4,8 @@ use Prim.Native.Nat.{_+_}
 use native.Mathlib.Numerals.{add-one}
 use borrow.Author.Needs.{needs}
 use denote.Ref.{now}
-use Rattle.forest.specs.Climb.{pathVertex}
-use Rattle.forest.specs.Queries.{bridgeBlocksDiffer, findTable, findCount}
+use Rattle.forest.specs.Inside.Climb.{pathVertex}
+use Rattle.forest.specs.Inside.Queries.{bridgeBlocksDiffer, findTable, findCount}
 use Rattle.forest.proofs.query.find_one.Statement.{statement}
 use Rattle.forest.proofs.query.find_one.Tie as tie
 
@@ -51,9 +51,9 @@ asked : (c : tie.After-bridge-blocks-differ) →
     c .bridge-blocks-differ .result
     ≡ bridgeBlocksDiffer
     (now (s .args .t))
-    (s .args .caps)
-    (pathVertex (now (s .args .t)) (s .args .caps) (s .args .i))
-    (pathVertex (now (s .args .t)) (s .args .caps) (s .args .i + 1))
+    (s .args .limits)
+    (pathVertex (now (s .args .t)) (s .args .limits) (s .args .i))
+    (pathVertex (now (s .args .t)) (s .args .limits) (s .args .i + 1))
 asked c =
     let at-word2 = c .before .before in
     let at-vertex-area2 = at-word2 .before in

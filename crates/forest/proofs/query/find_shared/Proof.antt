@@ -1,6 +1,6 @@
 -- `query::find_shared` gives the block that two vertices share.
 use borrow.Author.Needs.{needs}
-use Rattle.forest.specs.Queries.{sharedIn}
+use Rattle.forest.specs.Inside.Queries.{sharedIn}
 use Rattle.forest.proofs.query.find_shared.Statement.{statement}
 use Rattle.forest.proofs.query.find_shared.Tie as tie
 

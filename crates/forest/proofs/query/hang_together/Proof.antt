@@ -1,7 +1,7 @@
 -- `query::hang_together` tells whether two vertices hang below one block.
 use borrow.Author.Needs.{needs}
 use borrow.Author.Tests.{eq-eqb, ne-eqb}
-use Rattle.forest.specs.Queries.{hangTogether}
+use Rattle.forest.specs.Inside.Queries.{hangTogether}
 use Rattle.forest.proofs.query.hang_together.Statement.{statement}
 use Rattle.forest.proofs.query.hang_together.Tie as tie
 

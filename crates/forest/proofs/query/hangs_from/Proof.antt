@@ -1,7 +1,7 @@
 -- `query::hangs_from` tells whether a vertex is the one above the block that another hangs below.
 use borrow.Author.Needs.{needs}
 use borrow.Author.Tests.{eq-eqb, ne-eqb}
-use Rattle.forest.specs.Queries.{hangsFrom}
+use Rattle.forest.specs.Inside.Queries.{hangsFrom}
 use Rattle.forest.proofs.query.hangs_from.Statement.{statement}
 use Rattle.forest.proofs.query.hangs_from.Tie as tie
 

@@ -2,7 +2,7 @@
 use mathlib.Core.Path.{refl}
 use native.Mathlib.Omega.{arith}
 use borrow.Author.Needs.{needs}
-use Rattle.forest.specs.Tree.{pathVertices, pathEdges, condenseGrown}
+use Rattle.forest.specs.Inside.Tree.{pathVertices, pathEdges, condenseGrown}
 use Rattle.forest.proofs.TreeSteps.{route-most}
 use Rattle.forest.proofs.tree.condense.Statement.{statement}
 use Rattle.forest.proofs.tree.condense.Tie as tie
@@ -14,7 +14,7 @@ add-vertices : tie.Need-add-vertices
 add-vertices c =
     let at-climb = c .before .before in
     let args = at-climb .before .before .before .args in
-    let most = route-most (args .t .now) (args .caps) (args .a .0) (args .b .0) in
+    let most = route-most (args .t .now) (args .limits) (args .a .0) (args .b .0) in
     rw (at-climb .climb .ensures .1) (omega arith)
 
 bridge-block-area-requires : tie.Need-bridge-block-area-requires

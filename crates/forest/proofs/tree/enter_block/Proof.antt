@@ -1,7 +1,7 @@
 -- `tree::enter_block` puts an edge into a block: the steps of the code are those of `enterBlock`.
 use borrow.Author.Needs.{needs}
-use Rattle.table.specs.Merge.{leastOf}
-use Rattle.forest.specs.Tree.{enterBlock}
+use Rattle.table.specs.Inside.Merge.{leastOf}
+use Rattle.forest.specs.Inside.Tree.{enterBlock}
 use Rattle.forest.proofs.tree.enter_block.Statement.{statement}
 use Rattle.forest.proofs.tree.enter_block.Tie as tie
 

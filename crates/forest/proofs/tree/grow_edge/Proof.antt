@@ -2,7 +2,7 @@
 use mathlib.Core.Path.{_≡_}
 use borrow.Author.Tests.{eq-eqb, ne-eqb}
 use borrow.Author.Needs.{needs}
-use Rattle.forest.specs.Tree.{endsTable, edgeGrown}
+use Rattle.forest.specs.Inside.Tree.{endsTable, edgeGrown}
 use Rattle.forest.proofs.tree.grow_edge.Statement.{statement}
 use Rattle.forest.proofs.tree.grow_edge.Tie as tie
 
@@ -51,7 +51,7 @@ returns c =
     let at-set-word = at-vertex-area .before .before .before .before in
     let at-edge-area = at-set-word .before in
     let args = at-edge-area .before .before .before .before .before .args in
-    let ends : at-set-word .set-word .last .0 ≡ endsTable (args .t .now) (args .caps) (args .e .0) (args .a .0) (args .b .0) =
+    let ends : at-set-word .set-word .last .0 ≡ endsTable (args .t .now) (args .limits) (args .e .0) (args .a .0) (args .b .0) =
     rw (at-set-word .set-word .ensures, at-edge-area .edge-area .ensures) in
     let test =
     rw (
@@ -77,7 +77,7 @@ returns-2 c =
     let at-set-word = at-vertex-area .before .before .before .before in
     let at-edge-area = at-set-word .before in
     let args = at-edge-area .before .before .before .before .before .args in
-    let ends : at-set-word .set-word .last .0 ≡ endsTable (args .t .now) (args .caps) (args .e .0) (args .a .0) (args .b .0) =
+    let ends : at-set-word .set-word .last .0 ≡ endsTable (args .t .now) (args .limits) (args .e .0) (args .a .0) (args .b .0) =
     rw (at-set-word .set-word .ensures, at-edge-area .edge-area .ensures) in
     let test =
     rw (

@@ -1,6 +1,6 @@
 -- `tree::grow_vertex` makes a vertex a component, a bridge-block and a root: the steps of the code are those of `vertexTable`.
 use borrow.Author.Needs.{needs}
-use Rattle.forest.specs.Tree.{vertexTable}
+use Rattle.forest.specs.Inside.Tree.{vertexTable}
 use Rattle.forest.proofs.tree.grow_vertex.Statement.{statement}
 use Rattle.forest.proofs.tree.grow_vertex.Tie as tie
 

@@ -1,7 +1,7 @@
 -- `tree::hang` hangs a component below a vertex: the steps of the code are those of `hangTable`.
 use native.Mathlib.Numerals.{add-one}
 use borrow.Author.Needs.{needs}
-use Rattle.forest.specs.Tree.{hangTable}
+use Rattle.forest.specs.Inside.Tree.{hangTable}
 use Rattle.forest.proofs.tree.hang.Statement.{statement}
 use Rattle.forest.proofs.tree.hang.Tie as tie
 

@@ -1,7 +1,7 @@
 -- `tree::link` links two components: the steps of the code are those of `linkGrown`.
 use mathlib.Core.Path.{refl}
 use borrow.Author.Needs.{needs}
-use Rattle.forest.specs.Tree.{listEnds, pathVertices, linkGrown}
+use Rattle.forest.specs.Inside.Tree.{listEnds, pathVertices, linkGrown}
 use Rattle.forest.proofs.tree.link.Statement.{statement}
 use Rattle.forest.proofs.tree.link.Tie as tie
 

@@ -1,6 +1,6 @@
 -- `tree::new_group` makes a group of one item: the steps of the code are those of `newGroup`.
 use borrow.Author.Needs.{needs}
-use Rattle.forest.specs.Tree.{newGroup}
+use Rattle.forest.specs.Inside.Tree.{newGroup}
 use Rattle.forest.proofs.tree.new_group.Statement.{statement}
 use Rattle.forest.proofs.tree.new_group.Tie as tie
 

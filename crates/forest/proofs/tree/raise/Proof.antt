@@ -6,16 +6,16 @@ use native.Mathlib.Omega.{arith}
 use native.Mathlib.Nat.{sub-zero}
 use borrow.Author.Needs.{needs}
 use lib.ListN.{length}
-use Rattle.forest.specs.Tree.{raiseFrom}
+use Rattle.forest.specs.Inside.Tree.{raiseFrom}
 use Rattle.forest.proofs.TreeSteps.{raise-step, raise-end}
 use Rattle.forest.proofs.tree.raise.Statement.{statement}
 use Rattle.forest.proofs.tree.raise.Tie as tie
 
 abbrev Inv-loop : tie.InvT-loop
-Inv-loop t₀ caps changed by i₀ t i = (raiseFrom (changed - i) t caps by i ≡ raiseFrom changed t₀ caps by 0) × (length t ≡ length t₀)
+Inv-loop t₀ limits changed by i₀ t i = (raiseFrom (changed - i) t limits by i ≡ raiseFrom changed t₀ limits by 0) × (length t ≡ length t₀)
 
 abbrev μ-loop : tie.MeasureT-loop
-μ-loop t₀ caps changed by i₀ t i = changed - i
+μ-loop t₀ limits changed by i₀ t i = changed - i
 
 loop-holds : tie.Need-loop-holds Inv-loop μ-loop
 loop-holds c = (rw sub-zero, refl)
@@ -60,7 +60,7 @@ loop-again c =
     let at-loop = at-loop-test .before in
     let now = at-loop .loop in
     let args = at-loop .before .before .args in
-    let step = raise-step (now .t) (args .caps) (args .by) (now .i) (args .changed) (at-loop-test .loop-test .taken) in (
+    let step = raise-step (now .t) (args .limits) (args .by) (now .i) (args .changed) (at-loop-test .loop-test .taken) in (
       rw (
         at-set-word .set-word .ensures,
         at-wrapping-add-u32 .wrapping-add-u32 .ensures,
@@ -81,7 +81,7 @@ returns : tie.Need-returns Inv-loop μ-loop
 returns c =
     let now = c .before .loop in
     let args = c .before .before .before .args in
-    let last = raise-end (now .t) (args .caps) (args .by) (now .i) (args .changed) (c .loop-test .left) in
+    let last = raise-end (now .t) (args .limits) (args .by) (now .i) (args .changed) (c .loop-test .left) in
     sym last ∙ now .inv .0
 
 pub raise-spec : {M : Type 1} → statement M

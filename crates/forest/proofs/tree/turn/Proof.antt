@@ -7,10 +7,10 @@ use Rattle.forest.proofs.tree.turn.Statement.{statement}
 use Rattle.forest.proofs.tree.turn.Tie as tie
 
 abbrev Inv-loop : tie.InvT-loop
-Inv-loop t₀ caps state₀ t state = (turnAll t caps state ≡ turnAll t₀ caps state₀) × (length t ≡ length t₀)
+Inv-loop t₀ limits state₀ t state = (turnAll t limits state ≡ turnAll t₀ limits state₀) × (length t ≡ length t₀)
 
 abbrev μ-loop : tie.MeasureT-loop
-μ-loop t₀ caps state₀ t state = state .left
+μ-loop t₀ limits state₀ t state = state .left
 
 loop-holds : tie.Need-loop-holds Inv-loop μ-loop
 loop-holds c = (refl, refl)
@@ -25,7 +25,7 @@ loop-less c =
     let at-loop = at-if1 .before .before in
     let now = at-loop .loop in
     let args = at-loop .before .before .args in
-    rw (at-turn-one .turn-one .ensures .1) (turn-less (now .t) (args .caps) (now .state) (at-if1 .if1 .taken))
+    rw (at-turn-one .turn-one .ensures .1) (turn-less (now .t) (args .limits) (now .state) (at-if1 .if1 .taken))
 
 loop-again : tie.Need-loop-again Inv-loop μ-loop
 loop-again c =
@@ -34,7 +34,7 @@ loop-again c =
     let at-loop = at-if1 .before .before in
     let now = at-loop .loop in
     let args = at-loop .before .before .args in
-    let step = turn-step (now .t) (args .caps) (now .state) (at-if1 .if1 .taken) in (
+    let step = turn-step (now .t) (args .limits) (now .state) (at-if1 .if1 .taken) in (
       rw (at-turn-one .turn-one .ensures .0, at-turn-one .turn-one .ensures .1) (sym step ∙ now .inv .0),
       at-turn-one .turn-one .kept .0 ∙ now .inv .1,
     )
@@ -47,7 +47,7 @@ returns c =
     let at-loop = c .before .before in
     let now = at-loop .loop in
     let args = at-loop .before .before .args in
-    sym (turn-end (now .t) (args .caps) (now .state) (c .if1 .left)) ∙ now .inv .0
+    sym (turn-end (now .t) (args .limits) (now .state) (c .if1 .left)) ∙ now .inv .0
 
 pub turn-spec : {M : Type 1} → statement M
 turn-spec =

@@ -3,8 +3,8 @@ use mathlib.Core.Path.{_≡_}
 use Prim.Native.Nat.{_-_}
 use borrow.Author.Tests.{eq-eqb, ne-eqb}
 use borrow.Author.Needs.{needs}
-use Rattle.forest.specs.Climb.{blockOf, topOf}
-use Rattle.forest.specs.Tree.{hungVertex, turnedTable, turnedState}
+use Rattle.forest.specs.Inside.Climb.{aboveEdge}
+use Rattle.forest.specs.Inside.Tree.{hungVertex, hungBlock, turnedTable, turnedState}
 use Rattle.forest.proofs.tree.turn_one.Statement.{statement}
 use Rattle.forest.proofs.tree.turn_one.Tie as tie
 
@@ -79,7 +79,7 @@ same-length-2 : tie.Need-same-length-2
 same-length-2 c = search needs
 
 returns-2 : tie.Need-returns-2
-unfolding hungVertex turnedTable turnedState
+unfolding hungVertex hungBlock turnedTable turnedState aboveEdge
 returns-2 c =
     let at-wrapping-add-u32 = c .before in
     let at-set-word3 = at-wrapping-add-u32 .before .before .before in
@@ -93,9 +93,9 @@ returns-2 c =
     let at-vertex-area = at-set-word .before in
     let at-up = at-vertex-area .before .before in
     let args = at-up .before .before .before .before .args in
-    let hung = hungVertex (args .t .now) (args .caps) (args .s) in
+    let hung = hungVertex (args .t .now) (args .limits) (args .s .at .0) (args .s .up) (args .s .depth) in
     let e = ne-eqb (at-up .up .result) 0 (at-if1 .if1 .left) in
-    let next : at-top .top .result .0 ≡ topOf hung (args .caps) (blockOf hung (args .caps) (at-up .up .result - 1)) =
+    let next : at-top .top .result .0 ≡ aboveEdge hung (args .limits) (at-up .up .result - 1) =
     rw (
       at-top .top .ensures,
       at-block-of .block-of .ensures,

@@ -1,6 +1,6 @@
 -- `run::refuse` keeps all but the refusal's number.
 use mathlib.Core.Path.{refl}
-use Rattle.journal.specs.Runs.{refusedProgress}
+use Rattle.journal.specs.Inside.Runs.{refusedProgress}
 use Rattle.journal.proofs.run.refuse.Statement.{statement}
 use Rattle.journal.proofs.run.refuse.Tie as tie
 

@@ -1,32 +1,36 @@
 -- `run::run` takes one command after another. The loop's invariant: what is done and what is left are the definition's run. The measure is
 -- what is left of the journal.
-use mathlib.Core.Path.{sym, _∙_}
+use mathlib.Core.Path.{sym, _∙_, subst}
 use borrow.Author.Needs.{needs}
 use lib.ListN.{length}
-use Rattle.forest.proofs.EmptyTable.{empty-valid, empty-book}
+use Rattle.journal.specs.Inside.Steps.{capacitiesOf}
+use Rattle.journal.specs.Inside.Runs.{wholeOf, RunPromise}
 use Rattle.journal.proofs.RunWhole.{SoFar, step-on, underway}
-use Rattle.journal.proofs.RunEnd.{atStart, goes-on-tells, stepsLeft, fewer-steps, wholeOf, whole-fits, starts, run-promised}
+use Rattle.journal.proofs.RunEnd.{atStart, begun-limits, begun-own, goes-on-tells, stepsLeft, fewer-steps, whole-fits, starts, run-promised}
 use Rattle.journal.proofs.run.run.Statement.{statement}
 use Rattle.journal.proofs.run.run.Tie as tie
 
 abbrev Inv-loop : tie.InvT-loop
 Inv-loop journal work₀ answers₀ p₀ work answers p =
-    SoFar (p₀ .shape .caps) (wholeOf (p₀ .shape .caps) journal answers₀) journal p work₀ work answers₀ answers
+    SoFar (p₀ .shape .limits) (wholeOf (capacitiesOf (p₀ .shape .limits)) journal answers₀) journal p work₀ work answers₀ answers
 
 abbrev μ-loop : tie.MeasureT-loop
 μ-loop journal work₀ answers₀ p₀ work answers p = stepsLeft (length journal) p
 
+begin-requires : tie.Need-begin-requires Inv-loop μ-loop
+begin-requires c κs = search needs
+
 loop-holds : tie.Need-loop-holds Inv-loop μ-loop
 unfolding atStart
 loop-holds c =
-    let s = c .before .before .before in
+    let s = c .before .before .before .before .before in
     starts
-    (s .args .caps)
+    (c .begin .result .limits)
     (s .args .journal .now)
     (s .args .work .now)
     (s .args .answers .now)
-    (empty-valid (s .args .caps) (s .args .work .now) (s .pre .2) (s .pre .0) (s .pre .1))
-    (empty-book (s .args .caps) (s .args .work .now))
+    (c .begin .result)
+    (begun-own (c .begin .ensures))
 
 goes-on-requires : tie.Need-goes-on-requires Inv-loop μ-loop
 goes-on-requires c κs = search needs
@@ -36,12 +40,13 @@ run-one-requires c κs =
     let at-if1 = c .before .before in
     let at-goes-on = at-if1 .before in
     let at-loop = at-goes-on .before in
-    let s = at-loop .before .before .before .before in
+    let at-begin = at-loop .before in
+    let s = at-begin .before .before .before .before .before in
     let l = at-loop .loop in
     let tells = goes-on-tells (l .p) (length (s .args .journal .now)) (sym (at-goes-on .goes-on .ensures) ∙ at-if1 .if1 .taken) in
     underway
-    (s .args .caps)
-    (wholeOf (s .args .caps) (s .args .journal .now) (s .args .answers .now))
+    (at-begin .begin .result .limits)
+    (wholeOf (capacitiesOf (at-begin .begin .result .limits)) (s .args .journal .now) (s .args .answers .now))
     (s .args .journal .now)
     (s .args .work .now)
     (s .args .answers .now)
@@ -52,7 +57,7 @@ run-one-requires c κs =
     (tells .0)
     (tells .1)
     (s .pre .3)
-    (whole-fits (s .args .caps) (s .args .journal .now) (s .args .answers .now))
+    (whole-fits (capacitiesOf (at-begin .begin .result .limits)) (s .args .journal .now) (s .args .answers .now))
 
 loop-less : tie.Need-loop-less Inv-loop μ-loop
 loop-less c =
@@ -60,7 +65,8 @@ loop-less c =
     let at-if1 = at-run-one .before .before .before in
     let at-goes-on = at-if1 .before in
     let at-loop = at-goes-on .before in
-    let s = at-loop .before .before .before .before in
+    let at-begin = at-loop .before in
+    let s = at-begin .before .before .before .before .before in
     let l = at-loop .loop in
     let tells = goes-on-tells (l .p) (length (s .args .journal .now)) (sym (at-goes-on .goes-on .ensures) ∙ at-if1 .if1 .taken) in
     fewer-steps
@@ -81,12 +87,13 @@ loop-again c =
     let at-if1 = at-run-one .before .before .before in
     let at-goes-on = at-if1 .before in
     let at-loop = at-goes-on .before in
-    let s = at-loop .before .before .before .before in
+    let at-begin = at-loop .before in
+    let s = at-begin .before .before .before .before .before in
     let l = at-loop .loop in
     let tells = goes-on-tells (l .p) (length (s .args .journal .now)) (sym (at-goes-on .goes-on .ensures) ∙ at-if1 .if1 .taken) in
     step-on
-    (s .args .caps)
-    (wholeOf (s .args .caps) (s .args .journal .now) (s .args .answers .now))
+    (at-begin .begin .result .limits)
+    (wholeOf (capacitiesOf (at-begin .begin .result .limits)) (s .args .journal .now) (s .args .answers .now))
     (s .args .journal .now)
     (s .args .work .now)
     (s .args .answers .now)
@@ -111,10 +118,13 @@ returns : tie.Need-returns Inv-loop μ-loop
 returns c =
     let at-goes-on = c .before in
     let at-loop = at-goes-on .before in
-    let s = at-loop .before .before .before .before in
+    let at-begin = at-loop .before in
+    let s = at-begin .before .before .before .before .before in
     let l = at-loop .loop in
-    run-promised
-    (s .args .caps)
+    let same = begun-limits (at-begin .begin .ensures) in
+    subst (λ l. RunPromise l (wholeOf (capacitiesOf l) (s .args .journal .now) (s .args .answers .now)) (at-loop .loop .p) (s .args .work .now) (at-loop .loop .work) (s .args .answers .now) (at-loop .loop .answers)) same
+    (run-promised
+    (at-begin .begin .result .limits)
     (s .args .journal .now)
     (s .args .work .now)
     (s .args .answers .now)
@@ -122,10 +132,10 @@ returns c =
     (l .work)
     (l .answers)
     (l .inv)
-    (s .pre .0)
-    (s .pre .1)
+    (rw same (s .pre .0))
+    (rw same (s .pre .1))
     (s .pre .3)
-    (sym (at-goes-on .goes-on .ensures) ∙ c .if1 .left)
+    (sym (at-goes-on .goes-on .ensures) ∙ c .if1 .left))
 
 pub run-spec : {M : Type 1} → statement M
 run-spec =
@@ -133,6 +143,7 @@ run-spec =
     (tie.spec
     Inv-loop
     μ-loop
+    begin-requires
     loop-holds
     goes-on-requires
     run-one-requires

@@ -1,7 +1,7 @@
 -- `run::run_one` takes what stands at the run's place: what it makes of the run is what is left of it.
 use mathlib.Core.Path.{sym, _∙_, ap}
 use borrow.Author.Needs.{needs}
-use Rattle.journal.specs.Reads.{meaning, readingOf}
+use Rattle.reading.specs.Inside.Reads.{meaning, readingOf}
 use Rattle.journal.proofs.RunStep.{unknown-ends, cut-off-ends, ready, order-goes-on}
 use Rattle.journal.proofs.run.run_one.Statement.{statement}
 use Rattle.journal.proofs.run.run_one.Tie as tie

@@ -1,7 +1,7 @@
 -- `run::run_order` hands a command to the step, with the room behind what is written, and moves on behind it or ends the run.
 use native.Mathlib.Omega.{arith}
 use borrow.Author.Needs.{needs}
-use Rattle.journal.specs.Reads.{meaning}
+use Rattle.reading.specs.Inside.Reads.{meaning}
 use Rattle.journal.proofs.RunStep.{size-fits, order-done, order-refused}
 use Rattle.journal.proofs.run.run_order.Statement.{statement}
 use Rattle.journal.proofs.run.run_order.Tie as tie

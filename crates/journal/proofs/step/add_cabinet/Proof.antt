@@ -13,21 +13,21 @@ returns c =
     let s = c .before .before .before .before .before .before in
     cabinet-full (s .args .shape) (s .args .t .now) (s .args .out .now) (c .if1 .taken)
 
-write-field-requires : tie.Need-write-field-requires
-write-field-requires c κs = search needs
+write-cabinet-requires : tie.Need-write-cabinet-requires
+write-cabinet-requires c κs = search needs
 
 enum-known-w : tie.Need-enum-known-w
 enum-known-w c = search needs
 
 add-vertex-requires : tie.Need-add-vertex-requires
 add-vertex-requires c κs =
-    let at-write-field = c .before .before .before .before .before .before in
-    let at-if1 = at-write-field .before .before in
+    let at-write-cabinet = c .before .before .before .before .before .before in
+    let at-if1 = at-write-cabinet .before .before in
     let s = at-if1 .before .before .before .before .before .before in
     (s .pre, at-if1 .if1 .left)
 
-add-t15 : tie.Need-add-t15
-add-t15 c = search needs
+add-t16 : tie.Need-add-t16
+add-t16 c = search needs
 
 enum-told : tie.Need-enum-told
 enum-told c = search needs
@@ -42,18 +42,18 @@ returns-2 : tie.Need-returns-2
 returns-2 c =
     let at-add-vertex = c .before .before .before in
     let at-w = at-add-vertex .before .before .before in
-    let at-write-field = at-w .before .before .before .before in
-    let at-if1 = at-write-field .before .before in
+    let at-write-cabinet = at-w .before .before .before .before in
+    let at-if1 = at-write-cabinet .before .before in
     let s = at-if1 .before .before .before .before .before .before in
     cabinet-step
     (s .args .shape)
     (s .args .out .now)
-    (at-write-field .write-field .last .0)
+    (at-write-cabinet .write-cabinet .last .0)
     (at-if1 .if1 .left)
     (s .args .t .now)
     (at-add-vertex .add-vertex .last .0)
     _
-    (rw (at-w .w .given .1) at (at-write-field .write-field .ensures))
+    (rw (at-w .w .given .1) at (at-write-cabinet .write-cabinet .ensures))
     (at-add-vertex .add-vertex .ensures)
 
 same-length-3 : tie.Need-same-length-3
@@ -61,16 +61,16 @@ same-length-3 c = search needs
 
 returns-3 : tie.Need-returns-3
 returns-3 c =
-    let at-write-field = c .before .before .before .before in
-    let at-if1 = at-write-field .before .before in
+    let at-write-cabinet = c .before .before .before .before in
+    let at-if1 = at-write-cabinet .before .before in
     let s = at-if1 .before .before .before .before .before .before in
     cabinet-no-room
     (s .args .shape)
     (s .args .out .now)
-    (at-write-field .write-field .last .0)
+    (at-write-cabinet .write-cabinet .last .0)
     (at-if1 .if1 .left)
     (s .args .t .now)
-    (rw (c .enum-told .given .1) at (at-write-field .write-field .ensures))
+    (rw (c .enum-told .given .1) at (at-write-cabinet .write-cabinet .ensures))
 
 pub add-cabinet-spec : {M : Type 1} → statement M
 add-cabinet-spec =
@@ -78,10 +78,10 @@ add-cabinet-spec =
     (tie.spec
     cast-if1
     returns
-    write-field-requires
+    write-cabinet-requires
     enum-known-w
     add-vertex-requires
-    add-t15
+    add-t16
     enum-told
     same-length
     same-length-2

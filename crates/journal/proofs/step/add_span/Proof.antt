@@ -67,13 +67,11 @@ add-edge-requires c κs =
 
 write-span-requires : tie.Need-write-span-requires
 write-span-requires c κs =
-    let at-add-edge = c .before .before .before .before in
+    let at-add-edge = c .before .before .before .before .before in
     let at-if3 = at-add-edge .before .before in
     let s = at-if3 .before .before .before .before .before .before .before .before .before .before .before in
     few-notices
-    (s .args .shape .caps)
-    (s .args .shape .vertices)
-    (s .args .shape .edges)
+    (s .args .shape)
     (s .args .a .0)
     (s .args .b .0)
     (s .args .t .now)
@@ -82,8 +80,8 @@ write-span-requires c κs =
     (at-add-edge .add-edge .ensures)
     (s .pre)
 
-add-t11 : tie.Need-add-t11
-add-t11 c = search needs
+add-t12 : tie.Need-add-t12
+add-t12 c = search needs
 
 answered-requires : tie.Need-answered-requires
 answered-requires c κs = search needs
@@ -96,8 +94,8 @@ same-length-2 c = search needs
 
 returns-4 : tie.Need-returns-4
 returns-4 c =
-    let at-write-span = c .before .before .before .before in
-    let at-add-edge = at-write-span .before .before .before .before .before in
+    let at-write-span = c .before .before .before in
+    let at-add-edge = at-write-span .before .before .before .before .before .before in
     let at-if3 = at-add-edge .before .before in
     let at-if2 = at-if3 .before .before .before in
     let at-if1 = at-if2 .before .before .before in
@@ -136,8 +134,8 @@ add-span-spec =
     cast-if3
     returns-3
     add-edge-requires
+    add-t12
     write-span-requires
-    add-t11
     answered-requires
     same-length
     same-length-2

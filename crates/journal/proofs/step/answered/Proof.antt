@@ -1,6 +1,6 @@
 -- `step::answered` ends a step by the bytes written, or by refusal 11.
 use borrow.Author.Needs.{needs}
-use Rattle.journal.specs.Steps.{answeredOf}
+use Rattle.journal.specs.Inside.Steps.{answeredOf}
 use Rattle.journal.proofs.step.answered.Statement.{statement}
 use Rattle.journal.proofs.step.answered.Tie as tie
 

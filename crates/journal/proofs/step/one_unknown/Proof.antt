@@ -1,6 +1,6 @@
 -- `step::one_unknown` tells whether one of two cabinets is not known.
 use borrow.Author.Tests.{le-leb, lt-leb}
-use Rattle.journal.specs.Steps.{oneUnknown}
+use Rattle.journal.specs.Inside.Steps.{oneUnknown}
 use Rattle.journal.proofs.step.one_unknown.Statement.{statement}
 use Rattle.journal.proofs.step.one_unknown.Tie as tie
 

@@ -1,8 +1,7 @@
 -- `step::pair_refusal` gives the refusal of two cabinets: one of them is not known, or they are in two districts.
 use mathlib.Core.Path.{sym, _∙_}
 use borrow.Author.Needs.{needs}
-use Rattle.forest.specs.Valid.{bookOf}
-use Rattle.journal.specs.Steps.{pairRefusal, bookIn}
+use Rattle.journal.specs.Inside.Steps.{pairRefusal}
 use Rattle.journal.proofs.StepCauses.{both-known}
 use Rattle.journal.proofs.step.pair_refusal.Statement.{statement}
 use Rattle.journal.proofs.step.pair_refusal.Tie as tie
@@ -21,14 +20,14 @@ same-component-requires c κs =
     (s .pre, known .0, known .1)
 
 returns-2 : tie.Need-returns-2
-unfolding pairRefusal bookIn bookOf
+unfolding pairRefusal
 returns-2 c =
     let at-same-component = c .before in
     let at-if1 = at-same-component .before in
     rw (← at-if1 .before .one-unknown .ensures, at-if1 .if1 .left, ← at-same-component .same-component .ensures, c .if2 .taken)
 
 returns-3 : tie.Need-returns-3
-unfolding pairRefusal bookIn bookOf
+unfolding pairRefusal
 returns-3 c =
     let at-same-component = c .before in
     let at-if1 = at-same-component .before in

@@ -1,8 +1,9 @@
 -- `step::sole_spans` answers with the sole spans between two cabinets.
 use mathlib.Core.Path.{sym, _∙_}
 use borrow.Author.Needs.{needs}
-use Rattle.journal.specs.declared.write.Answered.the-variants as L
-use Rattle.journal.proofs.StepLists.{asks, pair-refused, pair-accepted, listBetween, listWritten, listCode, list-step}
+use Rattle.writing.specs.declared.write.Answered.the-variants as L
+use Rattle.writing.specs.Inside.Writes.{itemAt}
+use Rattle.journal.proofs.StepLists.{asks, pair-refused, pair-accepted, listBetween, listCode, list-step}
 use Rattle.journal.proofs.step.sole_spans.Statement.{statement}
 use Rattle.journal.proofs.step.sole_spans.Tie as tie
 
@@ -16,11 +17,10 @@ returns : tie.Need-returns
 unfolding asks
 returns c =
     let at-pair-refusal = c .before in
-    let s = at-pair-refusal .before .before .before .before .before in
+    let s = at-pair-refusal .before .before .before .before in
     pair-refused
     (s .args .shape)
     (s .args .t .now)
-    (s .pre)
     L.Spans
     (s .args .a .0)
     (s .args .b .0)
@@ -33,8 +33,8 @@ bridges-between-requires : tie.Need-bridges-between-requires
 bridges-between-requires c κs =
     let at-if1 = c .before in
     let at-pair-refusal = at-if1 .before in
-    let s = at-pair-refusal .before .before .before .before .before in
-    let pair = pair-accepted (s .args .shape) (s .args .t .now) (s .pre) L.Spans (s .args .a .0) (s .args .b .0) (sym (at-pair-refusal .pair-refusal .ensures) ∙ at-if1 .if1 .left) in
+    let s = at-pair-refusal .before .before .before .before in
+    let pair = pair-accepted (s .args .shape) (s .args .t .now) L.Spans (s .args .a .0) (s .args .b .0) (sym (at-pair-refusal .pair-refusal .ensures) ∙ at-if1 .if1 .left) in
     (s .pre, pair .first-known, pair .second-known, pair .one-district)
 
 write-list-requires : tie.Need-write-list-requires
@@ -50,14 +50,14 @@ same-length-3 : tie.Need-same-length-3
 same-length-3 c = search needs
 
 returns-2 : tie.Need-returns-2
-unfolding asks listBetween listWritten listCode
+unfolding asks listBetween listCode itemAt
 returns-2 c =
     let at-write-list = c .before .before .before in
     let at-bridges-between = at-write-list .before .before .before .before .before in
     let at-if1 = at-bridges-between .before .before in
     let at-pair-refusal = at-if1 .before in
-    let s = at-pair-refusal .before .before .before .before .before in
-    let pair = pair-accepted (s .args .shape) (s .args .t .now) (s .pre) L.Spans (s .args .a .0) (s .args .b .0) (sym (at-pair-refusal .pair-refusal .ensures) ∙ at-if1 .if1 .left) in
+    let s = at-pair-refusal .before .before .before .before in
+    let pair = pair-accepted (s .args .shape) (s .args .t .now) L.Spans (s .args .a .0) (s .args .b .0) (sym (at-pair-refusal .pair-refusal .ensures) ∙ at-if1 .if1 .left) in
     rw
     (c .answered .ensures)
     (list-step

@@ -1,6 +1,7 @@
 -- `step::step` takes the step of the command that an order is.
 use borrow.Author.Needs.{needs}
-use Rattle.journal.specs.Reads.{meaning}
+use Rattle.reading.specs.Inside.Reads.{meaning}
+use Rattle.journal.specs.Inside.Steps.{asksName}
 use Rattle.journal.proofs.step.step.Statement.{statement}
 use Rattle.journal.proofs.step.step.Tie as tie
 
@@ -19,14 +20,14 @@ add-span-requires c κs = search needs
 enum-known-order-2 : tie.Need-enum-known-order-2
 enum-known-order-2 c = search needs
 
-district-name-requires : tie.Need-district-name-requires
-district-name-requires c κs = search needs
+group-name-requires : tie.Need-group-name-requires
+group-name-requires c κs = search needs
 
 enum-known-order-3 : tie.Need-enum-known-order-3
 enum-known-order-3 c = search needs
 
-ring-name-requires : tie.Need-ring-name-requires
-ring-name-requires c κs = search needs
+group-name-requires-2 : tie.Need-group-name-requires-2
+group-name-requires-2 c κs = search needs
 
 enum-known-order-4 : tie.Need-enum-known-order-4
 enum-known-order-4 c = search needs
@@ -83,10 +84,10 @@ same-length-6 : tie.Need-same-length-6
 same-length-6 c = search needs
 
 returns-3 : tie.Need-returns-3
-unfolding meaning
+unfolding meaning asksName
 returns-3 c =
-    let at-district-name = c .before .before in
-    rw (at-district-name .before .before .before .before .order2 .given .1) (at-district-name .district-name .ensures)
+    let at-group-name = c .before .before in
+    rw (at-group-name .before .before .before .before .order2 .given .1) (at-group-name .group-name .ensures)
 
 same-length-7 : tie.Need-same-length-7
 same-length-7 c = search needs
@@ -95,10 +96,10 @@ same-length-8 : tie.Need-same-length-8
 same-length-8 c = search needs
 
 returns-4 : tie.Need-returns-4
-unfolding meaning
+unfolding meaning asksName
 returns-4 c =
-    let at-ring-name = c .before .before in
-    rw (at-ring-name .before .before .before .before .order3 .given .1) (at-ring-name .ring-name .ensures)
+    let at-group-name2 = c .before .before in
+    rw (at-group-name2 .before .before .before .before .order3 .given .1) (at-group-name2 .group-name2 .ensures)
 
 same-length-9 : tie.Need-same-length-9
 same-length-9 c = search needs
@@ -157,9 +158,9 @@ step-spec =
     enum-known-order
     add-span-requires
     enum-known-order-2
-    district-name-requires
+    group-name-requires
     enum-known-order-3
-    ring-name-requires
+    group-name-requires-2
     enum-known-order-4
     shared-mesh-requires
     enum-known-order-5

@@ -1,7 +1,7 @@
 -- `merge::absorb` gives the size of a group to the winner, and widens the pass to the range of the group.
 use borrow.Author.Needs.{needs}
 use borrow.Author.Tests.{eq-eqb, ne-eqb}
-use Rattle.table.specs.Merge.{absorbTable, absorbPass}
+use Rattle.table.specs.Inside.Merge.{absorbTable, absorbPass}
 use Rattle.table.proofs.merge.absorb.Statement.{statement}
 use Rattle.table.proofs.merge.absorb.Tie as tie
 

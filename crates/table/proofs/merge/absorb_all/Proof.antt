@@ -6,7 +6,7 @@ use native.Mathlib.Nat.{sub-zero}
 use native.Mathlib.Omega.{arith}
 use borrow.Author.Needs.{needs}
 use lib.ListN.{length}
-use Rattle.table.specs.Merge.{Absorbed, absorbFrom, absorbListed, noPass}
+use Rattle.table.specs.Inside.Merge.{Absorbed, absorbFrom, absorbListed, noPass}
 use Rattle.table.proofs.MergeSteps.{absorb-step, absorb-end}
 use Rattle.table.proofs.merge.absorb_all.Statement.{statement}
 use Rattle.table.proofs.merge.absorb_all.Tie as tie

@@ -4,7 +4,7 @@ use mathlib.Core.Path.{_≡_, sym, _∙_}
 use Prim.Native.Nat.{_-_}
 use native.Mathlib.Omega.{arith}
 use borrow.Author.Needs.{needs}
-use Rattle.table.specs.Merge.{itemsFrom, bestOver, bestListed}
+use Rattle.table.specs.Inside.Merge.{itemsFrom, bestOver, bestListed}
 use Rattle.table.proofs.MergeSteps.{best-step, best-end}
 use Rattle.table.proofs.merge.best.Statement.{statement}
 use Rattle.table.proofs.merge.best.Tie as tie

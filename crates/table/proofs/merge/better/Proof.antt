@@ -4,7 +4,7 @@ use mathlib.Core.Path.{_≡_}
 use borrow.Author.Needs.{needs}
 use borrow.Author.Tests.{lt-ltb, le-ltb, le-leb, lt-leb}
 use lib.Dec.{leb}
-use Rattle.table.specs.Merge.{betterName}
+use Rattle.table.specs.Inside.Merge.{betterName}
 use Rattle.table.proofs.merge.better.Statement.{statement}
 use Rattle.table.proofs.merge.better.Tie as tie
 

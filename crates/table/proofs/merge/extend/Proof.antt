@@ -1,6 +1,6 @@
 -- `merge::extend` makes the winner's range the hull of itself and the pass.
 use borrow.Author.Needs.{needs}
-use Rattle.table.specs.Merge.{extended}
+use Rattle.table.specs.Inside.Merge.{extended}
 use Rattle.table.proofs.MergeSteps.{widened-to}
 use Rattle.table.proofs.merge.extend.Statement.{statement}
 use Rattle.table.proofs.merge.extend.Tie as tie

@@ -1,6 +1,6 @@
 -- `merge::merge` makes the groups of the listed items one: the steps of the code are those of `mergeListed`.
 use borrow.Author.Needs.{needs}
-use Rattle.table.specs.Merge.{mergeListed}
+use Rattle.table.specs.Inside.Merge.{mergeListed}
 use Rattle.table.proofs.merge.merge.Statement.{statement}
 use Rattle.table.proofs.merge.merge.Tie as tie
 

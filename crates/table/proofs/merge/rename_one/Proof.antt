@@ -2,7 +2,7 @@
 use native.Mathlib.Numerals.{add-one}
 use borrow.Author.Needs.{needs}
 use borrow.Author.Tests.{eq-eqb, ne-eqb}
-use Rattle.table.specs.Merge.{renameTable, renameCount}
+use Rattle.table.specs.Inside.Merge.{renameTable, renameCount}
 use Rattle.table.proofs.merge.rename_one.Statement.{statement}
 use Rattle.table.proofs.merge.rename_one.Tie as tie
 

@@ -5,7 +5,7 @@ use Prim.Native.Nat.{_-_, _≤_}
 use native.Mathlib.Omega.{arith}
 use borrow.Author.Needs.{needs}
 use lib.ListN.{length}
-use Rattle.table.specs.Merge.{Renamed, renameFrom, renamePass}
+use Rattle.table.specs.Inside.Merge.{Renamed, renameFrom, renamePass}
 use Rattle.table.proofs.MergeSteps.{rename-step, rename-end, rename-count-bound}
 use Rattle.table.proofs.merge.rename_pass.Statement.{statement}
 use Rattle.table.proofs.merge.rename_pass.Tie as tie

@@ -1,6 +1,6 @@
 -- `merge::widen` gives the pass widened to a range.
 use borrow.Author.Needs.{needs}
-use Rattle.table.specs.Merge.{widened, leastOf, greatestOf}
+use Rattle.table.specs.Inside.Merge.{widened, leastOf, greatestOf}
 use Rattle.table.proofs.merge.widen.Statement.{statement}
 use Rattle.table.proofs.merge.widen.Tie as tie
 

@@ -2,7 +2,7 @@
 use mathlib.Core.Path.{sym}
 use borrow.Author.Needs.{needs}
 use lib.Seq.{set-out}
-use Rattle.table.specs.Layout.{put}
+use Rattle.table.specs.Inside.Layout.{put}
 use Rattle.table.proofs.words.set_word.Statement.{statement}
 use Rattle.table.proofs.words.set_word.Tie as tie
 

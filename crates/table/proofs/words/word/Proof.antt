@@ -2,7 +2,7 @@
 use mathlib.Core.Path.{sym}
 use borrow.Author.Needs.{needs}
 use lib.ListN.{List·getD-eq-default}
-use Rattle.table.specs.Layout.{cell}
+use Rattle.table.specs.Inside.Layout.{cell}
 use Rattle.table.proofs.words.word.Statement.{statement}
 use Rattle.table.proofs.words.word.Tie as tie
 

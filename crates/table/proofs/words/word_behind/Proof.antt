@@ -1,12 +1,12 @@
 -- `words::word_behind` reads the word behind an item's; where there is none it gives 0.
 use mathlib.Core.Path.{sym}
 use Prim.Native.Nat.{_*_, _≤_}
+use native.Mathlib.Nat.{mul-le-mul}
 use native.Mathlib.Omega.{arith}
 use borrow.Author.Needs.{needs}
 use lib.ListN.{List·getD-eq-default}
-use Rattle.table.specs.Layout.{place, cell}
+use Rattle.table.specs.Inside.Layout.{place, cell}
 use Rattle.table.proofs.Cells.{place-behind}
-use Rattle.table.proofs.Fits.{product-bound}
 use Rattle.table.proofs.words.word_behind.Statement.{statement}
 use Rattle.table.proofs.words.word_behind.Tie as tie
 
@@ -17,7 +17,7 @@ add-at : tie.Need-add-at
 unfolding place
 add-at c =
     let s = c .before .before in
-    let small : s .args .column * s .args .area .size ≤ 255 * 65535 = product-bound {c = 255} {d = 65535} (omega arith) (omega arith) in
+    let small : s .args .column * s .args .area .size ≤ 255 * 65535 = mul-le-mul {n₂ = 255} {m₂ = 65535} (omega arith) (omega arith) in
     rw (c .place-of .ensures) (omega arith)
 
 mul-result : tie.Need-mul-result

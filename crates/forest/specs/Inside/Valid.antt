@@ -1,0 +1,69 @@
+-- When the words of a table are those of a network with its names, and which naming book they hold.
+use mathlib.Core.Bool.{true}
+use mathlib.Core.List.{List}
+use mathlib.Core.Logic.{_⊎_}
+use mathlib.Core.Path.{_≡_}
+use Prim.Native.Nat.{ℕ, suc, _+_, _*_, _/_, _%_, _≤_, _<_}
+use lib.ListN.{length}
+use Rattle.graph.specs.Below.{tabulate}
+use Rattle.graph.specs.Network.{Network, Edge, Proper, never, edge, touches}
+use Rattle.graph.specs.Groups.{component, bridgeBlock}
+use Rattle.graph.specs.Block.{block, onBlock}
+use Rattle.naming.specs.Rename.{size}
+use Rattle.naming.specs.Book.{Book}
+use Rattle.numbers.specs.declared.Limits.{Limits}
+use Rattle.table.specs.Inside.Layout.{cell, vertexArea, bridgeBlockArea, edgeArea}
+use Rattle.table.specs.Inside.KindValid.{namesIn, KindValid}
+use Rattle.forest.specs.Inside.Climb.{upOf, depthOf, aboveEdge}
+
+-- The two ends of edge s, kept in one word.
+unfoldable pub endsOf : List ℕ → Limits → ℕ → Edge
+endsOf t limits s =
+    record { left = cell t (edgeArea limits) 4 s / 65536; right = cell t (edgeArea limits) 4 s % 65536 }
+
+-- The network of n vertices and m edges that the table holds.
+unfoldable pub networkOf : Limits → ℕ → ℕ → List ℕ → Network
+networkOf limits n m t = record { rule = never; vertices = n; edges = tabulate m (endsOf t limits) }
+
+-- The naming book that the table holds.
+unfoldable pub bookOf : Limits → ℕ → ℕ → List ℕ → Book
+bookOf limits n m t =
+    record {
+      network = networkOf limits n m t;
+      components = namesIn t (vertexArea limits) n;
+      bridgeBlocks = namesIn t (bridgeBlockArea limits) n;
+      blocks = namesIn t (edgeArea limits) m;
+    }
+
+-- Some edge of the block of edge e is the one above vertex x.
+pub record HangsBelow (t : List ℕ) (limits : Limits) (g : Network) (e x : ℕ) : Type 0 where
+  pub by : ℕ
+  pub is-up : upOf t limits x ≡ suc by
+  pub in-block : block g e by ≡ true
+
+-- The block forest over a network of n vertices and m edges: each vertex hangs below at most one block, each block below one vertex.
+pub record ForestValid (t : List ℕ) (limits : Limits) (n m : ℕ) (g : Network) : Type 0 where
+  -- the edge above a vertex is an edge of a block that the vertex is on
+  pub up-known : (x e : ℕ) → x < n → upOf t limits x ≡ suc e → e < m
+  pub up-on : (x e : ℕ) → x < n → upOf t limits x ≡ suc e → onBlock g e x ≡ true
+  -- the vertex above a block is on it
+  pub top-known : (e : ℕ) → e < m → aboveEdge t limits e < n
+  pub top-on : (e : ℕ) → e < m → onBlock g e (aboveEdge t limits e) ≡ true
+  -- every vertex with an edge in a block is above the block or hangs below it
+  pub covers : (e x : ℕ) → e < m → touches (edge g e) x ≡ true → (x ≡ aboveEdge t limits e) ⊎ HangsBelow t limits g e x
+  -- depth falls on the way up, and is below the square of the component's size
+  pub depth-falls : (x e : ℕ) → x < n → upOf t limits x ≡ suc e → depthOf t limits (aboveEdge t limits e) < depthOf t limits x
+  pub depth-bound : (x : ℕ) → x < n → depthOf t limits x < size n (component g) x * size n (component g) x
+
+-- The table is long enough, and holds the names, sizes and forest of its network.
+pub record Valid (limits : Limits) (n m : ℕ) (t : List ℕ) : Type 0 where
+  pub long : limits .vertices * 24 + limits .edges * 8 ≤ length t
+  pub small-vertices : limits .vertices ≤ 4096
+  pub small-edges : limits .edges ≤ 8192
+  pub vertices-fit : n ≤ limits .vertices
+  pub edges-fit : m ≤ limits .edges
+  pub proper : Proper (networkOf limits n m t)
+  pub components : KindValid t (vertexArea limits) n (component (networkOf limits n m t))
+  pub bridge-blocks : KindValid t (bridgeBlockArea limits) n (bridgeBlock (networkOf limits n m t))
+  pub blocks : KindValid t (edgeArea limits) m (block (networkOf limits n m t))
+  pub forest : ForestValid t limits n m (networkOf limits n m t)

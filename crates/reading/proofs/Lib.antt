@@ -1,0 +1,4 @@
+pub mod ReadSteps
+pub mod ReaderLocals
+pub mod ReaderPromise
+pub mod ReaderWalk

@@ -1,0 +1,73 @@
+-- `read::take_at` reads what stands at a place of the journal.
+use mathlib.Core.Logic.{⊎-elim, inl, inr}
+use mathlib.Core.Path.{refl, sym}
+use Prim.Native.Nat.{_+_}
+use native.Mathlib.Omega.{arith}
+use borrow.Author.Needs.{needs}
+use lib.ListN.{getD, drop}
+use Rattle.commands.specs.Command.{form, readForm, readCommand}
+use Rattle.reading.specs.Inside.Reads.{meaning, readingOf}
+use Rattle.reading.proofs.ReadSteps.{one-of-two, one-of-three, read-unknown}
+use Rattle.reading.proofs.read.take_at.Statement.{statement}
+use Rattle.reading.proofs.read.take_at.Tie as tie
+
+shared-slice-read-byte : tie.Need-shared-slice-read-byte
+shared-slice-read-byte c = search needs
+
+add-take-one : tie.Need-add-take-one
+add-take-one c = search needs
+
+take-one-requires : tie.Need-take-one-requires
+take-one-requires c κs = (
+  ⊎-elim
+      (λ w. inr (inr (w .keys3)))
+      (λ w. ⊎-elim inl (λ e. inr (inl e)) (one-of-two 3 _ (omega (arith, w .1 .left, w .0 .rest .0 .0 .1, w .0 .rest .0 .1)) (w .2 .taken)))
+      (c .match .came),
+  omega arith,
+)
+
+add-take-two : tie.Need-add-take-two
+add-take-two c = search needs
+
+take-two-requires : tie.Need-take-two-requires
+take-two-requires c κs =
+    (⊎-elim (λ w. inl (w .keys2)) (λ w. inr (one-of-three 5 _ (w .2 .left) (w .3 .taken))) (c .match .came), omega arith)
+
+returns : tie.Need-returns
+unfolding readCommand form readForm readingOf meaning
+returns c = rw (c .match .keys1) refl
+
+returns-2 : tie.Need-returns-2
+unfolding readingOf
+returns-2 c =
+    let a = c .before .before .before .before .args in
+    sym (read-unknown (getD (a .journal .now) (a .at) 0) (drop (a .at + 1) (a .journal .now)) (inl (c .if1 .taken)))
+
+returns-3 : tie.Need-returns-3
+unfolding readingOf
+returns-3 c =
+    let rest = c .before .before .before in
+    let a = rest .before .before .before .args in
+    sym (read-unknown (getD (a .journal .now) (a .at) 0) (drop (a .at + 1) (a .journal .now))
+    (inr (omega (arith, c .if3 .left, rest .match .rest .1))))
+
+returns-4 : tie.Need-returns-4
+returns-4 c = search needs
+
+returns-5 : tie.Need-returns-5
+returns-5 c = search needs
+
+pub take-at-spec : {M : Type 1} → statement M
+take-at-spec =
+    tie.close
+    (tie.spec
+    shared-slice-read-byte
+    add-take-one
+    take-one-requires
+    add-take-two
+    take-two-requires
+    returns
+    returns-2
+    returns-3
+    returns-4
+    returns-5)

@@ -1,0 +1,103 @@
+// Reading a command from the journal's bytes. The command byte decides everything that follows it.
+ghost use mathlib.Core.Logic.{_⊎_};
+ghost use mathlib.Core.Option.{some};
+ghost use mathlib.Core.Path.{_≡_};
+ghost use Prim.Native.Nat.{_+_, _<_, _≤_};
+ghost use lib.ListN.{length, getD, drop};
+ghost use Rattle.commands.specs.Bytes.{number};
+ghost use Rattle.commands.specs.Command.{form, readCommand};
+ghost use Rattle.reading.specs.Inside.Reads.{meaning, readingOf, ofOne, ofTwo};
+use numbers::Edge;
+use numbers::Vertex;
+
+// A command with its operands: cabinets are vertices, spans are edges.
+pub enum Order {
+    AddCabinet,
+    AddSpan(Vertex, Vertex),
+    DistrictName(Vertex),
+    RingName(Vertex),
+    SharedMesh(Vertex, Vertex),
+    SoleSpans(Vertex, Vertex),
+    CutCabinets(Vertex, Vertex),
+    IsSole(Edge),
+}
+
+// What stands at a place of the journal: an unknown byte, a command whose operands are cut off by the journal's end, or a command with the
+// number of its operands' bytes.
+pub enum Taken {
+    Unknown,
+    CutOff,
+    Command(Order, usize),
+}
+
+// The number in two bytes, high byte first.
+fn operand(journal: &[u8], from: usize) -> u32
+    requires { ⌜ from + 1 < length (now journal) ⌝ }
+    ensures { λ r. ⌜ (r ≡ number (getD (now (journal .entry)) from 0) (getD (now (journal .entry)) (from + 1) 0)) × (r < 65536) ⌝ }
+{
+    (journal[from] as u32) * 256 + (journal[from + 1] as u32)
+}
+
+// The command of 03, 04 or 08.
+fn one_operand(byte: u8, x: u32) -> Order
+    requires { ⌜ (byte ≡ 3) ⊎ ((byte ≡ 4) ⊎ (byte ≡ 8)) ⌝ }
+    ensures { λ r. ⌜ ofOne (form byte) x ≡ some (meaning r) ⌝ }
+{
+    match byte {
+        3 => Order::DistrictName(Vertex(x)),
+        4 => Order::RingName(Vertex(x)),
+        _ => Order::IsSole(Edge(x)),
+    }
+}
+
+// The command of 02, 05, 06 or 07.
+fn two_operands(byte: u8, x: u32, y: u32) -> Order
+    requires { ⌜ (byte ≡ 2) ⊎ ((byte ≡ 5) ⊎ ((byte ≡ 6) ⊎ (byte ≡ 7))) ⌝ }
+    ensures { λ r. ⌜ ofTwo (form byte) x y ≡ some (meaning r) ⌝ }
+{
+    match byte {
+        2 => Order::AddSpan(Vertex(x), Vertex(y)),
+        5 => Order::SharedMesh(Vertex(x), Vertex(y)),
+        6 => Order::SoleSpans(Vertex(x), Vertex(y)),
+        _ => Order::CutCabinets(Vertex(x), Vertex(y)),
+    }
+}
+
+// The command of 03, 04 or 08 whose operand stands from a place on.
+fn take_one(journal: &[u8], byte: u8, from: usize) -> Taken
+    requires { ⌜ ((byte ≡ 3) ⊎ ((byte ≡ 4) ⊎ (byte ≡ 8))) × (from ≤ length (now journal)) ⌝ }
+    ensures { λ r. ⌜ readingOf r ≡ readCommand byte (drop from (now (journal .entry))) ⌝ }
+{
+    if journal.len() - from < 2 {
+        return Taken::CutOff;
+    }
+    let x = operand(journal, from);
+    Taken::Command(one_operand(byte, x), 2)
+}
+
+// The command of 02, 05, 06 or 07 whose operands stand from a place on.
+fn take_two(journal: &[u8], byte: u8, from: usize) -> Taken
+    requires { ⌜ ((byte ≡ 2) ⊎ ((byte ≡ 5) ⊎ ((byte ≡ 6) ⊎ (byte ≡ 7)))) × (from ≤ length (now journal)) ⌝ }
+    ensures { λ r. ⌜ readingOf r ≡ readCommand byte (drop from (now (journal .entry))) ⌝ }
+{
+    if journal.len() - from < 4 {
+        return Taken::CutOff;
+    }
+    let x = operand(journal, from);
+    let y = operand(journal, from + 2);
+    Taken::Command(two_operands(byte, x, y), 4)
+}
+
+// What stands at a place of the journal.
+pub(crate) fn take_at(journal: &[u8], at: usize) -> Taken
+    requires { ⌜ at < length (now journal) ⌝ }
+    ensures { λ r. ⌜ readingOf r ≡ readCommand (getD (now (journal .entry)) at 0) (drop (at + 1) (now (journal .entry))) ⌝ }
+{
+    let byte = journal[at];
+    match byte {
+        1 => Taken::Command(Order::AddCabinet, 0),
+        2 | 5..=7 => take_two(journal, byte, at + 1),
+        3..=4 | 8 => take_one(journal, byte, at + 1),
+        _ => Taken::Unknown,
+    }
+}

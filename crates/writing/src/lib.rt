@@ -1,0 +1,3 @@
+// Writing answers into what is left of the answer buffer.
+pub mod notice;
+pub mod write;
