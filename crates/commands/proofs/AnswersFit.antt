@@ -1,178 +1,180 @@
 -- Every answer of an accepted command fits its bytes: within the capacities, every number in it is below 65,536.
-use mathlib.Core.Bool.{Bool, true, cond, _&&_}
-use mathlib.Core.List.{List, [], _∷_}
+use mathlib.Core.Bool.{Bool, true, _&&_}
+use mathlib.Core.List.{List, [], _∷_, map}
 use mathlib.Core.Option.{Option, none, some}
-use mathlib.Core.Path.{_≡_, refl, sym, _∙_}
-use Prim.Native.Nat.{ℕ, suc, _+_, _≤_, _<_}
-use native.Mathlib.Nat.{le-trans}
+use mathlib.Core.Path.{_≡_, refl, sym, _∙_, ap, subst}
+use Prim.Native.Nat.{ℕ, suc, _≤_, _<_}
 use native.Mathlib.Omega.{arith}
 use lib.Dec.{ltb}
 use lib.ListN.{length}
-use Rattle.graph.specs.Lists.{isIn}
-use Rattle.graph.specs.Network.{edgeCount}
+use Rattle.graph.specs.Lists.{isIn, allIn}
+use Rattle.graph.specs.Network.{Edge, edgeCount}
 use Rattle.graph.specs.Block.{sharedBlock}
 use Rattle.graph.specs.Between.{isBridgeBetween, bridgesBetween, isCutBetween, cutsBetween}
 use Rattle.graph.proofs.Truth.{and-left, ltb-lt}
 use Rattle.graph.proofs.Joined.{edge-count-more}
-use Rattle.graph.proofs.Members.{is-in-head, is-in-tail, each-in}
+use Rattle.graph.proofs.Members.{is-in-head, is-in-tail}
 use Rattle.graph.proofs.SharedBlock.{shared-block-some}
 use Rattle.graph.proofs.CutsBetween.{cuts-between-exactly}
 use Rattle.graph.proofs.BridgesBetween.{bridges-between-exactly}
 use Rattle.graph.proofs.Lengths.{few-bridges-between, few-cuts-between}
 use Rattle.naming.specs.Rename.{nameOf}
-use Rattle.naming.specs.Book.{Book, enterEdge, feed}
-use Rattle.naming.proofs.Count.{count-at-most}
-use Rattle.commands.specs.Command.{Command, addCabinet, addSpan, districtName, ringName, sharedMesh, soleSpans, cutCabinets, isSole, addition}
-use Rattle.commands.specs.Refusal.{Capacities, cabinetsOf, cabinetsKnown, refusalOf}
-use Rattle.commands.specs.Answer.{Kind, district, ring, mesh, Notice, notices}
-use Rattle.commands.specs.Step.{after, spanAnswer, meshAnswer, answer}
+use Rattle.naming.specs.Book.{Book, edge, enterEdge, feed}
+use Rattle.naming.specs.State.{State, afterAddition}
+use Rattle.commands.specs.Field.{Kind, district, ring, mesh, Field, cabinet, span}
+use Rattle.commands.specs.Command.{Command, addCabinet, addSpan, districtName, ringName, sharedMesh, soleSpans, cutCabinets, isSole}
+use Rattle.commands.specs.Answer.{Notice, noticeFields, noticesFields, notices, plain, plainFields, answerFields}
+use Rattle.commands.specs.Facts.{Facts, addsCabinet, addsSpan, addsNothing, asks, meshAnswer, facts, operandsOf, additionOf, addition, after, spanAnswer, answerTo, answer}
+use Rattle.commands.specs.Refusal.{Capacities, cabinetKnown, cabinetsKnown, refusalOf}
 use Rattle.commands.specs.Run.{Accepted}
-use Rattle.commands.specs.WholeRun.{EachNotice, itemsOf, sameKind, countNotices}
+use Rattle.commands.specs.WholeRun.{EachNotice, itemsOf}
+use Rattle.commands.proofs.Bytes.{Small, FieldsFit, InTwoBytes, cabinets-in-two-bytes, spans-in-two-bytes, items-in-two-bytes}
+use Rattle.commands.proofs.Decode.{NoticeFits, Fits, AllFit}
 use Rattle.commands.proofs.Causes.{not-refused-exactly}
 use Rattle.commands.proofs.Start.{InRange}
-use Rattle.commands.proofs.Decode.{Small, EachSmall, NoticeFits, Fits, AllFit}
 use Rattle.commands.proofs.SizedBook.{namesIn}
-use Rattle.commands.proofs.Notices.{each-notice, differs}
-use Rattle.commands.proofs.NoticeOrder.{count-notices}
+use Rattle.commands.proofs.Notices.{each-notice}
+use Rattle.commands.proofs.NoticeOrder.{few-notices}
 use Rattle.commands.proofs.EachKind.{kind-named, kind-advances, sized-by-laws}
 use Rattle.commands.proofs.RunBooks.{Sound, command-advances, sound-after, Answered}
 
 -- a list fits if each of its members does
-each-small : (l : List ℕ) → ((x : ℕ) → isIn x l ≡ true → Small x) → EachSmall l
-each-small [] f = tt
-each-small (x ∷ l) f = (f x (is-in-head x l), each-small l (λ y e. f y (is-in-tail y x l e)))
+each-fits : (f : ℕ → Field) → InTwoBytes f → (l : List ℕ) → ((x : ℕ) → isIn x l ≡ true → Small x) → FieldsFit (map f l)
+each-fits f two [] small = tt
+each-fits f two (x ∷ l) small = (two .fits x .1 (small x (is-in-head x l)), each-fits f two l (λ y e. small y (is-in-tail y x l e)))
 
--- all notices are those of the three kinds
-pub length-by-kind : (ts : List Notice) → length ts ≡ countNotices district ts + countNotices ring ts + countNotices mesh ts
-unfolding countNotices sameKind
-length-by-kind [] = refl
-length-by-kind (t ∷ ts) = go (t .kind) (length-by-kind ts)
-  where
-    d : ℕ
-    d = countNotices district ts
-
-    r : ℕ
-    r = countNotices ring ts
-
-    m : ℕ
-    m = countNotices mesh ts
-
-    go : (kind : Kind) → length ts ≡ d + r + m
-        → suc (length ts)
-        ≡ cond (sameKind district kind) (suc d) d + cond (sameKind ring kind) (suc r) r + cond (sameKind mesh kind) (suc m) m
-    go district e = omega arith
-    go ring e = omega arith
-    go mesh e = omega arith
+-- and so do notices
+each-notice-fits : (ts : List Notice) → EachNotice NoticeFits ts → FieldsFit (noticesFields ts)
+unfolding noticesFields noticeFields
+each-notice-fits [] fit = tt
+each-notice-fits (t ∷ ts) fit = (fit .0 .0, (fit .0 .1 .0, (fit .0 .1 .1 .0, each-notice-fits ts (fit .1))))
 
 module _ (caps : Capacities) (range : InRange caps) where
   -- within the capacities there are few items of each kind
-  few-items : (b : Book) → Sound caps b → (kind : Kind) → itemsOf kind (b .network) ≤ 8192
+  few-items : (s : State) → Sound caps s → (kind : Kind) → itemsOf kind (s .book .network) ≤ 8192
   unfolding itemsOf
-  few-items b s district = omega (arith, s .fits .cabinets-fit, range .few-cabinets)
-  few-items b s ring = omega (arith, s .fits .cabinets-fit, range .few-cabinets)
-  few-items b s mesh = omega (arith, s .fits .spans-fit, range .few-spans)
+  few-items s sound district = omega (arith, sound .fits .cabinets-fit, range .few-cabinets)
+  few-items s sound ring = omega (arith, sound .fits .cabinets-fit, range .few-cabinets)
+  few-items s sound mesh = omega (arith, sound .fits .spans-fit, range .few-spans)
 
   -- so a name fits
-  small-name : (b : Book) → Sound caps b → (kind : Kind) (x : ℕ) → x < itemsOf kind (b .network) → Small (nameOf (namesIn kind b) x)
-  small-name b s kind x h = omega (arith, kind-named (s .laws) kind .name-below x h, few-items b s kind)
+  small-name : (s : State) → Sound caps s → (kind : Kind) (x : ℕ) → x < itemsOf kind (s .book .network)
+      → Small (nameOf (namesIn kind (s .book)) x)
+  small-name s sound kind x h = omega (arith, kind-named (sound .laws) kind .name-below x h, few-items s sound kind)
 
-  module _ (b : Book) (s : Sound caps b) where
-    -- the notices of a command fit, and so does their number
-    notices-fit : (c : Command) → refusalOf caps b c ≡ none
-        → Small (length (notices b (after b c))) × EachNotice NoticeFits (notices b (after b c))
-    notices-fit c e = (number, each-notice NoticeFits b b′ (sized-by-laws (s .laws)) (λ kind x h d. (item kind x h, name kind x h)))
+  module _ (s : State) (sound : Sound caps s) where
+    -- the number of a command's notices fits
+    number-fits : (b′ : Book) → Small (length (notices (s .book) b′))
+    unfolding itemsOf
+    number-fits b′ =
+        omega (arith, few-notices (s .book) b′ (sized-by-laws (sound .laws)), few-items s sound district, few-items s sound mesh)
+
+    -- and so do the notices
+    notices-fit : (c : Command) → refusalOf caps s c ≡ none → FieldsFit (noticesFields (notices (s .book) (after s c .book)))
+    unfolding noticeFields
+    notices-fit c e =
+        each-notice-fits
+        (notices (s .book) b′)
+        (each-notice NoticeFits (s .book) b′ (sized-by-laws (sound .laws))
+        (λ kind x h d. (tt, (items-in-two-bytes kind .fits x .1 (item kind x h), (name kind x h, tt)))))
       where
         b′ : Book
-        b′ = after b c
+        b′ = after s c .book
 
-        few : (kind : Kind) → countNotices kind (notices b b′) ≤ 8192
-        few kind =
-            rw (count-notices b b′ (sized-by-laws (s .laws)) kind)
-            (le-trans
-            (count-at-most (itemsOf kind (b .network)) (differs (namesIn kind b) (namesIn kind b′)))
-            (few-items b s kind))
+        item : (kind : Kind) (x : ℕ) → x < itemsOf kind (s .book .network) → Small x
+        item kind x h = omega (arith, few-items s sound kind)
 
-        number : Small (length (notices b b′))
-        number = omega (arith, length-by-kind (notices b b′), few district, few ring, few mesh)
-
-        item : (kind : Kind) (x : ℕ) → x < itemsOf kind (b .network) → Small x
-        item kind x h = omega (arith, few-items b s kind)
-
-        name : (kind : Kind) (x : ℕ) → x < itemsOf kind (b .network) → Small (nameOf (namesIn kind b′) x)
+        name : (kind : Kind) (x : ℕ) → x < itemsOf kind (s .book .network) → Small (nameOf (namesIn kind b′) x)
         name kind x h =
             small-name
-            b′
-            (sound-after caps b c s e)
+            (after s c)
+            (sound-after caps s c sound e)
             kind
             x
-            (omega (arith, kind-advances (command-advances caps b c s e) kind .no-fewer))
+            (omega (arith, kind-advances (command-advances caps s c sound e) kind .no-fewer))
 
     -- the new span's number, its name and the notices
-    span-fits : (x y : ℕ) → refusalOf caps b (addSpan x y) ≡ none → Fits (answer b (addSpan x y))
-    unfolding answer spanAnswer namesIn itemsOf
-    span-fits x y e =
-        let fit = notices-fit (addSpan x y) e in (
-          omega (arith, few-items b s mesh),
-          small-name b′ (sound-after caps b (addSpan x y) s e) mesh (edgeCount (b .network)) (omega (arith, there)),
-          fit .0,
-          fit .1,
-        )
+    span-fits : (c : Command) (e : Edge) → addition c ≡ edge e → refusalOf caps s c ≡ none → Fits (spanAnswer (s .book) (after s c .book))
+    unfolding spanAnswer answerFields namesIn itemsOf
+    span-fits c e q n = (
+      tt,
+      (
+        omega (arith, few-items s sound mesh),
+        (
+          small-name (after s c) (sound-after caps s c sound n) mesh (edgeCount (s .book .network)) (omega (arith, there)),
+          (number-fits (after s c .book), notices-fit c n),
+        ),
+      ),
+    )
       where
-        b′ : Book
-        b′ = after b (addSpan x y)
-
-        there : edgeCount (b′ .network) ≡ suc (edgeCount (b .network))
-        there = unfold after feed addition enterEdge in edge-count-more (b .network) (record { left = x; right = y })
+        there : edgeCount (after s c .book .network) ≡ suc (edgeCount (s .book .network))
+        there = unfold after afterAddition in rw q (unfold feed enterEdge in edge-count-more (s .book .network) e)
 
     -- the name of a shared mesh
-    mesh-fits : (x y : ℕ) (o : Option ℕ) → sharedBlock (b .network) x y ≡ o → Fits (meshAnswer b o)
-    unfolding meshAnswer namesIn itemsOf
-    mesh-fits x y none e = tt
-    mesh-fits x y (some t) e = small-name b s mesh t (shared-block-some (b .network) x y t e .known)
-
-    -- a command that is not refused names known cabinets
-    known : (c : Command) → refusalOf caps b c ≡ none → (x : ℕ) → isIn x (cabinetsOf c) ≡ true → x < b .network .vertices
-    unfolding cabinetsKnown
-    known c e x m =
-        ltb-lt x (b .network .vertices)
-        (each-in
-        (λ a. ltb a (b .network .vertices))
-        (cabinetsOf c)
-        (not-refused-exactly caps b c .0 e .cabinets-known)
-        x
-        m)
+    mesh-fits : (x y : ℕ) (o : Option ℕ) → sharedBlock (s .book .network) x y ≡ o → Fits (plain (meshAnswer (s .book) o))
+    unfolding answerFields plainFields meshAnswer namesIn itemsOf
+    mesh-fits x y none e = (tt, (tt, (omega arith, tt)))
+    mesh-fits x y (some t) e = (tt, (tt, (small-name s sound mesh t (shared-block-some (s .book .network) x y t e .known), tt)))
 
     -- a list of items of a kind fits
-    items-fit : (kind : Kind) (l : List ℕ) (p : ℕ → Bool)
-        → ((x : ℕ) → isIn x l ≡ (ltb x (itemsOf kind (b .network)) && p x))
-        → EachSmall l
-    items-fit kind l p f = each-small l (λ x m. small x (and-left (ltb x (itemsOf kind (b .network))) (p x) (sym (f x) ∙ m)))
+    items-fit : (f : ℕ → Field) → InTwoBytes f → (kind : Kind) (l : List ℕ) (p : ℕ → Bool)
+        → ((x : ℕ) → isIn x l ≡ (ltb x (itemsOf kind (s .book .network)) && p x))
+        → FieldsFit (map f l)
+    items-fit f two kind l p exactly =
+        each-fits f two l (λ x m. small x (and-left (ltb x (itemsOf kind (s .book .network))) (p x) (sym (exactly x) ∙ m)))
       where
-        small : (x : ℕ) → ltb x (itemsOf kind (b .network)) ≡ true → Small x
-        small x h = omega (arith, ltb-lt x (itemsOf kind (b .network)) h, few-items b s kind)
+        small : (x : ℕ) → ltb x (itemsOf kind (s .book .network)) ≡ true → Small x
+        small x h = omega (arith, ltb-lt x (itemsOf kind (s .book .network)) h, few-items s sound kind)
+
+    -- the answer to a command that adds nothing fits
+    abbrev PlainFits : Facts → Type 0
+    PlainFits addsCabinet = Unit
+    PlainFits (addsSpan e operands demands) = Unit
+    PlainFits (addsNothing q) = Fits (plain (q .told s))
+
+    plain-fits : (c : Command) → cabinetsKnown s c ≡ true → PlainFits (facts c)
+    unfolding facts asks answerFields plainFields cabinetsKnown operandsOf allIn cabinetKnown namesIn itemsOf
+    plain-fits addCabinet known = tt
+    plain-fits (addSpan x y) known = tt
+    plain-fits (districtName x) known = (tt, (small-name s sound district x (ltb-lt _ _ (and-left _ true known)), tt))
+    plain-fits (ringName x) known = (tt, (small-name s sound ring x (ltb-lt _ _ (and-left _ true known)), tt))
+    plain-fits (sharedMesh x y) known = mesh-fits x y (sharedBlock (s .book .network) x y) refl
+    plain-fits (soleSpans x y) known = (
+      tt,
+      (
+        omega (arith, few-bridges-between (s .book .network) x y, few-items s sound mesh),
+        items-fit span spans-in-two-bytes mesh (bridgesBetween (s .book .network) x y) (isBridgeBetween (s .book .network) x y)
+            (bridges-between-exactly (s .book .network) x y),
+      ),
+    )
+    plain-fits (cutCabinets x y) known = (
+      tt,
+      (
+        omega (arith, few-cuts-between (s .book .network) x y, few-items s sound district),
+        items-fit cabinet cabinets-in-two-bytes district (cutsBetween (s .book .network) x y) (isCutBetween (s .book .network) x y)
+            (cuts-between-exactly (s .book .network) x y),
+      ),
+    )
+    plain-fits (isSole x) known = (tt, (tt, tt))
 
     -- every number in the answer fits
-    pub answer-fits : (c : Command) → refusalOf caps b c ≡ none → Fits (answer b c)
-    unfolding answer cabinetsOf namesIn itemsOf
-    answer-fits addCabinet e = omega (arith, few-items b s district)
-    answer-fits (addSpan x y) e = span-fits x y e
-    answer-fits (districtName x) e = small-name b s district x (known (districtName x) e x (is-in-head x []))
-    answer-fits (ringName x) e = small-name b s ring x (known (ringName x) e x (is-in-head x []))
-    answer-fits (sharedMesh x y) e = mesh-fits x y (sharedBlock (b .network) x y) refl
-    answer-fits (soleSpans x y) e = (
-      omega (arith, few-bridges-between (b .network) x y, few-items b s mesh),
-      items-fit mesh (bridgesBetween (b .network) x y) (isBridgeBetween (b .network) x y) (bridges-between-exactly (b .network) x y),
-    )
-    answer-fits (cutCabinets x y) e = (
-      omega (arith, few-cuts-between (b .network) x y, few-items b s district),
-      items-fit district (cutsBetween (b .network) x y) (isCutBetween (b .network) x y) (cuts-between-exactly (b .network) x y),
-    )
-    answer-fits (isSole x) e = tt
+    pub answer-fits : (c : Command) → refusalOf caps s c ≡ none → Fits (answer s c)
+    unfolding answer answerTo additionOf
+    answer-fits c n = go (facts c) refl
+      where
+        go : (f : Facts) → facts c ≡ f → Fits (answerTo s f)
+        go addsCabinet q = unfold answerFields itemsOf in (tt, (omega (arith, few-items s sound district), tt))
+        go (addsSpan e operands demands) q =
+            subst
+            (λ f. Fits (spanAnswer (s .book) (feed (s .book) (additionOf f))))
+            q
+            (unfold after afterAddition addition in span-fits c e (ap additionOf q) n)
+        go (addsNothing question) q = subst PlainFits q (plain-fits c (not-refused-exactly caps s c .0 n .cabinets-known))
 
   -- so it is with every answer of a run
-  pub all-answers-fit : (b : Book) (l : List Accepted) → Sound caps b → Answered caps b l → AllFit l
-  all-answers-fit b [] s w = tt
-  all-answers-fit b (a ∷ later) s w = (
-    rw (w .1) (answer-fits b s (a .command) (w .0)),
-    all-answers-fit (after b (a .command)) later (sound-after caps b (a .command) s (w .0)) (w .2),
+  pub all-answers-fit : (s : State) (l : List Accepted) → Sound caps s → Answered caps s l → AllFit l
+  all-answers-fit s [] sound w = tt
+  all-answers-fit s (a ∷ later) sound w = (
+    rw (w .1) (answer-fits s sound (a .command) (w .0)),
+    all-answers-fit (after s (a .command)) later (sound-after caps s (a .command) sound (w .0)) (w .2),
   )

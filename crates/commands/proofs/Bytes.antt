@@ -1,35 +1,32 @@
--- Numbers as bytes: two bytes give back the number they stand for, and every byte is below 256.
+-- Numbers and fields as bytes: two bytes give back the number they stand for, every byte is below 256, and the bytes of fields.
 use mathlib.Core.Bool.{Bool, true}
-use mathlib.Core.List.{List, [], _∷_, _++_}
-use mathlib.Core.Path.{_≡_, refl, ap₂}
+use mathlib.Core.List.{List, [], _∷_, _++_, map, map-append, append-assoc}
+use mathlib.Core.Logic.{_↔_}
+use mathlib.Core.Path.{_≡_, refl, sym, _∙_, ap, ap₂}
 use Prim.Native.Nat.{ℕ, _*_, _/_, _%_, _<_}
 use native.Mathlib.Omega.{arith}
 use lib.Dec.{ltb}
 use lib.ListN.{length}
 use Rattle.graph.specs.Lists.{allIn}
 use Rattle.graph.proofs.Truth.{and-left, and-right, ltb-lt}
-use Rattle.commands.specs.Bytes.{number, twoBytes, twoBytesEach}
+use Rattle.commands.specs.Bytes.{number as numberOfBytes, twoBytes}
+use Rattle.commands.specs.Field.{Kind, district, ring, mesh, Field, cabinet, span, name, number, byte, fieldBytes, fieldsBytes}
+use Rattle.commands.specs.Answer.{itemField}
 
 -- the two bytes of a number below 65,536 give the number
-pub number-of-two-bytes : (n : ℕ) → n < 65536 → number (n / 256 % 256) (n % 256) ≡ n
-unfolding number
+pub number-of-two-bytes : (n : ℕ) → n < 65536 → numberOfBytes (n / 256 % 256) (n % 256) ≡ n
+unfolding numberOfBytes
 number-of-two-bytes n h = omega arith
 
 -- two bytes give a number below 65,536
-pub number-below : (high low : ℕ) → high < 256 → low < 256 → number high low < 65536
-unfolding number
+pub number-below : (high low : ℕ) → high < 256 → low < 256 → numberOfBytes high low < 65536
+unfolding numberOfBytes
 number-below high low h l = omega arith
 
 -- the number that two bytes give has those two bytes
-pub two-bytes-of-number : (high low : ℕ) → high < 256 → low < 256 → twoBytes (number high low) ≡ high ∷ low ∷ []
-unfolding number twoBytes
+pub two-bytes-of-number : (high low : ℕ) → high < 256 → low < 256 → twoBytes (numberOfBytes high low) ≡ high ∷ low ∷ []
+unfolding numberOfBytes twoBytes
 two-bytes-of-number high low h l = ap₂ (λ (x y : ℕ). x ∷ y ∷ []) (omega arith) (omega arith)
-
--- each number of a list takes two bytes
-pub length-two-bytes-each : (ns : List ℕ) → length (twoBytesEach ns) ≡ 2 * length ns
-unfolding twoBytesEach twoBytes
-length-two-bytes-each [] = refl
-length-two-bytes-each (n ∷ ns) = omega (arith, length-two-bytes-each ns)
 
 -- every number of the list is a byte: it is below 256
 pub allBytes : List ℕ → Bool
@@ -45,3 +42,63 @@ pub all-bytes-behind : (xs ys : List ℕ) → allBytes (xs ++ ys) ≡ true → a
 unfolding allBytes allIn
 all-bytes-behind [] ys p = p
 all-bytes-behind (x ∷ xs) ys p = all-bytes-behind xs ys (and-right (ltb x 256) (allBytes (xs ++ ys)) p)
+
+-- the number fits into two bytes
+abbrev pub Small : ℕ → Type 0
+Small n = n < 65536
+
+-- the field's number fits into its two bytes; a byte is what it is
+abbrev pub FieldFits : Field → Type 0
+FieldFits (cabinet n) = Small n
+FieldFits (span n) = Small n
+FieldFits (name kind n) = Small n
+FieldFits (number n) = Small n
+FieldFits (byte n) = Unit
+
+abbrev pub FieldsFit : List Field → Type 0
+FieldsFit [] = Unit
+FieldsFit (f ∷ fs) = FieldFits f × FieldsFit fs
+
+-- the bytes of two lists of fields, one after the other
+pub fields-append : (fs gs : List Field) → fieldsBytes (fs ++ gs) ≡ fieldsBytes fs ++ fieldsBytes gs
+unfolding fieldsBytes
+fields-append [] gs = refl
+fields-append (f ∷ fs) gs =
+    ap (λ l. fieldBytes f ++ l) (fields-append fs gs) ∙ sym (append-assoc (fieldBytes f) (fieldsBytes fs) (fieldsBytes gs))
+
+-- fields of this sort have two bytes
+pub record InTwoBytes (f : ℕ → Field) : Type 0 where
+  pub bytes : (n : ℕ) → fieldBytes (f n) ≡ twoBytes n
+  pub fits : (n : ℕ) → FieldFits (f n) ↔ Small n
+
+-- cabinets, spans and the items of notices are such
+pub cabinets-in-two-bytes : InTwoBytes cabinet
+unfolding fieldBytes
+cabinets-in-two-bytes = record { bytes = λ n. refl; fits = λ n. (λ h. h, λ h. h) }
+
+pub spans-in-two-bytes : InTwoBytes span
+unfolding fieldBytes
+spans-in-two-bytes = record { bytes = λ n. refl; fits = λ n. (λ h. h, λ h. h) }
+
+pub items-in-two-bytes : (kind : Kind) → InTwoBytes (itemField kind)
+unfolding itemField
+items-in-two-bytes district = cabinets-in-two-bytes
+items-in-two-bytes ring = cabinets-in-two-bytes
+items-in-two-bytes mesh = spans-in-two-bytes
+
+-- A list of such fields: two bytes each, one after another.
+module _ (f : ℕ → Field) (two : InTwoBytes f) where
+  pub bytes-of-first : (n : ℕ) (ns : List ℕ) → fieldsBytes (map f (n ∷ ns)) ≡ twoBytes n ++ fieldsBytes (map f ns)
+  unfolding fieldsBytes
+  bytes-of-first n ns = ap (λ l. l ++ fieldsBytes (map f ns)) (two .bytes n)
+
+  pub bytes-of-one-more : (ns : List ℕ) (n : ℕ) → fieldsBytes (map f (ns ++ n ∷ [])) ≡ fieldsBytes (map f ns) ++ twoBytes n
+  unfolding fieldsBytes twoBytes
+  bytes-of-one-more ns n =
+      rw (map-append f ns (n ∷ []), fields-append (map f ns) (f n ∷ []))
+      (ap (λ l. fieldsBytes (map f ns) ++ l) (bytes-of-first n []))
+
+  pub length-two-bytes-each : (ns : List ℕ) → length (fieldsBytes (map f ns)) ≡ 2 * length ns
+  unfolding fieldsBytes twoBytes
+  length-two-bytes-each [] = refl
+  length-two-bytes-each (n ∷ ns) = rw (bytes-of-first n ns) (omega (arith, length-two-bytes-each ns))

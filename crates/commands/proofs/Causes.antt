@@ -1,21 +1,22 @@
 -- Each refusal of what stands in a journal is given exactly for its cause, where no earlier line of the table applies.
-use mathlib.Core.Bool.{Bool, true, false, not, _&&_}
-use mathlib.Core.List.{List}
+use mathlib.Core.Bool.{Bool, true, false, not, _||_}
+use mathlib.Core.List.{List, [], _∷_}
 use mathlib.Core.Logic.{_↔_, Iff·trans}
-use mathlib.Core.Option.{Option, none, some}
-use mathlib.Core.Path.{_≡_, refl, ap, subst}
+use mathlib.Core.Option.{none, some}
+use mathlib.Core.Path.{_≡_, refl}
 use Prim.Native.Nat.{ℕ, _<_}
 use native.Mathlib.Omega.{arith}
-use lib.Dec.{leb}
+use lib.Dec.{eqb}
 use lib.ListN.{length}
-use Rattle.graph.proofs.Truth.{not-of-true, not-of-false, false-of-not-true, true-of-not-false}
-use Rattle.naming.specs.Book.{Book}
+use Rattle.graph.specs.Lists.{allIn}
+use Rattle.graph.proofs.Truth.{not-of-true, not-of-false, false-of-not-true, true-of-not-false, and-left, and-right, and-both}
+use Rattle.naming.specs.State.{State}
 use Rattle.commands.specs.Command.{Command, form, Reading, unknownByte, cutOff, command, readCommand}
-use Rattle.commands.specs.Refusal.{Refusal, badByte, cutOperands, unknownCabinet, unknownSpan, equalCabinets, full, twoDistricts, refusalNumber, Capacities, cabinetsKnown, spansKnown, hasEqualCabinets, isFull, isAcross, lines, refusalOf}
-use Rattle.commands.specs.Run.{Accepted, refused, verdictUnless, verdict}
-use Rattle.commands.proofs.Cases.{impossible}
-use Rattle.commands.proofs.Reading.{unknown-exactly, widthOf, operands-known, unknown-byte, cut-off}
-use Rattle.commands.proofs.Table.{given-exactly, Between, given-between, NoneOf, none-exactly}
+use Rattle.commands.specs.Facts.{Demand, differ, shareDistrict, facts, demandsOf}
+use Rattle.commands.specs.Refusal.{Refusal, badByte, cutOperands, unknownCabinet, unknownSpan, equalCabinets, full, twoDistricts, refusalNumber, Capacities, cabinetsKnown, spansKnown, met, cause, meets, isFull, lines, refusalOf}
+use Rattle.commands.proofs.Reading.{isCommand, widthOf, unknown-exactly, operands-known, unknown-byte, cut-off}
+use Rattle.commands.proofs.Steps.{RefusedFor, for-byte, for-operands, for-command}
+use Rattle.commands.proofs.Table.{given-exactly, stage, Between, given-between, NoneOf, none-exactly}
 
 -- `not b` holds exactly if b does not
 pub not-is-true : (b : Bool) → (not b ≡ true) ↔ (b ≡ false)
@@ -25,140 +26,136 @@ not-is-true b = (false-of-not-true b, not-of-false)
 pub not-is-false : (b : Bool) → (not b ≡ false) ↔ (b ≡ true)
 not-is-false b = (true-of-not-false b, not-of-true)
 
--- a command that was read is refused with a number from 6 to 10
-pub table-numbers : (caps : Capacities) (b : Book) (c : Command) (r : Refusal) → refusalOf caps b c ≡ some r → Between 6 10 r
-unfolding refusalOf lines refusalNumber
-table-numbers caps b c r = given-between 6 10 (lines caps b c) r refl
+-- where every demand that could give one of the two refusals is met, every demand is
+each-met : (s : State) (ds : List Demand)
+    → allIn (λ d. not (eqb (refusalNumber (cause d)) (refusalNumber equalCabinets)) || met s d) ds ≡ true
+    → allIn (λ d. not (eqb (refusalNumber (cause d)) (refusalNumber twoDistricts)) || met s d) ds ≡ true
+    → allIn (met s) ds ≡ true
+unfolding allIn cause refusalNumber
+each-met s [] p q = refl
+each-met s (differ a b ∷ ds) p q =
+    and-both (and-left (met s (differ a b)) _ p) (each-met s ds (and-right (met s (differ a b)) _ p) (and-right true _ q))
+each-met s (shareDistrict a b ∷ ds) p q =
+    and-both (and-left (met s (shareDistrict a b)) _ q) (each-met s ds (and-right true _ p) (and-right (met s (shareDistrict a b)) _ q))
 
-module _ (caps : Capacities) (b : Book) (c : Command) where
+-- the refusals of a command that was read are those of this stage
+pub table-stage : (caps : Capacities) (s : State) (c : Command) (r : Refusal) → refusalOf caps s c ≡ some r → Between 2 2 r
+unfolding refusalOf lines stage
+table-stage caps s c r = given-between 2 2 (lines caps s c) r refl
+
+module _ (caps : Capacities) (s : State) (c : Command) where
   -- unknown cabinet: a cabinet is not known
-  pub unknown-cabinet-exactly : (refusalOf caps b c ≡ some unknownCabinet) ↔ (cabinetsKnown b c ≡ false)
+  pub unknown-cabinet-exactly : (refusalOf caps s c ≡ some unknownCabinet) ↔ (cabinetsKnown s c ≡ false)
   unfolding refusalOf lines refusalNumber
-  unknown-cabinet-exactly = simp not-is-true at (given-exactly 0 unknownCabinet (lines caps b c) refl)
+  unknown-cabinet-exactly = simp not-is-true at (given-exactly 0 unknownCabinet (lines caps s c) refl)
 
   -- unknown span: the cabinets are known, and a span is not
-  pub unknown-span-exactly : (refusalOf caps b c ≡ some unknownSpan) ↔ ((cabinetsKnown b c ≡ true) × (spansKnown b c ≡ false))
+  pub unknown-span-exactly : (refusalOf caps s c ≡ some unknownSpan) ↔ ((cabinetsKnown s c ≡ true) × (spansKnown s c ≡ false))
   unfolding refusalOf lines refusalNumber
-  unknown-span-exactly = simp (not-is-true, not-is-false) at (given-exactly 1 unknownSpan (lines caps b c) refl)
+  unknown-span-exactly = simp (not-is-true, not-is-false) at (given-exactly 1 unknownSpan (lines caps s c) refl)
 
-  -- equal cabinets: everything is known, and the command is 02 or 05 with equal cabinets
-  pub equal-cabinets-exactly : (refusalOf caps b c ≡ some equalCabinets)
-      ↔ ((cabinetsKnown b c ≡ true) × ((spansKnown b c ≡ true) × (hasEqualCabinets c ≡ true)))
+  -- equal cabinets: everything is known, and two cabinets are equal that the command wants different
+  pub equal-cabinets-exactly : (refusalOf caps s c ≡ some equalCabinets)
+      ↔ ((cabinetsKnown s c ≡ true) × ((spansKnown s c ≡ true) × (meets equalCabinets s c ≡ false)))
   unfolding refusalOf lines refusalNumber
-  equal-cabinets-exactly = simp not-is-false at (given-exactly 2 equalCabinets (lines caps b c) refl)
+  equal-cabinets-exactly = simp (not-is-true, not-is-false) at (given-exactly 2 equalCabinets (lines caps s c) refl)
 
-  -- full: none of these, and the command is 01 with C cabinets or 02 with S spans present
-  pub full-exactly : (refusalOf caps b c ≡ some full)
-      ↔ ((cabinetsKnown b c ≡ true) × ((spansKnown b c ≡ true) × ((hasEqualCabinets c ≡ false) × (isFull caps b c ≡ true))))
+  -- full: none of these, and the command adds a cabinet to C cabinets or a span to S spans
+  pub full-exactly : (refusalOf caps s c ≡ some full)
+      ↔ ((cabinetsKnown s c ≡ true) × ((spansKnown s c ≡ true) × ((meets equalCabinets s c ≡ true) × (isFull caps s c ≡ true))))
   unfolding refusalOf lines refusalNumber
-  full-exactly = simp not-is-false at (given-exactly 3 full (lines caps b c) refl)
+  full-exactly = simp not-is-false at (given-exactly 3 full (lines caps s c) refl)
 
-  -- two districts: none of these, and the command is 06 or 07 across districts
-  pub two-districts-exactly : (refusalOf caps b c ≡ some twoDistricts)
-      ↔ ((cabinetsKnown b c ≡ true)
-      × ((spansKnown b c ≡ true) × ((hasEqualCabinets c ≡ false) × ((isFull caps b c ≡ false) × (isAcross b c ≡ true)))))
+  -- two districts: none of these, and two cabinets share no district that the command wants in one
+  pub two-districts-exactly : (refusalOf caps s c ≡ some twoDistricts)
+      ↔ ((cabinetsKnown s c ≡ true)
+      × ((spansKnown s c ≡ true) × ((meets equalCabinets s c ≡ true) × ((isFull caps s c ≡ false) × (meets twoDistricts s c ≡ false)))))
   unfolding refusalOf lines refusalNumber
-  two-districts-exactly = simp not-is-false at (given-exactly 4 twoDistricts (lines caps b c) refl)
+  two-districts-exactly = simp (not-is-true, not-is-false) at (given-exactly 4 twoDistricts (lines caps s c) refl)
 
   -- none of the five causes
   pub record NotRefused : Type 0 where
-    pub cabinets-known : cabinetsKnown b c ≡ true
-    pub spans-known : spansKnown b c ≡ true
-    pub different-cabinets : hasEqualCabinets c ≡ false
-    pub not-full : isFull caps b c ≡ false
-    pub one-district : isAcross b c ≡ false
+    pub cabinets-known : cabinetsKnown s c ≡ true
+    pub spans-known : spansKnown s c ≡ true
+    pub different-cabinets : meets equalCabinets s c ≡ true
+    pub not-full : isFull caps s c ≡ false
+    pub one-district : meets twoDistricts s c ≡ true
 
-  not-refused : NoneOf (lines caps b c) → NotRefused
+  not-refused : NoneOf (lines caps s c) → NotRefused
   unfolding lines
   not-refused f =
       record {
         cabinets-known = true-of-not-false _ (f .0);
         spans-known = true-of-not-false _ (f .1 .0);
-        different-cabinets = f .1 .1 .0;
+        different-cabinets = true-of-not-false _ (f .1 .1 .0);
         not-full = f .1 .1 .1 .0;
-        one-district = f .1 .1 .1 .1 .0;
+        one-district = true-of-not-false _ (f .1 .1 .1 .1 .0);
       }
 
-  no-line : NotRefused → NoneOf (lines caps b c)
+  no-line : NotRefused → NoneOf (lines caps s c)
   unfolding lines
-  no-line n =
-      (not-of-true (n .cabinets-known), (not-of-true (n .spans-known), (n .different-cabinets, (n .not-full, (n .one-district, tt)))))
+  no-line n = (
+    not-of-true (n .cabinets-known),
+    (not-of-true (n .spans-known), (not-of-true (n .different-cabinets), (n .not-full, (not-of-true (n .one-district), tt)))),
+  )
 
   -- a command is not refused exactly if none of the five causes is there
-  pub not-refused-exactly : (refusalOf caps b c ≡ none) ↔ NotRefused
+  pub not-refused-exactly : (refusalOf caps s c ≡ none) ↔ NotRefused
   unfolding refusalOf
-  not-refused-exactly = Iff·trans (none-exactly (lines caps b c)) (not-refused, no-line)
+  not-refused-exactly = Iff·trans (none-exactly (lines caps s c)) (not-refused, no-line)
 
--- the verdict on a command that was read is the table's
-verdict-unless : (o : Option Refusal) (a : Accepted) (r : Refusal) → (verdictUnless o a ≡ refused r) ↔ (o ≡ some r)
-unfolding verdictUnless
-verdict-unless none a r = (λ e. impossible (cc), λ e. impossible (cc))
-verdict-unless (some s) a r = (λ e. cc, λ e. cc)
+  -- every demand has its line in the table: a command that is not refused meets all its demands
+  pub demands-met : refusalOf caps s c ≡ none → allIn (met s) (demandsOf (facts c)) ≡ true
+  unfolding meets
+  demands-met e = let n = not-refused-exactly .0 e in each-met s (demandsOf (facts c)) (n .different-cabinets) (n .one-district)
 
--- what it is to be refused: an unknown byte, operands cut off, or a command read whole that the table refuses
-pub data RefusedFor (caps : Capacities) (b : Book) : Reading → Refusal → Type 0 where
-  for-byte : RefusedFor caps b unknownByte badByte
-  for-operands : RefusedFor caps b cutOff cutOperands
-  for-command : {c : Command} {w : ℕ} {r : Refusal} → refusalOf caps b c ≡ some r → RefusedFor caps b (command c w) r
-
-module _ (caps : Capacities) (b : Book) where
+module _ (caps : Capacities) (s : State) where
   -- a command that was read is refused exactly as the table says
-  pub table-decides : (c : Command) (w : ℕ) (r : Refusal) → (verdict caps b (command c w) ≡ refused r) ↔ (refusalOf caps b c ≡ some r)
-  unfolding verdict
-  table-decides c w r = verdict-unless (refusalOf caps b c) _ r
-
-  refused-for : (read : Reading) (r : Refusal) → verdict caps b read ≡ refused r → RefusedFor caps b read r
-  unfolding verdict
-  refused-for unknownByte r e = let same : badByte ≡ r = cc in subst (RefusedFor caps b unknownByte) same for-byte
-  refused-for cutOff r e = let same : cutOperands ≡ r = cc in subst (RefusedFor caps b cutOff) same for-operands
-  refused-for (command c w) r e = for-command (table-decides c w r .0 e)
-
-  refuses : {read : Reading} {r : Refusal} → RefusedFor caps b read r → verdict caps b read ≡ refused r
-  unfolding verdict
-  refuses for-byte = refl
-  refuses for-operands = refl
-  refuses (for-command {c = c} {w = w} {r = r} e) = table-decides c w r .1 e
-
-  -- what is read is refused exactly in one of these ways
-  pub refused-cases : (read : Reading) (r : Refusal) → (verdict caps b read ≡ refused r) ↔ RefusedFor caps b read r
-  refused-cases read r = (refused-for read r, refuses)
-
-  -- what is read is refused with a number from 4 to 10
-  pub verdict-numbers : (read : Reading) (r : Refusal) → verdict caps b read ≡ refused r → Between 4 10 r
-  unfolding refusalNumber
-  verdict-numbers read r e = go (refused-for read r e)
+  pub table-decides : (c : Command) (width : ℕ) (r : Refusal) → RefusedFor caps s (command c width) r ↔ (refusalOf caps s c ≡ some r)
+  table-decides c width r = (go, for-command)
     where
-      go : {read : Reading} {r : Refusal} → RefusedFor caps b read r → Between 4 10 r
-      go for-byte = record { from = omega arith; to = omega arith }
-      go for-operands = record { from = omega arith; to = omega arith }
-      go (for-command {c = c} {r = r} d) =
-          let n = table-numbers caps b c r d in
-          record { from = omega arith; to = omega arith }
+      go : {c : Command} {width : ℕ} {r : Refusal} → RefusedFor caps s (command c width) r → refusalOf caps s c ≡ some r
+      go (for-command e) = e
 
-  on-unknown-byte : {read : Reading} → RefusedFor caps b read badByte → read ≡ unknownByte
-  unfolding refusalNumber
+  -- what is read is refused for one cause
+  pub refused-for-one : {read : Reading} {r q : Refusal} → RefusedFor caps s read r → RefusedFor caps s read q → r ≡ q
+  refused-for-one for-byte for-byte = refl
+  refused-for-one for-operands for-operands = refl
+  refused-for-one (for-command e) (for-command d) = cc
+
+  -- what is read is refused at its stage
+  pub refused-stage : {read : Reading} {r : Refusal} → RefusedFor caps s read r → Between 1 2 r
+  unfolding stage
+  refused-stage for-byte = record { from = omega arith; to = omega arith }
+  refused-stage for-operands = record { from = omega arith; to = omega arith }
+  refused-stage (for-command {c = c} {q = r} d) =
+      let n = table-stage caps s c r d in
+      record { from = omega arith; to = omega arith }
+
+  on-unknown-byte : {read : Reading} → RefusedFor caps s read badByte → read ≡ unknownByte
+  unfolding stage
   on-unknown-byte for-byte = refl
-  on-unknown-byte (for-command {c = c} e) = absurd (omega (arith, table-numbers caps b c badByte e .from))
+  on-unknown-byte (for-command {c = c} e) = absurd (omega (arith, table-stage caps s c badByte e .from))
 
-  on-cut-off : {read : Reading} → RefusedFor caps b read cutOperands → read ≡ cutOff
-  unfolding refusalNumber
+  on-cut-off : {read : Reading} → RefusedFor caps s read cutOperands → read ≡ cutOff
+  unfolding stage
   on-cut-off for-operands = refl
-  on-cut-off (for-command {c = c} e) = absurd (omega (arith, table-numbers caps b c cutOperands e .from))
+  on-cut-off (for-command {c = c} e) = absurd (omega (arith, table-stage caps s c cutOperands e .from))
 
-  -- bad byte: the byte is not 01 to 08
+  -- bad byte: the byte is no command's
   pub bad-byte-exactly : (byte : ℕ) (bytes : List ℕ)
-      → (verdict caps b (readCommand byte bytes) ≡ refused badByte) ↔ ((leb 1 byte && leb byte 8) ≡ false)
-  unfolding verdict readCommand
+      → RefusedFor caps s (readCommand byte bytes) badByte ↔ (isCommand byte ≡ false)
+  unfolding readCommand
   bad-byte-exactly byte bytes =
       Iff·trans
-      (λ e. on-unknown-byte (refused-for (readCommand byte bytes) badByte e), λ e. ap (verdict caps b) e)
+      (on-unknown-byte, λ e. rw e for-byte)
       (Iff·trans (unknown-byte (form byte) bytes) (unknown-exactly byte))
 
-  -- cut operands: the byte is 01 to 08, and its operands are longer than what follows
-  pub cut-operands-exactly : (byte : ℕ) (bytes : List ℕ) → (verdict caps b (readCommand byte bytes) ≡ refused cutOperands)
-      ↔ (((leb 1 byte && leb byte 8) ≡ true) × (length bytes < widthOf (form byte)))
-  unfolding verdict readCommand
+  -- cut operands: the byte is a command's, and its operands are longer than what follows
+  pub cut-operands-exactly : (byte : ℕ) (bytes : List ℕ) → RefusedFor caps s (readCommand byte bytes) cutOperands
+      ↔ ((isCommand byte ≡ true) × (length bytes < widthOf (form byte)))
+  unfolding readCommand
   cut-operands-exactly byte bytes =
       Iff·trans
-      (λ e. on-cut-off (refused-for (readCommand byte bytes) cutOperands e), λ e. ap (verdict caps b) e)
+      (on-cut-off, λ e. rw e for-operands)
       (Iff·trans (cut-off (form byte) bytes) (λ h. (operands-known byte (length bytes) h, h), λ h. h .1))

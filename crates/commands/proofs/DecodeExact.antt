@@ -1,19 +1,21 @@
 -- Reading is exact: from bytes an answer is read exactly where they begin with that answer's bytes.
 use mathlib.Core.Bool.{true, false}
-use mathlib.Core.List.{List, [], _∷_, _++_, append-assoc, append-nil}
-use mathlib.Core.Logic.{_↔_}
+use mathlib.Core.List.{List, [], _∷_, _++_, map, append-assoc, append-nil}
+use mathlib.Core.Logic.{_↔_, _⊎_, inl, inr}
 use mathlib.Core.Option.{Option, none, some}
-use mathlib.Core.Path.{_≡_, refl, sym, _∙_, ap, subst₂}
-use Prim.Native.Nat.{ℕ, zero, suc, _-_}
+use mathlib.Core.Path.{_≡_, refl, sym, _∙_, ap, subst, subst₂}
+use Prim.Native.Nat.{ℕ, zero, suc, _+_, _-_, _≤_, _<_}
 use native.Mathlib.Omega.{arith}
 use lib.ListN.{length, getD}
-use Rattle.commands.specs.Bytes.{number, twoBytes, twoBytesEach}
-use Rattle.commands.specs.Answer.{Kind, district, ring, mesh, kindByte, boolByte, Notice, noticeBytes, noticesBytes, Answer, cabinetAdded, spanAdded, districtNamed, ringNamed, meshShared, noMeshShared, soleSpansAre, cutCabinetsAre, soleIs, answerBytes}
-use Rattle.commands.specs.WholeRun.{EachNotice}
-use Rattle.commands.specs.Decode.{Decoded, malformed, decoded, Then, byteThen, fieldThen, fieldsThen, kindOf, kindThen, noticeThen, noticesThen, flagThen, noughtThen, decodeBody, decode}
-use Rattle.commands.proofs.Cases.{impossible}
-use Rattle.commands.proofs.Bytes.{allBytes, all-bytes-behind, first-is-byte, number-below, number-of-two-bytes, two-bytes-of-number}
-use Rattle.commands.proofs.Decode.{Small, EachSmall, NoticeFits, Fits, decode-answer}
+use Rattle.commands.specs.Bytes.{number, twoBytes}
+use Rattle.commands.specs.Field.{Kind, district, ring, mesh, Field, cabinet, span, fieldBytes, fieldsBytes}
+use Rattle.commands.specs.Answer.{kindByte, boolByte, Notice, noticeFields, noticesFields, Answer, cabinetAdded, spanAdded, plain, districtNamed, ringNamed, meshShared, noMeshShared, soleSpansAre, cutCabinetsAre, soleIs, plainFields, answerFields, answerBytes}
+use Rattle.commands.specs.Decode.{Decoded, malformed, decoded, Then, byteThen, fieldThen, fieldsThen, kindOf, kindThen, noticeThen, noticesThen, flagThen, noughtThen, bodies, decodeBody, decode}
+use Rattle.commands.proofs.Cases.{le-or-gt, impossible}
+use Rattle.commands.proofs.ByPlace.{each-at, _also_}
+use Rattle.commands.proofs.Bytes.{allBytes, all-bytes-behind, first-is-byte, number-below, number-of-two-bytes, two-bytes-of-number, Small, FieldsFit, InTwoBytes, cabinets-in-two-bytes, spans-in-two-bytes, items-in-two-bytes, bytes-of-first}
+use Rattle.commands.proofs.NoticeBytes.{notice-bytes, bytes-of-first-notice}
+use Rattle.commands.proofs.Decode.{NoticeFits, Fits, decode-answer}
 
 -- what was read so far, and the bytes that follow it
 record Read (all front more : List ℕ) : Type 0 where
@@ -24,9 +26,6 @@ record Read (all front more : List ℕ) : Type 0 where
 read-on : (all front taken more : List ℕ) → Read all front (taken ++ more) → Read all (front ++ taken) more
 read-on all front taken more r =
     record { is = r .is ∙ sym (append-assoc front taken more); bytes = all-bytes-behind taken more (r .bytes) }
-
-at-byte : {all : List ℕ} (byte is : ℕ) (more : List ℕ) → Read all (byte ∷ []) more → byte ≡ is → Read all (is ∷ []) more
-at-byte byte is more r e = rw e at r
 
 kind-byte : (byte : ℕ) (kind : Kind) → kindOf byte ≡ some kind → byte ≡ kindByte kind
 unfolding kindOf kindByte
@@ -58,20 +57,21 @@ module _ (all : List ℕ) (P : Decoded → Type 0) (m : P malformed) where
       (number-below high low h l)
       (rw (two-bytes-of-number high low h l) (read-on all front (high ∷ low ∷ []) rest r))
 
-  then-fields : (n : ℕ) (k : Then (List ℕ)) (front more : List ℕ) → Read all front more
-      → ((ns rest : List ℕ) → length ns ≡ n → EachSmall ns → Read all (front ++ twoBytesEach ns) rest → P (k ns rest))
+  then-fields : (field : ℕ → Field) → InTwoBytes field → (n : ℕ) (k : Then (List ℕ)) (front more : List ℕ) → Read all front more
+      → ((ns rest : List ℕ) → length ns ≡ n → FieldsFit (map field ns) → Read all (front ++ fieldsBytes (map field ns)) rest → P (k ns rest))
       → P (fieldsThen n k more)
-  unfolding fieldsThen twoBytesEach
-  then-fields zero k front more r f = f [] more refl tt (rw append-nil r)
-  then-fields (suc n) k front more r f =
+  unfolding fieldsThen fieldsBytes
+  then-fields field two zero k front more r f = f [] more refl tt (rw append-nil r)
+  then-fields field two (suc n) k front more r f =
       then-field
       (λ x. fieldsThen n (λ xs. k (x ∷ xs)))
       front
       more
       r
       (λ x rest s r′.
-      then-fields n (λ xs. k (x ∷ xs)) (front ++ twoBytes x) rest r′
-      (λ ns rest′ d small r″. f (x ∷ ns) rest′ (ap suc d) (s, small) (rw append-assoc at r″)))
+      then-fields field two n (λ xs. k (x ∷ xs)) (front ++ twoBytes x) rest r′
+      (λ ns rest′ d fit r″.
+      f (x ∷ ns) rest′ (ap suc d) (two .fits x .1 s, fit) (rw (bytes-of-first field two x ns) (rw append-assoc at r″))))
 
   then-kind : (k : Then Kind) (front more : List ℕ) → Read all front more
       → ((kind : Kind) (rest : List ℕ) → Read all (front ++ kindByte kind ∷ []) rest → P (k kind rest)) → P (kindThen k more)
@@ -90,8 +90,9 @@ module _ (all : List ℕ) (P : Decoded → Type 0) (m : P malformed) where
       go byte rest r′ (some kind) e = f kind rest (rw (kind-byte byte kind e) at r′)
 
   then-notice : (k : Then Notice) (front more : List ℕ) → Read all front more
-      → ((t : Notice) (rest : List ℕ) → NoticeFits t → Read all (front ++ noticeBytes t) rest → P (k t rest)) → P (noticeThen k more)
-  unfolding noticeThen noticeBytes
+      → ((t : Notice) (rest : List ℕ) → NoticeFits t → Read all (front ++ fieldsBytes (noticeFields t)) rest → P (k t rest))
+      → P (noticeThen k more)
+  unfolding noticeThen noticeFields
   then-notice k front more r f =
       then-kind _ front more r
       (λ kind rest r₁.
@@ -99,12 +100,13 @@ module _ (all : List ℕ) (P : Decoded → Type 0) (m : P malformed) where
       (λ item rest₁ s₁ r₂.
       then-field _ ((front ++ kindByte kind ∷ []) ++ twoBytes item) rest₁ r₂
       (λ name rest₂ s₂ r₃.
-      f (record { kind = kind; item = item; name = name }) rest₂ (s₁, s₂) (simp append-assoc at r₃))))
+      let t : Notice = record { kind = kind; item = item; name = name } in
+      f t rest₂ (tt, (items-in-two-bytes kind .fits item .1 s₁, (s₂, tt))) (rw (notice-bytes t) (simp append-assoc at r₃)))))
 
   then-notices : (n : ℕ) (k : Then (List Notice)) (front more : List ℕ) → Read all front more
-      → ((ts : List Notice) (rest : List ℕ) → length ts ≡ n → EachNotice NoticeFits ts → Read all (front ++ noticesBytes ts) rest → P (k ts rest))
+      → ((ts : List Notice) (rest : List ℕ) → length ts ≡ n → FieldsFit (noticesFields ts) → Read all (front ++ fieldsBytes (noticesFields ts)) rest → P (k ts rest))
       → P (noticesThen n k more)
-  unfolding noticesThen noticesBytes
+  unfolding noticesThen noticesFields noticeFields fieldsBytes
   then-notices zero k front more r f = f [] more refl tt (rw append-nil r)
   then-notices (suc n) k front more r f =
       then-notice
@@ -113,8 +115,9 @@ module _ (all : List ℕ) (P : Decoded → Type 0) (m : P malformed) where
       more
       r
       (λ t rest s r′.
-      then-notices n (λ ts. k (t ∷ ts)) (front ++ noticeBytes t) rest r′
-      (λ ts rest′ d fit r″. f (t ∷ ts) rest′ (ap suc d) (s, fit) (rw append-assoc at r″)))
+      then-notices n (λ ts. k (t ∷ ts)) (front ++ fieldsBytes (noticeFields t)) rest r′
+      (λ ts rest′ d fit r″.
+      f (t ∷ ts) rest′ (ap suc d) (s .0, (s .1 .0, (s .1 .1 .0, fit))) (rw (bytes-of-first-notice t ts) (rw append-assoc at r″))))
 
   then-flag : (one none′ : List ℕ → Decoded) (front more : List ℕ) → Read all front more
       → ((rest : List ℕ) → Read all (front ++ 1 ∷ []) rest → P (one rest))
@@ -161,19 +164,20 @@ module _ (all : List ℕ) where
   one-field byte f are fit more r =
       then-field all Spelled bad (λ n. decoded (f n)) (byte ∷ []) more r (λ n rest s r′. spelled (f n) rest (rw (are n) at r′) (fit n s))
 
-  counted : (byte : ℕ) (f : List ℕ → Answer) → ((ns : List ℕ) → byte ∷ twoBytes (length ns) ++ twoBytesEach ns ≡ answerBytes (f ns))
-      → ((ns : List ℕ) → Small (length ns) → EachSmall ns → Fits (f ns))
+  counted : (byte : ℕ) (field : ℕ → Field) → InTwoBytes field → (f : List ℕ → Answer)
+      → ((ns : List ℕ) → byte ∷ twoBytes (length ns) ++ fieldsBytes (map field ns) ≡ answerBytes (f ns))
+      → ((ns : List ℕ) → Small (length ns) → FieldsFit (map field ns) → Fits (f ns))
       → (more : List ℕ) → Read all (byte ∷ []) more → Spelled (fieldThen (λ n. fieldsThen n (λ ns. decoded (f ns))) more)
   unfolding twoBytes
-  counted byte f are fit more r =
+  counted byte field two f are fit more r =
       then-field all Spelled bad _ (byte ∷ []) more r
       (λ n rest s r₁.
-      then-fields all Spelled bad n (λ ns. decoded (f ns)) (byte ∷ twoBytes n) rest r₁
+      then-fields all Spelled bad field two n (λ ns. decoded (f ns)) (byte ∷ twoBytes n) rest r₁
       (λ ns rest₁ d small r₂. spelled (f ns) rest₁ (rw (are ns) at (rw (sym d) at r₂)) (fit ns (rw (sym d) at s) small)))
 
   added : (more : List ℕ) → Read all (0x82 ∷ []) more
       → Spelled (fieldThen (λ s. fieldThen (λ name. fieldThen (λ n. noticesThen n (λ ts. decoded (spanAdded s name ts))))) more)
-  unfolding answerBytes twoBytes
+  unfolding answerBytes answerFields fieldsBytes fieldBytes twoBytes
   added more r =
       then-field all Spelled bad _ (0x82 ∷ []) more r
       (λ s rest small r₁.
@@ -182,57 +186,69 @@ module _ (all : List ℕ) where
       then-field all Spelled bad _ (0x82 ∷ twoBytes s ++ twoBytes name) rest₁ r₂
       (λ n rest₂ small₂ r₃.
       then-notices all Spelled bad n (λ ts. decoded (spanAdded s name ts)) (0x82 ∷ twoBytes s ++ twoBytes name ++ twoBytes n) rest₂ r₃
-      (λ ts rest₃ d fit r₄. spelled (spanAdded s name ts) rest₃ (rw (sym d) at r₄) (small, small₁, rw (sym d) at small₂, fit)))))
+      (λ ts rest₃ d fit r₄. spelled (spanAdded s name ts) rest₃ (rw (sym d) at r₄) (tt, (small, (small₁, (rw (sym d) at small₂, fit))))))))
 
-  body : (byte : ℕ) (more : List ℕ) → Read all (byte ∷ []) more → (i : ℕ) → byte - 0x80 ≡ i → Spelled (decodeBody byte more)
-  unfolding decodeBody answerBytes boolByte twoBytes
-  body byte more r zero e = rw e bad
-  body byte more r (suc zero) e = rw e (one-field 0x81 cabinetAdded (λ n. refl) (λ n s. s) more (at-byte byte 0x81 more r (omega arith)))
-  body byte more r (suc (suc zero)) e = rw e (added more (at-byte byte 0x82 more r (omega arith)))
-  body byte more r (suc (suc (suc zero))) e =
-      rw e (one-field 0x83 districtNamed (λ n. refl) (λ n s. s) more (at-byte byte 0x83 more r (omega arith)))
-  body byte more r (suc (suc (suc (suc zero)))) e =
-      rw e (one-field 0x84 ringNamed (λ n. refl) (λ n s. s) more (at-byte byte 0x84 more r (omega arith)))
-  body byte more r (suc (suc (suc (suc (suc zero))))) e =
-      rw e
-      (then-flag all Spelled bad
-      (fieldThen (λ name. decoded (meshShared name)))
-      (noughtThen (decoded noMeshShared))
-      (0x85 ∷ [])
-      more
-      (at-byte byte 0x85 more r (omega arith))
+  -- whatever follows the byte of an answer
+  abbrev BodySpelled : ℕ → (List ℕ → Decoded) → Type 0
+  BodySpelled i d = (more : List ℕ) → Read all ((0x80 + i) ∷ []) more → Spelled (d more)
+
+  shared : BodySpelled 5 (flagThen (fieldThen (λ name. decoded (plain (meshShared name)))) (noughtThen (decoded (plain noMeshShared))))
+  unfolding answerBytes answerFields plainFields fieldsBytes fieldBytes twoBytes
+  shared more r =
+      then-flag all Spelled bad _ _ (0x85 ∷ []) more r
       (λ rest r₁.
-      then-field all Spelled bad (λ name. decoded (meshShared name)) (0x85 ∷ 1 ∷ []) rest r₁
-      (λ name rest₁ s r₂. spelled (meshShared name) rest₁ r₂ s))
-      (λ rest r₁. then-nought all Spelled bad (decoded noMeshShared) (0x85 ∷ 0 ∷ []) rest r₁ (λ rest₁ r₂. spelled noMeshShared rest₁ r₂ tt)))
-  body byte more r (suc (suc (suc (suc (suc (suc zero)))))) e =
-      rw e (counted 0x86 soleSpansAre (λ ns. refl) (λ ns s f. (s, f)) more (at-byte byte 0x86 more r (omega arith)))
-  body byte more r (suc (suc (suc (suc (suc (suc (suc zero))))))) e =
-      rw e (counted 0x87 cutCabinetsAre (λ ns. refl) (λ ns s f. (s, f)) more (at-byte byte 0x87 more r (omega arith)))
-  body byte more r (suc (suc (suc (suc (suc (suc (suc (suc zero)))))))) e =
-      rw e
-      (then-flag all Spelled bad
-      (decoded (soleIs true))
-      (decoded (soleIs false))
-      (0x88 ∷ [])
-      more
-      (at-byte byte 0x88 more r (omega arith))
-      (λ rest r₁. spelled (soleIs true) rest r₁ tt)
-      (λ rest r₁. spelled (soleIs false) rest r₁ tt))
-  body byte more r (suc (suc (suc (suc (suc (suc (suc (suc (suc i))))))))) e = rw e bad
+      then-field all Spelled bad (λ name. decoded (plain (meshShared name))) (0x85 ∷ 1 ∷ []) rest r₁
+      (λ name rest₁ s r₂. spelled (plain (meshShared name)) rest₁ r₂ (tt, (tt, (s, tt)))))
+      (λ rest r₁. then-nought all Spelled bad (decoded (plain noMeshShared)) (0x85 ∷ 0 ∷ []) rest r₁ (λ rest₁ r₂. spelled (plain noMeshShared) rest₁ r₂ (tt, (tt, (omega arith, tt)))))
+
+  sole : BodySpelled 8 (flagThen (decoded (plain (soleIs true))) (decoded (plain (soleIs false))))
+  unfolding answerBytes answerFields plainFields fieldsBytes fieldBytes boolByte
+  sole more r =
+      then-flag all Spelled bad _ _ (0x88 ∷ []) more r
+      (λ rest r₁. spelled (plain (soleIs true)) rest r₁ (tt, (tt, tt)))
+      (λ rest r₁. spelled (plain (soleIs false)) rest r₁ (tt, (tt, tt)))
+
+  each-body : (i : ℕ) → BodySpelled i (getD bodies i (λ bytes. malformed))
+  unfolding bodies answerBytes answerFields plainFields fieldsBytes fieldBytes twoBytes
+  each-body =
+      each-at
+      BodySpelled
+      bodies
+      (λ bytes. malformed)
+      ((λ more r. bad)
+      also one-field 0x81 cabinetAdded (λ n. refl) (λ n s. (tt, (s, tt)))
+      also added
+      also one-field 0x83 (λ n. plain (districtNamed n)) (λ n. refl) (λ n s. (tt, (s, tt)))
+      also one-field 0x84 (λ n. plain (ringNamed n)) (λ n. refl) (λ n s. (tt, (s, tt)))
+      also shared
+      also counted 0x86 span spans-in-two-bytes (λ ns. plain (soleSpansAre ns)) (λ ns. refl) (λ ns s f. (tt, (s, f)))
+      also counted 0x87 cabinet cabinets-in-two-bytes (λ ns. plain (cutCabinetsAre ns)) (λ ns. refl) (λ ns s f. (tt, (s, f)))
+      also sole
+      also tt)
+      (λ i h more r. bad)
+
+  body : (byte : ℕ) (more : List ℕ) → Read all (byte ∷ []) more → Spelled (decodeBody byte more)
+  unfolding decodeBody bodies
+  body byte more r = go (le-or-gt 0x80 byte)
+    where
+      go : (0x80 ≤ byte) ⊎ (byte < 0x80) → Spelled (getD bodies (byte - 0x80) (λ bytes. malformed) more)
+      go (inl h) =
+          let e : byte ≡ 0x80 + (byte - 0x80) = omega arith in
+          each-body (byte - 0x80) more (subst (λ (b : ℕ). Read all (b ∷ []) more) e r)
+      go (inr h) = let e : byte - 0x80 ≡ 0 = omega arith in rw e bad
 
   -- of bytes, an answer is read exactly where they are that answer's bytes and then the rest
   pub read-exactly : allBytes all ≡ true → (a : Answer) (rest : List ℕ) → (decode all ≡ decoded a rest) ↔ Spells a rest
   unfolding decode
   read-exactly b a rest = (
-    then-byte all Spelled bad decodeBody [] all (record { is = refl; bytes = b }) (λ byte more r. body byte more r (byte - 0x80) refl) a rest,
+    then-byte all Spelled bad decodeBody [] all (record { is = refl; bytes = b }) body a rest,
     λ s. ap decode (s .bytes-are) ∙ decode-answer a (s .fits) rest,
   )
 
   -- the count in an 82 is the number of notices read after it
   pub read-span-added : allBytes all ≡ true → (s name : ℕ) (ts : List Notice) (rest : List ℕ)
       → decode all ≡ decoded (spanAdded s name ts) rest → number (getD all 5 0) (getD all 6 0) ≡ length ts
-  unfolding answerBytes twoBytes
+  unfolding answerBytes answerFields fieldsBytes fieldBytes twoBytes
   read-span-added b s name ts rest e =
       let spelt = read-exactly b (spanAdded s name ts) rest .0 e in
-      rw (spelt .bytes-are) (number-of-two-bytes (length ts) (spelt .fits .2))
+      rw (spelt .bytes-are) (number-of-two-bytes (length ts) (spelt .fits .1 .1 .1 .0))

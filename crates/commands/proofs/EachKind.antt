@@ -2,7 +2,7 @@
 use Rattle.naming.specs.Book.{Book}
 use Rattle.naming.proofs.Naming.{Naming}
 use Rattle.naming.proofs.Book.{GroupLaws, component-laws, bridge-block-laws, block-laws, BookLaws, NamesAdvance, BookAdvances}
-use Rattle.commands.specs.Answer.{Kind, district, ring, mesh}
+use Rattle.commands.specs.Field.{Kind, district, ring, mesh}
 use Rattle.commands.specs.WholeRun.{groupsOf, itemsOf}
 use Rattle.commands.proofs.SizedBook.{SizedBook, namesIn}
 

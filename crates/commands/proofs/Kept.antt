@@ -1,22 +1,23 @@
 -- What every accepted command keeps: the network stays within the capacities, and every edge joins two different vertices of it.
-use mathlib.Core.Bool.{Bool, true, _&&_}
+use mathlib.Core.Bool.{true, false, not, _&&_, _||_}
 use mathlib.Core.Option.{none}
 use mathlib.Core.Path.{_≡_}
-use Prim.Native.Nat.{ℕ, _≤_}
+use Prim.Native.Nat.{_≤_, _<_}
 use native.Mathlib.Omega.{arith}
-use lib.Dec.{ltb}
+use lib.Dec.{eqb, ltb}
 use Rattle.graph.specs.Lists.{allIn}
 use Rattle.graph.specs.Network.{Rule, Network, Edge, edgeCount, addVertex, addEdge, Proper}
-use Rattle.graph.proofs.Truth.{and-left, and-right, ltb-lt}
+use Rattle.graph.proofs.Truth.{and-left, and-right, ltb-lt, false-of-not-true}
 use Rattle.graph.proofs.Joined.{edge-count-more}
 use Rattle.graph.proofs.VertexMore.{proper-vertex-more, proper-edge-more}
 use Rattle.naming.specs.Book.{Book, emptyBook, enterVertex, enterEdge, feed}
+use Rattle.naming.specs.State.{State, afterAddition}
 use Rattle.naming.proofs.Book.{empty-proper}
-use Rattle.commands.specs.Command.{Command, addCabinet, addSpan, districtName, ringName, sharedMesh, soleSpans, cutCabinets, isSole, addition}
-use Rattle.commands.specs.Refusal.{Capacities, cabinetsOf, cabinetsKnown, hasEqualCabinets, isFull, refusalOf}
-use Rattle.commands.specs.Step.{after}
+use Rattle.commands.specs.Command.{Command}
+use Rattle.commands.specs.Facts.{Facts, addsCabinet, addsSpan, addsNothing, facts, operandsOf, demandsOf, additionOf, addition, after}
+use Rattle.commands.specs.Refusal.{equalCabinets, refusalNumber, Capacities, cabinetKnown, cabinetsKnown, met, cause, meets, fullFor, isFull, refusalOf}
 use Rattle.commands.proofs.Cases.{leb-gt}
-use Rattle.commands.proofs.Causes.{NotRefused, not-refused-exactly}
+use Rattle.commands.proofs.Causes.{not-refused-exactly}
 
 -- the network is within the capacities, and proper
 pub record WithinCapacities (caps : Capacities) (g : Network) : Type 0 where
@@ -34,51 +35,56 @@ empty-fits caps rule =
       proper = empty-proper rule;
     }
 
--- a cabinet more
-cabinet-more : (caps : Capacities) (b : Book) → WithinCapacities caps (b .network) → NotRefused caps b addCabinet → WithinCapacities caps (after b addCabinet .network)
-unfolding isFull after feed addition enterVertex addVertex edgeCount
-cabinet-more caps b fits n =
-    record {
-      cabinets-fit = leb-gt _ _ (n .not-full);
-      spans-fit = fits .spans-fit;
-      proper = proper-vertex-more (b .network) (fits .proper);
-    }
+-- The network of a book, within the capacities.
+module _ (caps : Capacities) (b : Book) (fits : WithinCapacities caps (b .network)) where
+  -- a cabinet more
+  cabinet-more : b .network .vertices < caps .cabinets → WithinCapacities caps (enterVertex b .network)
+  unfolding enterVertex addVertex edgeCount
+  cabinet-more few =
+      record {
+        cabinets-fit = few;
+        spans-fit = fits .spans-fit;
+        proper = proper-vertex-more (b .network) (fits .proper);
+      }
 
--- a span more
-span-more : (caps : Capacities) (b : Book) (x y : ℕ) → WithinCapacities caps (b .network) → NotRefused caps b (addSpan x y)
-    → WithinCapacities caps (after b (addSpan x y) .network)
-unfolding isFull after feed addition enterEdge addEdge cabinetsKnown cabinetsOf allIn hasEqualCabinets
-span-more caps b x y fits n =
-    record {
-      cabinets-fit = fits .cabinets-fit;
-      spans-fit = rw (edge-count-more (b .network) new) (leb-gt _ _ (n .not-full));
-      proper =
-          proper-edge-more
-          (b .network)
-          new
-          (fits .proper)
-          (ltb-lt _ _ (and-left known-left (known-right && true) (n .cabinets-known)))
-          (ltb-lt _ _ (and-left known-right true (and-right known-left (known-right && true) (n .cabinets-known))))
-          (n .different-cabinets);
-    }
-  where
-    new : Edge
-    new = record { left = x; right = y }
+  -- a span more, between two different cabinets
+  span-more : (e : Edge) → edgeCount (b .network) < caps .spans → e .left < b .network .vertices → e .right < b .network .vertices
+      → eqb (e .left) (e .right) ≡ false → WithinCapacities caps (enterEdge b e .network)
+  unfolding enterEdge addEdge
+  span-more e few left right different =
+      record {
+        cabinets-fit = fits .cabinets-fit;
+        spans-fit = rw (edge-count-more (b .network) e) few;
+        proper = proper-edge-more (b .network) e (fits .proper) left right different;
+      }
 
-    known-left : Bool
-    known-left = ltb x (b .network .vertices)
-
-    known-right : Bool
-    known-right = ltb y (b .network .vertices)
+-- by what the command adds
+kept-by-facts : (caps : Capacities) (s : State) (f : Facts) → WithinCapacities caps (s .book .network)
+    → allIn (cabinetKnown (s .book .network)) (operandsOf f) ≡ true
+    → allIn (λ d. not (eqb (refusalNumber (cause d)) (refusalNumber equalCabinets)) || met s d) (demandsOf f) ≡ true
+    → fullFor caps (s .book .network) (additionOf f) ≡ false
+    → WithinCapacities caps (feed (s .book) (additionOf f) .network)
+unfolding operandsOf demandsOf additionOf feed fullFor allIn cabinetKnown met cause refusalNumber
+kept-by-facts caps s addsCabinet fits known differ few = cabinet-more caps (s .book) fits (leb-gt _ _ few)
+kept-by-facts caps s (addsSpan e operands demands) fits known differ few =
+    let left = ltb (e .left) (s .book .network .vertices) in
+    let right = ltb (e .right) (s .book .network .vertices) in
+    let others = allIn (cabinetKnown (s .book .network)) operands in
+    span-more
+    caps
+    (s .book)
+    fits
+    e
+    (leb-gt _ _ few)
+    (ltb-lt _ _ (and-left left (right && others) known))
+    (ltb-lt _ _ (and-left right others (and-right left (right && others) known)))
+    (false-of-not-true _ (and-left (not (eqb (e .left) (e .right))) _ differ))
+kept-by-facts caps s (addsNothing q) fits known differ few = fits
 
 -- every command that is not refused keeps the network within the capacities, and proper
-pub kept : (caps : Capacities) (b : Book) (c : Command) → WithinCapacities caps (b .network) → refusalOf caps b c ≡ none → WithinCapacities caps (after b c .network)
-unfolding after addition feed
-kept caps b addCabinet fits e = cabinet-more caps b fits (not-refused-exactly caps b addCabinet .0 e)
-kept caps b (addSpan x y) fits e = span-more caps b x y fits (not-refused-exactly caps b (addSpan x y) .0 e)
-kept caps b (districtName x) fits e = fits
-kept caps b (ringName x) fits e = fits
-kept caps b (sharedMesh x y) fits e = fits
-kept caps b (soleSpans x y) fits e = fits
-kept caps b (cutCabinets x y) fits e = fits
-kept caps b (isSole s) fits e = fits
+pub kept : (caps : Capacities) (s : State) (c : Command) → WithinCapacities caps (s .book .network) → refusalOf caps s c ≡ none
+    → WithinCapacities caps (after s c .book .network)
+unfolding after afterAddition addition cabinetsKnown meets isFull
+kept caps s c fits e =
+    let n = not-refused-exactly caps s c .0 e in
+    kept-by-facts caps s (facts c) fits (n .cabinets-known) (n .different-cabinets) (n .not-full)

@@ -1,9 +1,14 @@
+pub mod Computed
+pub mod Shown
 pub mod Cases
+pub mod ByPlace
+pub mod StateAfter
 pub mod Room
 pub mod Reading
 pub mod Steps
 pub mod Over
 pub mod Place
+pub mod Placed
 pub mod Table
 pub mod Causes
 pub mod Refused
@@ -12,10 +17,11 @@ pub mod Returned
 pub mod Kept
 pub mod Report
 pub mod Bytes
+pub mod NoticeBytes
+pub mod Spelled
 pub mod Decode
 pub mod DecodeExact
 pub mod SizedBook
-pub mod NoticeBytes
 pub mod Notices
 pub mod NoticeOrder
 pub mod NameList

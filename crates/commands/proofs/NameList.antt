@@ -2,7 +2,6 @@
 use mathlib.Core.Bool.{Bool, true, false, not, cond, _&&_, _||_}
 use mathlib.Core.List.{List, [], _∷_, _++_, map}
 use mathlib.Core.Logic.{_⊎_, inl, inr}
-use mathlib.Core.Option.{Option, none, some}
 use mathlib.Core.Path.{_≡_, refl, sym, _∙_, ap, ap₂}
 use Prim.Native.Nat.{ℕ, zero, suc, _<_}
 use native.Mathlib.Omega.{arith}
@@ -11,15 +10,17 @@ use lib.ListN.{length, take}
 use Rattle.graph.specs.Below.{tabulate}
 use Rattle.graph.specs.Lists.{isIn}
 use Rattle.graph.specs.Network.{Edge, Rule, edgeCount, addVertex, addEdge}
-use Rattle.graph.specs.Block.{sharedBlock}
 use Rattle.graph.proofs.Truth.{true-or-false, eqb-eq, lt-ltb, ge-ltb}
 use Rattle.graph.proofs.Joined.{edge-count-more}
 use Rattle.naming.specs.Rename.{nameOf, changedItems}
-use Rattle.naming.specs.Book.{Book, emptyBook, enterVertex, enterEdge, feed, feedAll}
-use Rattle.commands.specs.Command.{Command, addCabinet, addSpan, districtName, ringName, sharedMesh, soleSpans, cutCabinets, isSole, addition}
-use Rattle.commands.specs.Answer.{Kind, district, ring, mesh, Notice, changes, notices, Answer}
-use Rattle.commands.specs.Step.{after, spanAnswer, meshAnswer, answer}
+use Rattle.naming.specs.Book.{Book, emptyBook, enterVertex, enterEdge, feed}
+use Rattle.naming.specs.State.{State, afterAddition}
+use Rattle.commands.specs.Field.{Kind, district, ring, mesh}
+use Rattle.commands.specs.Command.{Command}
+use Rattle.commands.specs.Answer.{Notice, changes, notices, Answer}
+use Rattle.commands.specs.Facts.{Facts, addsCabinet, addsSpan, addsNothing, facts, additionOf, addition, after, spanAnswer, answerTo, answer}
 use Rattle.commands.specs.NameList.{Named, NameList, noNames, setName, setNameOf, applyNotices, addCabinetNamed, addSpanNamed, hear, hearAll, named, namesOf}
+use Rattle.commands.proofs.StateAfter.{stateAfter}
 use Rattle.commands.proofs.SizedBook.{SizedBook, sized-after}
 use Rattle.commands.proofs.Notices.{changes-told, changed}
 use Rattle.graph.proofs.Members.{is-in-listed}
@@ -179,43 +180,37 @@ hear-span b s e =
     (unfold enterEdge addEdge in refl)
     (unfold enterEdge in edge-count-more (b .network) e)
 
-hear-mesh : (l : NameList) (b : Book) (o : Option ℕ) → hear l (meshAnswer b o) ≡ l
-unfolding hear meshAnswer
-hear-mesh l b none = refl
-hear-mesh l b (some s) = refl
+by-facts : (s : State) → SizedBook (s .book) → (f : Facts) → hear (namesOf (s .book)) (answerTo s f) ≡ namesOf (feed (s .book) (additionOf f))
+unfolding answerTo additionOf feed
+by-facts s sized addsCabinet = unfold hear in hear-cabinet (s .book) sized
+by-facts s sized (addsSpan e operands demands) = hear-span (s .book) sized e
+by-facts s sized (addsNothing q) = unfold hear in refl
 
 -- hearing the answer to a command turns the names before it into the names after it
-pub names-heard : (b : Book) → SizedBook b → (c : Command) → hear (namesOf b) (answer b c) ≡ namesOf (after b c)
-unfolding hear answer after addition feed
-names-heard b s addCabinet = hear-cabinet b s
-names-heard b s (addSpan x y) = hear-span b s (record { left = x; right = y })
-names-heard b s (districtName x) = refl
-names-heard b s (ringName x) = refl
-names-heard b s (sharedMesh x y) = hear-mesh (namesOf b) b (sharedBlock (b .network) x y)
-names-heard b s (soleSpans x y) = refl
-names-heard b s (cutCabinets x y) = refl
-names-heard b s (isSole x) = refl
+pub names-heard : (s : State) → SizedBook (s .book) → (c : Command) → hear (namesOf (s .book)) (answer s c) ≡ namesOf (after s c .book)
+unfolding answer after afterAddition addition
+names-heard s sized c = by-facts s sized (facts c)
 
--- the answers to a list of commands, each from the book that those before it leave
-unfoldable pub answersFrom : Book → List Command → List Answer
-answersFrom b [] = []
-answersFrom b (c ∷ later) = answer b c ∷ answersFrom (after b c) later
+-- the answers to a list of commands, each from the state that those before it leave
+unfoldable pub answersFrom : State → List Command → List Answer
+answersFrom s [] = []
+answersFrom s (c ∷ later) = answer s c ∷ answersFrom (after s c) later
 
 -- the first answers are the answers to the first commands
-pub first-answers : (k : ℕ) (b : Book) (cs : List Command) → take k (answersFrom b cs) ≡ answersFrom b (take k cs)
+pub first-answers : (k : ℕ) (s : State) (cs : List Command) → take k (answersFrom s cs) ≡ answersFrom s (take k cs)
 unfolding answersFrom
-first-answers zero b cs = refl
-first-answers (suc k) b [] = refl
-first-answers (suc k) b (c ∷ later) = ap {B = List Answer} (λ l. answer b c ∷ l) (first-answers k (after b c) later)
+first-answers zero s cs = refl
+first-answers (suc k) s [] = refl
+first-answers (suc k) s (c ∷ later) = ap {B = List Answer} (λ l. answer s c ∷ l) (first-answers k (after s c) later)
 
 -- hearing the answers to any commands turns the names before them into the names after them
-pub hear-all : (b : Book) → SizedBook b → (cs : List Command)
-    → hearAll (namesOf b) (answersFrom b cs) ≡ namesOf (feedAll b (map addition cs))
-unfolding hearAll answersFrom feedAll after
-hear-all b s [] = refl
-hear-all b s (c ∷ later) =
-    ap (λ l. hearAll l (answersFrom (after b c) later)) (names-heard b s c)
-    ∙ hear-all (after b c) (sized-after b s c) later
+pub hear-all : (s : State) → SizedBook (s .book) → (cs : List Command)
+    → hearAll (namesOf (s .book)) (answersFrom s cs) ≡ namesOf (stateAfter s cs .book)
+unfolding hearAll answersFrom stateAfter
+hear-all s sized [] = refl
+hear-all s sized (c ∷ later) =
+    ap (λ l. hearAll l (answersFrom (after s c) later)) (names-heard s sized c)
+    ∙ hear-all (after s c) (sized-after s sized c) later
 
 -- an empty book has no names
 pub no-names : (rule : Rule) → namesOf (emptyBook rule) ≡ noNames

@@ -2,16 +2,19 @@
 use mathlib.Core.Bool.{Bool, true, false, cond, _&&_, _||_, and-false}
 use mathlib.Core.List.{List, [], _∷_, _++_, map}
 use mathlib.Core.Path.{_≡_, refl, sym, _∙_, ap}
-use Prim.Native.Nat.{ℕ, suc, _+_, _<_}
+use Prim.Native.Nat.{ℕ, suc, _+_, _*_, _≤_, _<_}
 use native.Mathlib.Nat.{zero-add, add-zero}
 use native.Mathlib.Omega.{arith}
 use lib.Dec.{ltb}
 use lib.ListN.{length}
 use Rattle.graph.specs.Below.{count}
+use Rattle.graph.specs.Network.{edgeCount}
 use Rattle.graph.proofs.Truth.{false-of-not, not-both, or-left, or-right, or-neither, and-both, lt-ltb, ge-ltb}
 use Rattle.naming.specs.Rename.{nameOf, changedItems}
 use Rattle.naming.specs.Book.{Book}
-use Rattle.commands.specs.Answer.{Kind, district, ring, mesh, kindByte, Notice, notices}
+use Rattle.naming.proofs.Count.{count-at-most}
+use Rattle.commands.specs.Field.{Kind, district, ring, mesh}
+use Rattle.commands.specs.Answer.{kindByte, Notice, notices}
 use Rattle.commands.specs.WholeRun.{EachNotice, sameKind, countNotices, itemsOf}
 use Rattle.commands.proofs.SizedBook.{SizedBook, namesIn, sized-names}
 use Rattle.commands.proofs.Notices.{toldOf, told, changes-told, told-ind, each-append, each-told, changesOf, by-kind, differs, changed, isAmong, sameNotice, same-notice}
@@ -35,7 +38,7 @@ rising-append (t ∷ ts) us r q h =
     (each-append (λ u. isBefore t u ≡ true) ts us (r .0) (h .0), rising-append ts us (r .1) q (h .1))
 
 same-kind-self : (k : Kind) → sameKind k k ≡ true
-unfolding sameKind
+unfolding sameKind kindByte
 same-kind-self district = refl
 same-kind-self ring = refl
 same-kind-self mesh = refl
@@ -154,6 +157,28 @@ unfolding countNotices
 count-other kind other g e [] = refl
 count-other kind other g e (x ∷ xs) = rw e (count-other kind other g e xs)
 
+-- all notices are those of the three kinds
+pub length-by-kind : (ts : List Notice) → length ts ≡ countNotices district ts + countNotices ring ts + countNotices mesh ts
+unfolding countNotices sameKind kindByte
+length-by-kind [] = refl
+length-by-kind (t ∷ ts) = go (t .kind) (length-by-kind ts)
+  where
+    d : ℕ
+    d = countNotices district ts
+
+    r : ℕ
+    r = countNotices ring ts
+
+    m : ℕ
+    m = countNotices mesh ts
+
+    go : (kind : Kind) → length ts ≡ d + r + m
+        → suc (length ts)
+        ≡ cond (sameKind district kind) (suc d) d + cond (sameKind ring kind) (suc r) r + cond (sameKind mesh kind) (suc m) m
+    go district e = omega arith
+    go ring e = omega arith
+    go mesh e = omega arith
+
 module _ (b b′ : Book) (s : SizedBook b) where
   own : (kind : Kind)
       → countNotices kind (changesOf kind b b′) ≡ count (itemsOf kind (b .network)) (differs (namesIn kind b) (namesIn kind b′))
@@ -171,8 +196,18 @@ module _ (b b′ : Book) (s : SizedBook b) where
   -- the notices of a kind are as many as the items of that kind whose name is another now
   pub count-notices : (kind : Kind)
       → countNotices kind (notices b b′) ≡ count (itemsOf kind (b .network)) (differs (namesIn kind b) (namesIn kind b′))
-  unfolding sameKind
+  unfolding sameKind kindByte
   count-notices district =
       simp (by-kind b b′, count-append, own, others district ring refl, others district mesh refl, add-zero)
   count-notices ring = simp (by-kind b b′, count-append, own, others ring district refl, others ring mesh refl, add-zero, zero-add)
   count-notices mesh = simp (by-kind b b′, count-append, own, others mesh district refl, others mesh ring refl, zero-add)
+
+  few-of-kind : (kind : Kind) → countNotices kind (notices b b′) ≤ itemsOf kind (b .network)
+  few-of-kind kind =
+      rw (count-notices kind) (count-at-most (itemsOf kind (b .network)) (differs (namesIn kind b) (namesIn kind b′)))
+
+  -- so there are at most two for each cabinet and one for each span
+  pub few-notices : length (notices b b′) ≤ 2 * b .network .vertices + edgeCount (b .network)
+  unfolding itemsOf
+  few-notices =
+      omega (arith, length-by-kind (notices b b′), few-of-kind district, few-of-kind ring, few-of-kind mesh)

@@ -12,7 +12,8 @@ use Rattle.graph.specs.Lists.{isIn}
 use Rattle.graph.proofs.Truth.{true-or-false, and-left, and-right, eqb-eq, false-of-not-true}
 use Rattle.naming.specs.Rename.{Change, nameOf, changedItems, changesBetween}
 use Rattle.naming.specs.Book.{Book}
-use Rattle.commands.specs.Answer.{Kind, district, ring, mesh, Notice, changeNotice, changes, notices}
+use Rattle.commands.specs.Field.{Kind, district, ring, mesh}
+use Rattle.commands.specs.Answer.{kindByte, Notice, changeNotice, changes, notices}
 use Rattle.commands.specs.WholeRun.{EachNotice, sameKind, itemsOf}
 use Rattle.commands.proofs.SizedBook.{SizedBook, namesIn, sized-names}
 use Rattle.graph.proofs.Members.{is-in-listed}
@@ -121,7 +122,7 @@ isAmong t [] = false
 isAmong t (u ∷ us) = sameNotice t u || isAmong t us
 
 same-kind : (k l : Kind) → sameKind k l ≡ true → k ≡ l
-unfolding sameKind
+unfolding sameKind kindByte
 same-kind district district e = refl
 same-kind district ring e = absurd (false≢true e)
 same-kind district mesh e = absurd (false≢true e)
@@ -189,7 +190,7 @@ module _ (b b′ : Book) (s : SizedBook b) where
   -- a notice stands among the notices exactly if it tells such a change
   pub among-notices : (kind : Kind) (x name : ℕ)
       → isAmong (record { kind = kind; item = x; name = name }) (notices b b′) ≡ isChange b b′ kind x name
-  unfolding sameKind
+  unfolding sameKind kindByte
   among-notices district x name = simp (by-kind b b′, among-append, among-changes, or-false)
   among-notices ring x name = simp (by-kind b b′, among-append, among-changes, or-false)
   among-notices mesh x name = simp (by-kind b b′, among-append, among-changes)

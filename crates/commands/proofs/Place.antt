@@ -1,5 +1,5 @@
 -- Places in a journal: each accepted command stands where the one before it ended, and a refused one begins where the accepted ones end.
-use mathlib.Core.List.{List, [], _∷_, map}
+use mathlib.Core.List.{List, [], _∷_}
 use mathlib.Core.Logic.{_↔_, _⊎_, inl, inr}
 use mathlib.Core.Option.{Option, none, some}
 use mathlib.Core.Path.{_≡_, refl, sym, _∙_, ap}
@@ -8,28 +8,26 @@ use native.Mathlib.Nat.{suc-add, not-suc-le-zero, le-trans, le-of-eq}
 use native.Mathlib.Omega.{arith}
 use lib.ListN.{length, take, drop, getElem?, length-drop, drop-of-length-le}
 use lib.Seq.{drop-drop}
-use Rattle.naming.specs.Book.{Book, feedAll}
-use Rattle.commands.specs.Command.{readCommand, addition}
+use Rattle.naming.specs.State.{State}
+use Rattle.commands.specs.Command.{readCommand}
 use Rattle.commands.specs.Refusal.{Refusal, noRoom, Capacities}
 use Rattle.commands.specs.Answer.{answerBytes}
-use Rattle.commands.specs.Step.{after}
-use Rattle.commands.specs.Run.{Accepted, Run, refused, accepted, verdict, runFrom, fitting, runWithin, bytesOfAnswers, placeAfter}
+use Rattle.commands.specs.Text.{textOf}
+use Rattle.commands.specs.Run.{Accepted, Run, runText, fitting, runWithin, bytesOfAnswers, placeAfter}
 use Rattle.commands.proofs.Cases.{impossible}
 use Rattle.commands.proofs.Room.{RoomForAll, CutAt, cut-where-no-room, all-fit-whole, cut-at-stop, cut-before-end, Prefix, fitting-is-prefix}
-use Rattle.commands.proofs.Steps.{RunsTo, ends, refuses, accepts, run-takes-steps, accepted-width-fits}
-
--- the commands' additions, entered into the book one after another
-unfoldable pub bookFed : Book → List Accepted → Book
-bookFed b l = feedAll b (map addition (map (λ a. a .command) l))
+use Rattle.commands.proofs.Steps.{RefusedFor, WasAccepted, RunsTo, ends, refuses, accepts, run-takes-steps, accepted-width-fits}
+use Rattle.commands.proofs.StateAfter.{stateFed, fed-none, fed-more}
+use Rattle.commands.proofs.Causes.{refused-for-one}
 
 -- the accepted commands take no more bytes than the journal has
-pub place-in-journal : (caps : Capacities) {b : Book} {journal : List ℕ} {l : List Accepted} {end : Option Refusal}
-    → RunsTo caps b journal l end → placeAfter l ≤ length journal
+pub place-in-journal : (caps : Capacities) {s : State} {journal : List ℕ} {l : List Accepted} {end : Option Refusal}
+    → RunsTo caps s journal l end → placeAfter l ≤ length journal
 unfolding placeAfter
 place-in-journal caps ends = omega arith
 place-in-journal caps (refuses e) = omega arith
-place-in-journal caps {b} (accepts {byte = byte} {bytes = bytes} {a = a} e rest) =
-    omega (arith, accepted-width-fits caps b byte bytes a e, simp length-drop at (place-in-journal caps rest))
+place-in-journal caps {s} (accepts {byte = byte} {bytes = bytes} {a = a} e rest) =
+    omega (arith, accepted-width-fits caps s byte bytes a e, simp length-drop at (place-in-journal caps rest))
 
 -- behind an accepted command the place counts on from the end of its operands
 pub next-place : (a : Accepted) (later : List Accepted) (byte : ℕ) (bytes : List ℕ)
@@ -37,63 +35,53 @@ pub next-place : (a : Accepted) (later : List Accepted) (byte : ℕ) (bytes : Li
 unfolding placeAfter
 next-place a later byte bytes = rw (suc-add (a .width) (placeAfter later)) (sym (drop-drop (placeAfter later) (a .width) bytes))
 
--- and the book is fed on from the book after it
-pub fed-more : (b : Book) (a : Accepted) (later : List Accepted) → bookFed b (a ∷ later) ≡ bookFed (after b (a .command)) later
-unfolding bookFed feedAll after
-fed-more b a later = refl
-
--- no commands leave the book as it is
-pub fed-none : (b : Book) → bookFed b [] ≡ b
-unfolding bookFed feedAll
-fed-none b = refl
-
--- where the accepted commands end, with the book after them, stands a command that is refused
-pub record RefusedAt (caps : Capacities) (b : Book) (journal : List ℕ) (l : List Accepted) (r : Refusal) : Type 0 where
+-- where the accepted commands end, in the state after them, stands a command that is refused
+pub record RefusedAt (caps : Capacities) (s : State) (journal : List ℕ) (l : List Accepted) (r : Refusal) : Type 0 where
   pub byte : ℕ
   pub bytes : List ℕ
   pub at-place : drop (placeAfter l) journal ≡ byte ∷ bytes
-  pub refuses : verdict caps (bookFed b l) (readCommand byte bytes) ≡ refused r
+  pub refuses : RefusedFor caps (stateFed s l) (readCommand byte bytes) r
 
 -- the journal ends where the accepted commands end, or a command is refused there
-abbrev pub StopsAt : Capacities → Book → List ℕ → List Accepted → Option Refusal → Type 0
-StopsAt caps b journal l none = placeAfter l ≡ length journal
-StopsAt caps b journal l (some r) = RefusedAt caps b journal l r
+abbrev pub StopsAt : Capacities → State → List ℕ → List Accepted → Option Refusal → Type 0
+StopsAt caps s journal l none = placeAfter l ≡ length journal
+StopsAt caps s journal l (some r) = RefusedAt caps s journal l r
 
 -- every run stops in one of these two ways
-pub stops-at-place : (caps : Capacities) {b : Book} {journal : List ℕ} {l : List Accepted} (end : Option Refusal)
-    → RunsTo caps b journal l end → StopsAt caps b journal l end
+pub stops-at-place : (caps : Capacities) {s : State} {journal : List ℕ} {l : List Accepted} (end : Option Refusal)
+    → RunsTo caps s journal l end → StopsAt caps s journal l end
 unfolding placeAfter
 stops-at-place caps none ends = refl
-stops-at-place caps (some r) (refuses {b = b} e) = record { byte = _; bytes = _; at-place = refl; refuses = rw (fed-none b) e }
-stops-at-place caps none (accepts {b = b} {byte = byte} {bytes = bytes} {a = a} {later = later} e rest) =
-    omega (arith, accepted-width-fits caps b byte bytes a e, simp length-drop at (stops-at-place caps none rest))
-stops-at-place caps (some r) (accepts {b = b} {byte = byte} {bytes = bytes} {a = a} {later = later} e rest) =
+stops-at-place caps (some r) (refuses {s = s} e) = record { byte = _; bytes = _; at-place = refl; refuses = rw (fed-none s) e }
+stops-at-place caps none (accepts {s = s} {byte = byte} {bytes = bytes} {a = a} {later = later} e rest) =
+    omega (arith, accepted-width-fits caps s byte bytes a e, simp length-drop at (stops-at-place caps none rest))
+stops-at-place caps (some r) (accepts {s = s} {byte = byte} {bytes = bytes} {a = a} {later = later} e rest) =
     let there = stops-at-place caps (some r) rest in
     record {
       byte = there .byte;
       bytes = there .bytes;
       at-place = next-place a later byte bytes ∙ there .at-place;
-      refuses = rw (fed-more b a later) (there .refuses);
+      refuses = rw (fed-more s a later) (there .refuses);
     }
 
--- accepted command k is what the verdict says at its place, with the book after the k commands before it
-pub record AcceptedAt (caps : Capacities) (b : Book) (journal : List ℕ) (l : List Accepted) (k : ℕ) : Type 0 where
+-- accepted command k stands at its place, and is accepted in the state after the k commands before it
+pub record AcceptedAt (caps : Capacities) (s : State) (journal : List ℕ) (l : List Accepted) (k : ℕ) : Type 0 where
   pub byte : ℕ
   pub bytes : List ℕ
   pub this : Accepted
   pub is-kth : getElem? l k ≡ some this
   pub at-place : drop (placeAfter (take k l)) journal ≡ byte ∷ bytes
-  pub accepts : verdict caps (bookFed b (take k l)) (readCommand byte bytes) ≡ accepted this
+  pub accepts : WasAccepted caps (stateFed s (take k l)) (readCommand byte bytes) this
 
 -- so it is with every accepted command
-pub accepted-at-place : (caps : Capacities) {b : Book} {journal : List ℕ} {l : List Accepted} {end : Option Refusal}
-    → RunsTo caps b journal l end → (k : ℕ) → k < length l → AcceptedAt caps b journal l k
+pub accepted-at-place : (caps : Capacities) {s : State} {journal : List ℕ} {l : List Accepted} {end : Option Refusal}
+    → RunsTo caps s journal l end → (k : ℕ) → k < length l → AcceptedAt caps s journal l k
 unfolding placeAfter
 accepted-at-place caps ends k h = absurd (not-suc-le-zero h)
 accepted-at-place caps (refuses e) k h = absurd (not-suc-le-zero h)
-accepted-at-place caps (accepts {b = b} {a = a} e rest) zero h =
-    record { byte = _; bytes = _; this = a; is-kth = refl; at-place = refl; accepts = rw (fed-none b) e }
-accepted-at-place caps (accepts {b = b} {byte = byte} {bytes = bytes} {a = a} {later = later} e rest) (suc k) h =
+accepted-at-place caps (accepts {s = s} {a = a} e rest) zero h =
+    record { byte = _; bytes = _; this = a; is-kth = refl; at-place = refl; accepts = rw (fed-none s) e }
+accepted-at-place caps (accepts {s = s} {byte = byte} {bytes = bytes} {a = a} {later = later} e rest) (suc k) h =
     let there = accepted-at-place caps rest k (omega arith) in
     record {
       byte = there .byte;
@@ -101,7 +89,7 @@ accepted-at-place caps (accepts {b = b} {byte = byte} {bytes = bytes} {a = a} {l
       this = there .this;
       is-kth = there .is-kth;
       at-place = next-place a (take k later) byte bytes ∙ there .at-place;
-      accepts = rw (fed-more b a (take k later)) (there .accepts);
+      accepts = rw (fed-more s a (take k later)) (there .accepts);
     }
 
 getElem-drop : (l : List Accepted) (k : ℕ) (a : Accepted) (later : List Accepted) → drop k l ≡ a ∷ later → getElem? l k ≡ some a
@@ -110,55 +98,61 @@ getElem-drop [] (suc k) a later e = impossible (cc)
 getElem-drop (x ∷ l) zero a later e = cc
 getElem-drop (x ∷ l) (suc k) a later e = getElem-drop l k a later e
 
--- the run from a book over a journal, without regard to room
-module _ (caps : Capacities) (b : Book) (journal : List ℕ) where
-  whole-run-steps : RunsTo caps b journal (runFrom caps b 0 journal .accepted) (runFrom caps b 0 journal .refusal)
-  whole-run-steps = run-takes-steps caps b 0 journal
+-- the run from a state over a journal, without regard to room
+module _ (caps : Capacities) (s : State) (journal : List ℕ) where
+  -- its steps
+  pub whole-run-steps : RunsTo caps s journal (runText caps s (textOf journal) .accepted) (runText caps s (textOf journal) .refusal)
+  unfolding textOf
+  whole-run-steps = run-takes-steps caps s 0 0 journal
 
   -- a run that is not refused has read the whole journal
-  pub journal-is-read-whole : runFrom caps b 0 journal .refusal ≡ none → placeAfter (runFrom caps b 0 journal .accepted) ≡ length journal
+  pub journal-is-read-whole : runText caps s (textOf journal) .refusal ≡ none → placeAfter (runText caps s (textOf journal) .accepted) ≡ length journal
   journal-is-read-whole e = stops-at-place caps none (rw e at whole-run-steps)
 
   -- a refused command begins where the accepted ones end
-  pub refused-at-place : {r : Refusal} → runFrom caps b 0 journal .refusal ≡ some r
-      → RefusedAt caps b journal (runFrom caps b 0 journal .accepted) r
+  pub refused-at-place : {r : Refusal} → runText caps s (textOf journal) .refusal ≡ some r
+      → RefusedAt caps s journal (runText caps s (textOf journal) .accepted) r
   refused-at-place {r} e = stops-at-place caps (some r) (rw e at whole-run-steps)
 
   -- and if the command there is refused, that is what ended the run
   pub refused-exactly : (r : Refusal)
-      → (runFrom caps b 0 journal .refusal ≡ some r) ↔ RefusedAt caps b journal (runFrom caps b 0 journal .accepted) r
-  refused-exactly r = (refused-at-place, λ at. go at (runFrom caps b 0 journal .refusal) whole-run-steps)
+      → (runText caps s (textOf journal) .refusal ≡ some r) ↔ RefusedAt caps s journal (runText caps s (textOf journal) .accepted) r
+  refused-exactly r = (refused-at-place, λ at. go at (runText caps s (textOf journal) .refusal) whole-run-steps)
     where
-      go : RefusedAt caps b journal (runFrom caps b 0 journal .accepted) r
-          → (end : Option Refusal) → RunsTo caps b journal (runFrom caps b 0 journal .accepted) end → end ≡ some r
+      go : RefusedAt caps s journal (runText caps s (textOf journal) .accepted) r
+          → (end : Option Refusal) → RunsTo caps s journal (runText caps s (textOf journal) .accepted) end → end ≡ some r
       go at none steps =
           let read = drop-of-length-le journal (le-of-eq (sym (stops-at-place caps none steps))) in
           impossible (cc (at .at-place))
-      go at (some s) steps = let there = stops-at-place caps (some s) steps in cc
+      go at (some q) steps =
+          let there = stops-at-place caps (some q) steps in
+          let same : there .byte ∷ there .bytes ≡ at .byte ∷ at .bytes = sym (there .at-place) ∙ at .at-place in
+          let read : readCommand (there .byte) (there .bytes) ≡ readCommand (at .byte) (at .bytes) = cc in
+          ap some (refused-for-one caps _ (rw read at (there .refuses)) (at .refuses))
 
   -- every accepted command stands where those before it end
-  pub each-at-its-place : (k : ℕ) → k < length (runFrom caps b 0 journal .accepted)
-      → AcceptedAt caps b journal (runFrom caps b 0 journal .accepted) k
+  pub each-at-its-place : (k : ℕ) → k < length (runText caps s (textOf journal) .accepted)
+      → AcceptedAt caps s journal (runText caps s (textOf journal) .accepted) k
   each-at-its-place = accepted-at-place caps whole-run-steps
 
   -- the place is in the journal, or its end
-  pub run-place-in-journal : placeAfter (runFrom caps b 0 journal .accepted) ≤ length journal
+  pub run-place-in-journal : placeAfter (runText caps s (textOf journal) .accepted) ≤ length journal
   run-place-in-journal = place-in-journal caps whole-run-steps
 
 -- where the accepted commands end stands one that is accepted, and the room that is left is too short for its answer
-pub record NoRoomAt (room : ℕ) (caps : Capacities) (b : Book) (journal : List ℕ) (l : List Accepted) : Type 0 where
+pub record NoRoomAt (room : ℕ) (caps : Capacities) (s : State) (journal : List ℕ) (l : List Accepted) : Type 0 where
   pub byte : ℕ
   pub bytes : List ℕ
   pub this : Accepted
   pub at-place : drop (placeAfter l) journal ≡ byte ∷ bytes
-  pub accepts : verdict caps (bookFed b l) (readCommand byte bytes) ≡ accepted this
+  pub accepts : WasAccepted caps (stateFed s l) (readCommand byte bytes) this
   pub no-room : room < length (bytesOfAnswers l) + length (answerBytes (this .answer))
 
 -- the whole journal was read, or a command was refused, or there was no room for the answer to one
-abbrev pub StopsWithin : ℕ → Capacities → Book → List ℕ → Run → Type 0
-StopsWithin room caps b journal r =
-    StopsAt caps b journal (r .accepted) (r .refusal)
-    ⊎ ((r .refusal ≡ some noRoom) × NoRoomAt room caps b journal (r .accepted))
+abbrev pub StopsWithin : ℕ → Capacities → State → List ℕ → Run → Type 0
+StopsWithin room caps s journal r =
+    StopsAt caps s journal (r .accepted) (r .refusal)
+    ⊎ ((r .refusal ≡ some noRoom) × NoRoomAt room caps s journal (r .accepted))
 
 place-of-first : (n : ℕ) (l : List Accepted) → placeAfter (take n l) ≤ placeAfter l
 unfolding placeAfter
@@ -169,30 +163,30 @@ place-of-first (suc n) (a ∷ l) = omega (arith, place-of-first n l)
 place-of-prefix : (l m : List Accepted) → Prefix l m → placeAfter l ≤ placeAfter m
 place-of-prefix l m p = omega (arith, place-of-first (length l) m, ap placeAfter (p .same))
 
--- the run from a book over a journal, with so much room
-module _ (room : ℕ) (caps : Capacities) (b : Book) (journal : List ℕ) where
+-- the run from a state over a journal, with so much room
+module _ (room : ℕ) (caps : Capacities) (s : State) (journal : List ℕ) where
   -- it accepts the first of the commands that are accepted without regard to room
-  pub within-is-prefix : Prefix (runWithin room caps b journal .accepted) (runFrom caps b 0 journal .accepted)
+  pub within-is-prefix : Prefix (runWithin room caps s (textOf journal) .accepted) (runText caps s (textOf journal) .accepted)
   unfolding runWithin
-  within-is-prefix = fitting-is-prefix room (runFrom caps b 0 journal .accepted) (runFrom caps b 0 journal .refusal)
+  within-is-prefix = fitting-is-prefix room (runText caps s (textOf journal) .accepted) (runText caps s (textOf journal) .refusal)
 
   -- the place is in the journal, or its end
-  pub place-within-journal : placeAfter (runWithin room caps b journal .accepted) ≤ length journal
-  place-within-journal = le-trans (place-of-prefix _ _ within-is-prefix) (run-place-in-journal caps b journal)
+  pub place-within-journal : placeAfter (runWithin room caps s (textOf journal) .accepted) ≤ length journal
+  place-within-journal = le-trans (place-of-prefix _ _ within-is-prefix) (run-place-in-journal caps s journal)
 
   -- a run within the room stops in one of these ways
-  pub stops-within : StopsWithin room caps b journal (runWithin room caps b journal)
+  pub stops-within : StopsWithin room caps s journal (runWithin room caps s (textOf journal))
   unfolding runWithin
   stops-within = go (cut-where-no-room room (all .accepted))
     where
       all : Run
-      all = runFrom caps b 0 journal
+      all = runText caps s (textOf journal)
 
-      go : RoomForAll room (all .accepted) ⊎ CutAt room (all .accepted) → StopsWithin room caps b journal (fitting room (all .accepted) (all .refusal))
+      go : RoomForAll room (all .accepted) ⊎ CutAt room (all .accepted) → StopsWithin room caps s journal (fitting room (all .accepted) (all .refusal))
       go (inl w) =
-          inl (rw (all-fit-whole room (all .accepted) (all .refusal) w) (stops-at-place caps (all .refusal) (whole-run-steps caps b journal)))
+          inl (rw (all-fit-whole room (all .accepted) (all .refusal) w) (stops-at-place caps (all .refusal) (whole-run-steps caps s journal)))
       go (inr c) =
-          let at = each-at-its-place caps b journal (c .count) (cut-before-end room (all .accepted) c) in
+          let at = each-at-its-place caps s journal (c .count) (cut-before-end room (all .accepted) c) in
           let kth = getElem-drop (all .accepted) (c .count) (c .next) (c .later) (c .splits) in
           let same : c .next ≡ at .this = cc (at .is-kth) in
           inr

@@ -6,43 +6,44 @@ use mathlib.Core.Path.{_≡_, refl, _∙_, ap}
 use Prim.Native.Nat.{ℕ, zero, suc, _≤_}
 use lib.ListN.{length, take, drop, getElem?, length-map}
 use Rattle.graph.specs.Network.{Rule, MateRule}
-use Rattle.naming.specs.Book.{Book, emptyBook, feedAll}
-use Rattle.commands.specs.Command.{Command, addition}
+use Rattle.naming.specs.State.{State, emptyState}
+use Rattle.commands.specs.Command.{Command}
 use Rattle.commands.specs.Refusal.{Refusal, Capacities}
-use Rattle.commands.specs.Step.{after, answer}
+use Rattle.commands.specs.Facts.{after, answer}
 use Rattle.commands.specs.Run.{Accepted, commandsOf, bytesOfAnswers}
 use Rattle.commands.specs.Entry.{refusedAtStart, acceptedCommands, over, Buffers, outcome, entryUnder}
 use Rattle.commands.specs.Decode.{decodeFirst}
 use Rattle.commands.proofs.Start.{good-exactly, ran-exactly, refused-or-ran}
 use Rattle.commands.proofs.Returned.{whole, within, WellStarted}
 use Rattle.commands.proofs.Cases.{impossible}
+use Rattle.commands.proofs.StateAfter.{stateAfter}
 use Rattle.commands.proofs.Decode.{AllFit, decode-first}
 use Rattle.commands.proofs.NameList.{answersFrom, first-answers}
 use Rattle.commands.proofs.RunBooks.{empty-sound, Answered, run-answered, answers-of-run}
 use Rattle.commands.proofs.AnswersFit.{all-answers-fit}
 
 -- there are as many answers as commands
-pub length-answers : (b : Book) (cs : List Command) → length (answersFrom b cs) ≡ length cs
+pub length-answers : (s : State) (cs : List Command) → length (answersFrom s cs) ≡ length cs
 unfolding answersFrom
-length-answers b [] = refl
-length-answers b (c ∷ later) = ap suc (length-answers (after b c) later)
+length-answers s [] = refl
+length-answers s (c ∷ later) = ap suc (length-answers (after s c) later)
 
--- each answer is the answer to its command from the book after those before it
-pub answer-at : (b : Book) (cs : List Command) (i : ℕ) (c : Command) → getElem? cs i ≡ some c
-    → getElem? (answersFrom b cs) i ≡ some (answer (feedAll b (map addition (take i cs))) c)
-unfolding answersFrom feedAll after
-answer-at b [] i c e = impossible (cc)
-answer-at b (d ∷ later) zero c e = cc
-answer-at b (d ∷ later) (suc i) c e = answer-at (after b d) later i c e
+-- each answer is the answer to its command from the state after those before it
+pub answer-at : (s : State) (cs : List Command) (i : ℕ) (c : Command) → getElem? cs i ≡ some c
+    → getElem? (answersFrom s cs) i ≡ some (answer (stateAfter s (take i cs)) c)
+unfolding answersFrom stateAfter
+answer-at s [] i c e = impossible (cc)
+answer-at s (d ∷ later) zero c e = cc
+answer-at s (d ∷ later) (suc i) c e = answer-at (after s d) later i c e
 
 -- commands that were accepted one after another, with answers that fit: their answers are read back, whatever follows the bytes
-read-accepted : (caps : Capacities) (b : Book) (l : List Accepted) → Answered caps b l → AllFit l → (rest : List ℕ)
+read-accepted : (caps : Capacities) (s : State) (l : List Accepted) → Answered caps s l → AllFit l → (rest : List ℕ)
     → (k : ℕ) → k ≤ length (map (λ a. a .command) l)
-    → decodeFirst k (bytesOfAnswers l ++ rest) ≡ answersFrom b (take k (map (λ a. a .command) l))
-read-accepted caps b l w fit rest k h =
+    → decodeFirst k (bytesOfAnswers l ++ rest) ≡ answersFrom s (take k (map (λ a. a .command) l))
+read-accepted caps s l w fit rest k h =
     decode-first l fit k (rw length-map at h) rest
-    ∙ ap (take k) (answers-of-run caps b l w)
-    ∙ first-answers k b (map (λ a. a .command) l)
+    ∙ ap (take k) (answers-of-run caps s l w)
+    ∙ first-answers k s (map (λ a. a .command) l)
 
 module _ (rule : Rule) (caps : Capacities) (journal : List ℕ) (lent : Buffers) where
   -- the accepted commands of the run
@@ -55,12 +56,12 @@ module _ (rule : Rule) (caps : Capacities) (journal : List ℕ) (lent : Buffers)
 
   -- the first k answers that the buffer holds are those to the first k commands
   pub read-back : MateRule rule → (k : ℕ) → k ≤ length accepted
-      → decodeFirst k answerBuffer ≡ answersFrom (emptyBook rule) (take k accepted)
+      → decodeFirst k answerBuffer ≡ answersFrom (emptyState rule) (take k accepted)
   unfolding entryUnder outcome over acceptedCommands commandsOf bytesOfAnswers
   read-back r k h = go (refused-or-ran rule caps journal (length (lent .work)) (length (lent .answers)) (length (lent .report))) h
     where
-      start : Book
-      start = emptyBook rule
+      start : State
+      start = emptyState rule
 
       taken : List Accepted
       taken = within rule caps journal lent .accepted

@@ -2,78 +2,70 @@
 use mathlib.Core.Bool.{Bool, true, false, _&&_, and-false, true≢false}
 use mathlib.Core.List.{List}
 use mathlib.Core.Logic.{_↔_, _⊎_, inl, inr}
-use mathlib.Core.Path.{_≡_, refl, sym, _∙_, ap}
-use Prim.Native.Nat.{ℕ, zero, suc, _≤_, _<_}
+use mathlib.Core.Path.{_≡_, refl, sym, ap}
+use Prim.Native.Nat.{ℕ, _*_, _≤_, _<_}
 use native.Mathlib.Omega.{arith}
 use lib.Dec.{leb}
 use lib.ListN.{length}
 use Rattle.graph.proofs.Truth.{le-leb}
-use Rattle.commands.specs.Command.{Command, Form, unknown, alone, withOne, withTwo, form, operand, Reading, unknownByte, cutOff, command, ifLong, readForm, readCommand}
+use Rattle.commands.specs.Command.{Command, Form, unknown, takes, forms, form, operand, Reading, unknownByte, cutOff, command, readForm, readCommand}
 use Rattle.commands.proofs.Cases.{le-or-gt, gt-leb, impossible}
+use Rattle.commands.proofs.ByPlace.{each-at, _also_}
 
--- the form is that of a command
+-- the form is a command's
 unfoldable pub isKnown : Form → Bool
 isKnown unknown = false
-isKnown (alone c) = true
-isKnown (withOne f) = true
-isKnown (withTwo f) = true
+isKnown (takes n make) = true
 
-above-eight : (byte : ℕ) → 8 < byte → (leb 1 byte && leb byte 8) ≡ false
-above-eight byte h = rw (gt-leb byte 8 h) (and-false (leb 1 byte))
-
--- the commands' bytes are 01 to 08
-pub known-bytes : (byte : ℕ) → isKnown (form byte) ≡ (leb 1 byte && leb byte 8)
-unfolding form isKnown
-known-bytes zero = refl
-known-bytes (suc zero) = refl
-known-bytes (suc (suc zero)) = refl
-known-bytes (suc (suc (suc zero))) = refl
-known-bytes (suc (suc (suc (suc zero)))) = refl
-known-bytes (suc (suc (suc (suc (suc zero))))) = refl
-known-bytes (suc (suc (suc (suc (suc (suc zero)))))) = refl
-known-bytes (suc (suc (suc (suc (suc (suc (suc zero))))))) = refl
-known-bytes (suc (suc (suc (suc (suc (suc (suc (suc zero)))))))) = refl
-known-bytes (suc (suc (suc (suc (suc (suc (suc (suc (suc n))))))))) =
-    sym (above-eight (suc (suc (suc (suc (suc (suc (suc (suc (suc n))))))))) (omega arith))
-
--- the form of the other bytes, and of no others, is unknown
-pub unknown-exactly : (byte : ℕ) → (form byte ≡ unknown) ↔ ((leb 1 byte && leb byte 8) ≡ false)
-unfolding isKnown
-unknown-exactly byte = (λ e. sym (known-bytes byte) ∙ ap isKnown e, λ e. go (form byte) (known-bytes byte ∙ e))
-  where
-    go : (f : Form) → isKnown f ≡ false → f ≡ unknown
-    go unknown e = refl
-    go (alone c) e = absurd (true≢false e)
-    go (withOne f) e = absurd (true≢false e)
-    go (withTwo f) e = absurd (true≢false e)
+-- the byte is a command's
+unfoldable pub isCommand : ℕ → Bool
+isCommand byte = isKnown (form byte)
 
 -- the bytes of the operands of a form, counted
 unfoldable pub widthOf : Form → ℕ
 widthOf unknown = 0
-widthOf (alone c) = 0
-widthOf (withOne f) = 2
-widthOf (withTwo f) = 4
+widthOf (takes n make) = 2 * n
 
--- a byte with operands is one of 01 to 08
-pub operands-known : (byte k : ℕ) → k < widthOf (form byte) → (leb 1 byte && leb byte 8) ≡ true
-unfolding isKnown widthOf
-operands-known byte k = go (form byte) (known-bytes byte)
+-- the commands' bytes are 01 to 08
+pub known-bytes : (byte : ℕ) → isCommand byte ≡ (leb 1 byte && leb byte 8)
+unfolding isCommand form forms isKnown
+known-bytes =
+    each-at
+    (λ byte f. isKnown f ≡ (leb 1 byte && leb byte 8))
+    forms
+    unknown
+    (refl also refl also refl also refl also refl also refl also refl also refl also refl also tt)
+    (λ byte h. sym (rw (gt-leb byte 8 (omega arith)) (and-false (leb 1 byte))))
+
+-- the form of the other bytes, and of no others, is unknown
+pub unknown-exactly : (byte : ℕ) → (form byte ≡ unknown) ↔ (isCommand byte ≡ false)
+unfolding isCommand isKnown
+unknown-exactly byte = (λ e. ap isKnown e, go (form byte))
   where
-    go : (f : Form) → isKnown f ≡ (leb 1 byte && leb byte 8) → k < widthOf f → (leb 1 byte && leb byte 8) ≡ true
-    go unknown e h = absurd (omega arith)
-    go (alone c) e h = sym e
-    go (withOne f) e h = sym e
-    go (withTwo f) e h = sym e
+    go : (f : Form) → isKnown f ≡ false → f ≡ unknown
+    go unknown e = refl
+    go (takes n make) e = absurd (true≢false e)
 
--- the operands are there
-pub long-enough : (width : ℕ) (bytes : List ℕ) (c : Command) → width ≤ length bytes → ifLong width bytes c ≡ command c width
-unfolding ifLong
-long-enough width bytes c h = rw (le-leb width (length bytes) h)
+-- a byte with operands is a command's
+pub operands-known : (byte k : ℕ) → k < widthOf (form byte) → isCommand byte ≡ true
+unfolding isCommand isKnown widthOf
+operands-known byte k = go (form byte)
+  where
+    go : (f : Form) → k < widthOf f → isKnown f ≡ true
+    go unknown h = absurd (omega arith)
+    go (takes n make) h = refl
 
--- the operands are cut off
-pub too-short : (width : ℕ) (bytes : List ℕ) (c : Command) → length bytes < width → ifLong width bytes c ≡ cutOff
-unfolding ifLong
-too-short width bytes c h = rw (gt-leb width (length bytes) h)
+-- A form that takes operands, and the bytes that follow.
+module _ (n : ℕ) (make : (ℕ → ℕ) → Command) (bytes : List ℕ) where
+  -- the operands are there
+  pub long-enough : 2 * n ≤ length bytes → readForm (takes n make) bytes ≡ command (make (operand bytes)) (2 * n)
+  unfolding readForm
+  long-enough h = rw (le-leb (2 * n) (length bytes) h)
+
+  -- the operands are cut off
+  pub too-short : length bytes < 2 * n → readForm (takes n make) bytes ≡ cutOff
+  unfolding readForm
+  too-short h = rw (gt-leb (2 * n) (length bytes) h)
 
 -- what can be read: an unknown byte, operands cut off, or a command with all its operands
 pub data Reads (f : Form) (bytes : List ℕ) : Reading → Type 0 where
@@ -81,20 +73,15 @@ pub data Reads (f : Form) (bytes : List ℕ) : Reading → Type 0 where
   reads-cut : isKnown f ≡ true → length bytes < widthOf f → Reads f bytes cutOff
   reads-command : {c : Command} → isKnown f ≡ true → widthOf f ≤ length bytes → Reads f bytes (command c (widthOf f))
 
-reads-if-long : (f : Form) (bytes : List ℕ) (c : Command) → isKnown f ≡ true → Reads f bytes (ifLong (widthOf f) bytes c)
-reads-if-long f bytes c k = go (le-or-gt (widthOf f) (length bytes))
-  where
-    go : (widthOf f ≤ length bytes) ⊎ (length bytes < widthOf f) → Reads f bytes (ifLong (widthOf f) bytes c)
-    go (inl h) = rw (long-enough (widthOf f) bytes c h) (reads-command k h)
-    go (inr h) = rw (too-short (widthOf f) bytes c h) (reads-cut k h)
-
 -- the operands that follow decide it
 pub reads : (f : Form) (bytes : List ℕ) → Reads f bytes (readForm f bytes)
 unfolding readForm widthOf isKnown
 reads unknown bytes = reads-unknown refl
-reads (alone c) bytes = reads-command refl (omega arith)
-reads (withOne f) bytes = reads-if-long (withOne f) bytes (f (operand bytes 0)) refl
-reads (withTwo f) bytes = reads-if-long (withTwo f) bytes (f (operand bytes 0) (operand bytes 1)) refl
+reads (takes n make) bytes = go (le-or-gt (2 * n) (length bytes))
+  where
+    go : (2 * n ≤ length bytes) ⊎ (length bytes < 2 * n) → Reads (takes n make) bytes (readForm (takes n make) bytes)
+    go (inl h) = rw (long-enough n make bytes h) (reads-command refl h)
+    go (inr h) = rw (too-short n make bytes h) (reads-cut refl h)
 
 -- an unknown byte is read exactly where the form is unknown
 pub unknown-byte : (f : Form) (bytes : List ℕ) → (readForm f bytes ≡ unknownByte) ↔ (f ≡ unknown)

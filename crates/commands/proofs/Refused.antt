@@ -2,16 +2,19 @@
 use mathlib.Core.List.{List, _∷_}
 use mathlib.Core.Logic.{_↔_}
 use mathlib.Core.Option.{some}
-use mathlib.Core.Path.{_≡_, refl, _∙_, ap}
+use mathlib.Core.Path.{_≡_, refl}
 use Prim.Native.Nat.{ℕ, _≤_}
 use native.Mathlib.Omega.{arith}
 use lib.ListN.{drop}
-use Rattle.naming.specs.Book.{Book}
+use Rattle.naming.specs.State.{State}
 use Rattle.commands.specs.Command.{Command, Reading, command, readCommand}
-use Rattle.commands.specs.Refusal.{Refusal, refusalNumber, Capacities, refusalOf}
-use Rattle.commands.specs.Run.{Accepted, refused, verdict, placeAfter}
-use Rattle.commands.proofs.Place.{bookFed, RefusedAt}
-use Rattle.commands.proofs.Causes.{RefusedFor, for-byte, for-operands, for-command, refused-cases, table-decides}
+use Rattle.commands.specs.Refusal.{Refusal, Capacities, refusalOf}
+use Rattle.commands.specs.Run.{Accepted, placeAfter}
+use Rattle.commands.proofs.Steps.{RefusedFor, for-byte, for-operands, for-command}
+use Rattle.commands.proofs.StateAfter.{stateFed}
+use Rattle.commands.proofs.Place.{RefusedAt}
+use Rattle.commands.proofs.Table.{stage}
+use Rattle.commands.proofs.Causes.{table-decides}
 
 -- where the accepted commands end, a byte with those behind it for which the cause is there
 pub record ByteAt (journal : List ℕ) (l : List Accepted) (Cause : ℕ → List ℕ → Type 0) : Type 0 where
@@ -30,36 +33,36 @@ pub record CommandAt (journal : List ℕ) (l : List Accepted) (Cause : Command �
   pub is-read : readCommand byte bytes ≡ command this width
   pub cause : Cause this
 
--- what is refused with a number from 6 on was a command read whole
-record ReadWhole (caps : Capacities) (b : Book) (read : Reading) (r : Refusal) : Type 0 where
+-- what is refused at the stage of commands was a command read whole
+record ReadWhole (caps : Capacities) (s : State) (read : Reading) (r : Refusal) : Type 0 where
   this : Command
   width : ℕ
   is-read : read ≡ command this width
-  refused : refusalOf caps b this ≡ some r
+  refused : refusalOf caps s this ≡ some r
 
-was-whole : (caps : Capacities) (b : Book) {read : Reading} {r : Refusal} → 6 ≤ refusalNumber r → RefusedFor caps b read r → ReadWhole caps b read r
-unfolding refusalNumber
-was-whole caps b h for-byte = absurd (omega arith)
-was-whole caps b h for-operands = absurd (omega arith)
-was-whole caps b h (for-command {c = c} {w = w} e) = record { this = c; width = w; is-read = refl; refused = e }
+was-whole : (caps : Capacities) (s : State) {read : Reading} {r : Refusal} → 2 ≤ stage r → RefusedFor caps s read r → ReadWhole caps s read r
+unfolding stage
+was-whole caps s h for-byte = absurd (omega arith)
+was-whole caps s h for-operands = absurd (omega arith)
+was-whole caps s h (for-command {c = c} {width = w} e) = record { this = c; width = w; is-read = refl; refused = e }
 
-module _ (caps : Capacities) (b : Book) (journal : List ℕ) (l : List Accepted) (r : Refusal) where
+module _ (caps : Capacities) (s : State) (journal : List ℕ) (l : List Accepted) (r : Refusal) where
   -- a byte is refused exactly for its cause
   pub byte-refused-exactly : (Cause : ℕ → List ℕ → Type 0)
-      → ((byte : ℕ) (bytes : List ℕ) → (verdict caps (bookFed b l) (readCommand byte bytes) ≡ refused r) ↔ Cause byte bytes)
-      → RefusedAt caps b journal l r ↔ ByteAt journal l Cause
+      → ((byte : ℕ) (bytes : List ℕ) → RefusedFor caps (stateFed s l) (readCommand byte bytes) r ↔ Cause byte bytes)
+      → RefusedAt caps s journal l r ↔ ByteAt journal l Cause
   byte-refused-exactly Cause f = (
     λ at. record { byte = at .byte; bytes = at .bytes; at-place = at .at-place; cause = f (at .byte) (at .bytes) .0 (at .refuses) },
     λ at. record { byte = at .byte; bytes = at .bytes; at-place = at .at-place; refuses = f (at .byte) (at .bytes) .1 (at .cause) },
   )
 
   -- a command read whole is refused exactly for its cause
-  pub command-refused-exactly : (Cause : Command → Type 0) → 6 ≤ refusalNumber r
-      → ((c : Command) → (refusalOf caps (bookFed b l) c ≡ some r) ↔ Cause c)
-      → RefusedAt caps b journal l r ↔ CommandAt journal l Cause
+  pub command-refused-exactly : (Cause : Command → Type 0) → 2 ≤ stage r
+      → ((c : Command) → (refusalOf caps (stateFed s l) c ≡ some r) ↔ Cause c)
+      → RefusedAt caps s journal l r ↔ CommandAt journal l Cause
   command-refused-exactly Cause h f = (
     λ at.
-        let there = was-whole caps (bookFed b l) h (refused-cases caps (bookFed b l) _ r .0 (at .refuses)) in
+        let there = was-whole caps (stateFed s l) h (at .refuses) in
         record {
           byte = at .byte;
           bytes = at .bytes;
@@ -75,7 +78,6 @@ module _ (caps : Capacities) (b : Book) (journal : List ℕ) (l : List Accepted)
           bytes = at .bytes;
           at-place = at .at-place;
           refuses =
-              ap (verdict caps (bookFed b l)) (at .is-read)
-              ∙ table-decides caps (bookFed b l) (at .this) (at .width) r .1 (f (at .this) .1 (at .cause));
+              rw (at .is-read) (table-decides caps (stateFed s l) (at .this) (at .width) r .1 (f (at .this) .1 (at .cause)));
         },
   )

@@ -1,27 +1,30 @@
 -- The returned number: which run it stands for.
-use mathlib.Core.Bool.{true, false, _&&_}
+use mathlib.Core.Bool.{true, false}
 use mathlib.Core.List.{List}
 use mathlib.Core.Logic.{_↔_, Iff·rfl, Iff·trans, Iff·and, _⊎_, inl, inr, _≢_}
 use mathlib.Core.Option.{Option, none, some}
 use mathlib.Core.Path.{_≡_, refl, sym, _∙_, ap, subst}
 use Prim.Native.Nat.{ℕ, _≤_, _<_}
 use native.Mathlib.Omega.{arith}
-use lib.Dec.{leb, ltb}
+use lib.Dec.{ltb}
 use lib.ListN.{length}
 use Rattle.graph.specs.Network.{Rule}
-use Rattle.naming.specs.Book.{Book, emptyBook}
+use Rattle.naming.specs.State.{State, emptyState}
 use Rattle.commands.specs.Command.{Command, form, readCommand}
-use Rattle.commands.specs.Refusal.{Refusal, badCapacity, shortBuffer, longJournal, badByte, cutOperands, unknownCabinet, unknownSpan, equalCabinets, full, twoDistricts, noRoom, refusalNumber, Capacities, cabinetsKnown, spansKnown, hasEqualCabinets, isFull, isAcross, refusalOf}
-use Rattle.commands.specs.Run.{Run, refused, verdict, runFrom, fitting, runWithin}
+use Rattle.commands.specs.Refusal.{Refusal, badCapacity, shortBuffer, longJournal, badByte, cutOperands, unknownCabinet, unknownSpan, equalCabinets, full, twoDistricts, noRoom, refusalNumber, Capacities, cabinetsKnown, spansKnown, meets, isFull, refusalOf}
+use Rattle.commands.specs.Text.{textOf}
+use Rattle.commands.specs.Run.{Run, runText, fitting, runWithin}
 use Rattle.commands.specs.Entry.{goodCapacities, shortBuffers, Whole, refusedAtStart, wholeRun, numberOf, Buffers, outcome, entryUnder}
 use Rattle.commands.proofs.Room.{RoomForAll, CutAt, cut-where-no-room, all-fit-whole, cut-at-stop}
+use Rattle.commands.proofs.Reading.{isCommand, widthOf}
 use Rattle.commands.proofs.Cases.{impossible}
-use Rattle.commands.proofs.Place.{bookFed, RefusedAt, refused-at-place, refused-exactly, StopsWithin, stops-within}
-use Rattle.commands.proofs.Table.{same-number, number-above-zero, Between}
-use Rattle.commands.proofs.Reading.{widthOf}
-use Rattle.commands.proofs.Causes.{unknown-cabinet-exactly, unknown-span-exactly, equal-cabinets-exactly, full-exactly, two-districts-exactly, bad-byte-exactly, cut-operands-exactly, verdict-numbers}
+use Rattle.commands.proofs.Steps.{RefusedFor}
+use Rattle.commands.proofs.StateAfter.{stateFed}
+use Rattle.commands.proofs.Place.{RefusedAt, refused-at-place, refused-exactly, StopsWithin, stops-within}
+use Rattle.commands.proofs.Table.{same-number, number-above-zero, stage, Between}
+use Rattle.commands.proofs.Causes.{unknown-cabinet-exactly, unknown-span-exactly, equal-cabinets-exactly, full-exactly, two-districts-exactly, bad-byte-exactly, cut-operands-exactly, refused-stage}
 use Rattle.commands.proofs.Refused.{ByteAt, CommandAt, byte-refused-exactly, command-refused-exactly}
-use Rattle.commands.proofs.Start.{StartsWell, start-numbers, bad-capacity-exactly, short-buffer-exactly, long-journal-exactly, ran-exactly, refused-or-ran}
+use Rattle.commands.proofs.Start.{StartsWell, start-stage, bad-capacity-exactly, short-buffer-exactly, long-journal-exactly, ran-exactly, refused-or-ran}
 
 -- a refusal's number is returned for that refusal alone
 pub number-exactly : (o : Option Refusal) (r : Refusal) → (numberOf o ≡ refusalNumber r) ↔ (o ≡ some r)
@@ -36,26 +39,26 @@ zero-exactly none = (λ e. refl, λ e. refl)
 zero-exactly (some s) = (λ e. absurd (omega (arith, number-above-zero s)), λ e. impossible (cc))
 
 -- the run within the room, against the run without regard to room
-module _ (room : ℕ) (caps : Capacities) (b : Book) (journal : List ℕ) where
+module _ (room : ℕ) (caps : Capacities) (s : State) (journal : List ℕ) where
   -- it is refused for want of room exactly if the next answer does not fit
-  pub no-room-exactly : (runWithin room caps b journal .refusal ≡ some noRoom)
-      ↔ CutAt room (runFrom caps b 0 journal .accepted)
-  unfolding runWithin refusalNumber
+  pub no-room-exactly : (runWithin room caps s (textOf journal) .refusal ≡ some noRoom)
+      ↔ CutAt room (runText caps s (textOf journal) .accepted)
+  unfolding runWithin stage
   no-room-exactly = (λ e. go e (cut-where-no-room room (all .accepted)), λ c. rw (cut-at-stop room (all .accepted) (all .refusal) c))
     where
       all : Run
-      all = runFrom caps b 0 journal
+      all = runText caps s (textOf journal)
 
       go : fitting room (all .accepted) (all .refusal) .refusal ≡ some noRoom
           → RoomForAll room (all .accepted) ⊎ CutAt room (all .accepted) → CutAt room (all .accepted)
       go e (inl w) =
-          let at = refused-at-place caps b journal (rw (all-fit-whole room (all .accepted) (all .refusal) w) at e) in
-          absurd (omega (arith, verdict-numbers caps _ _ noRoom (at .refuses) .to))
+          let at = refused-at-place caps s journal (rw (all-fit-whole room (all .accepted) (all .refusal) w) at e) in
+          absurd (omega (arith, refused-stage caps _ (at .refuses) .to))
       go e (inr c) = c
 
   -- it ends in any other way exactly if all answers fit and the run without regard to room ends so
-  pub otherwise-exactly : (end : Option Refusal) → end ≢ some noRoom → (runWithin room caps b journal .refusal ≡ end)
-      ↔ (RoomForAll room (runFrom caps b 0 journal .accepted) × (runFrom caps b 0 journal .refusal ≡ end))
+  pub otherwise-exactly : (end : Option Refusal) → end ≢ some noRoom → (runWithin room caps s (textOf journal) .refusal ≡ end)
+      ↔ (RoomForAll room (runText caps s (textOf journal) .accepted) × (runText caps s (textOf journal) .refusal ≡ end))
   unfolding runWithin
   otherwise-exactly end n = (
     λ e. go e (cut-where-no-room room (all .accepted)),
@@ -63,24 +66,24 @@ module _ (room : ℕ) (caps : Capacities) (b : Book) (journal : List ℕ) where
   )
     where
       all : Run
-      all = runFrom caps b 0 journal
+      all = runText caps s (textOf journal)
 
       go : fitting room (all .accepted) (all .refusal) .refusal ≡ end
           → RoomForAll room (all .accepted) ⊎ CutAt room (all .accepted) → RoomForAll room (all .accepted) × (all .refusal ≡ end)
       go e (inl w) = (w, rw (all-fit-whole room (all .accepted) (all .refusal) w) at e)
       go e (inr c) = absurd (n (sym e ∙ ap (λ (r : Run). r .refusal) (cut-at-stop room (all .accepted) (all .refusal) c)))
 
-  -- it is refused with a number from 4 to 11
-  pub run-numbers : (r : Refusal) → runWithin room caps b journal .refusal ≡ some r → Between 4 11 r
-  unfolding refusalNumber
-  run-numbers r e = go (stops-within room caps b journal)
+  -- it is refused at no earlier stage
+  pub run-stage : (r : Refusal) → runWithin room caps s (textOf journal) .refusal ≡ some r → Between 1 3 r
+  unfolding stage
+  run-stage r e = go (stops-within room caps s journal)
     where
-      go : StopsWithin room caps b journal (runWithin room caps b journal) → Between 4 11 r
-      go (inl s) =
-          let at : RefusedAt caps b journal (runWithin room caps b journal .accepted) r = rw e at s in
-          let n = verdict-numbers caps _ _ r (at .refuses) in
+      go : StopsWithin room caps s journal (runWithin room caps s (textOf journal)) → Between 1 3 r
+      go (inl stops) =
+          let at : RefusedAt caps s journal (runWithin room caps s (textOf journal) .accepted) r = rw e at stops in
+          let n = refused-stage caps _ (at .refuses) in
           record { from = omega arith; to = omega arith }
-      go (inr n) = let same : noRoom ≡ r = cc (n .0) in subst (Between 4 11) same (record { from = omega arith; to = omega arith })
+      go (inr n) = let same : noRoom ≡ r = cc (n .0) in subst (Between 1 3) same (record { from = omega arith; to = omega arith })
 
 -- the entry, with what it is handed
 module _ (rule : Rule) (caps : Capacities) (journal : List ℕ) (lent : Buffers) where
@@ -90,11 +93,11 @@ module _ (rule : Rule) (caps : Capacities) (journal : List ℕ) (lent : Buffers)
 
   -- the run within the answer buffer
   abbrev pub within : Run
-  within = runWithin (length (lent .answers)) caps (emptyBook rule) journal
+  within = runWithin (length (lent .answers)) caps (emptyState rule) (textOf journal)
 
   -- the run without regard to room
   abbrev pub unbounded : Run
-  unbounded = runFrom caps (emptyBook rule) 0 journal
+  unbounded = runText caps (emptyState rule) (textOf journal)
 
   -- none of the causes at the start
   abbrev pub WellStarted : Type 0
@@ -119,35 +122,35 @@ module _ (rule : Rule) (caps : Capacities) (journal : List ℕ) (lent : Buffers)
       go (inl (s, d)) = inl (d ∙ ap refusedAtStart (same-number s r (sym (returned-at-start s d) ∙ e)))
       go (inr w) = inr (w, number-exactly (within .refusal) r .0 (sym (returned-by-run w) ∙ e))
 
-  -- 1 to 3 are returned exactly where the start is refused so
-  pub start-returned-exactly : (r : Refusal) → refusalNumber r ≤ 3
+  -- the numbers of the start are returned exactly where the start is refused so
+  pub start-returned-exactly : (r : Refusal) → stage r ≤ 0
       → (entryUnder rule caps journal lent .returned ≡ refusalNumber r) ↔ (whole ≡ refusedAtStart r)
   start-returned-exactly r h = (λ e. go (returned-for r e), returned-at-start r)
     where
       go : (whole ≡ refusedAtStart r) ⊎ (WellStarted × (within .refusal ≡ some r)) → whole ≡ refusedAtStart r
       go (inl d) = d
-      go (inr w) = absurd (omega (arith, run-numbers _ caps _ journal r (w .1) .from))
+      go (inr w) = absurd (omega (arith, run-stage _ caps _ journal r (w .1) .from))
 
   -- 1: C or S is out of its range
   pub one-exactly : (entryUnder rule caps journal lent .returned ≡ 1) ↔ (goodCapacities caps ≡ false)
-  unfolding refusalNumber
+  unfolding refusalNumber stage
   one-exactly = Iff·trans (start-returned-exactly badCapacity (omega arith)) (bad-capacity-exactly rule caps journal _ _ _)
 
   -- 2: the capacities are good, and the working table or the report is too short
   pub two-exactly : (entryUnder rule caps journal lent .returned ≡ 2)
       ↔ ((goodCapacities caps ≡ true) × (shortBuffers caps (length (lent .work)) (length (lent .report)) ≡ true))
-  unfolding refusalNumber
+  unfolding refusalNumber stage
   two-exactly = Iff·trans (start-returned-exactly shortBuffer (omega arith)) (short-buffer-exactly rule caps journal _ _ _)
 
   -- 3: neither, and the journal is too long
   pub three-exactly : (entryUnder rule caps journal lent .returned ≡ 3)
       ↔ ((goodCapacities caps ≡ true)
       × ((shortBuffers caps (length (lent .work)) (length (lent .report)) ≡ false) × (ltb 65536 (length journal) ≡ true)))
-  unfolding refusalNumber
+  unfolding refusalNumber stage
   three-exactly = Iff·trans (start-returned-exactly longJournal (omega arith)) (long-journal-exactly rule caps journal _ _ _)
 
-  -- 4 to 11 are returned exactly where the run is refused so
-  pub run-returned-exactly : (r : Refusal) → 4 ≤ refusalNumber r
+  -- the others are returned exactly where the run is refused so
+  pub run-returned-exactly : (r : Refusal) → 1 ≤ stage r
       → (entryUnder rule caps journal lent .returned ≡ refusalNumber r) ↔ (WellStarted × (within .refusal ≡ some r))
   run-returned-exactly r h = (
     λ e. go (returned-for r e),
@@ -155,39 +158,39 @@ module _ (rule : Rule) (caps : Capacities) (journal : List ℕ) (lent : Buffers)
   )
     where
       go : (whole ≡ refusedAtStart r) ⊎ (WellStarted × (within .refusal ≡ some r)) → WellStarted × (within .refusal ≡ some r)
-      go (inl d) = absurd (omega (arith, start-numbers rule caps journal _ _ _ r d .to))
+      go (inl d) = absurd (omega (arith, start-stage rule caps journal _ _ _ r d .to))
       go (inr w) = w
 
   -- 11: the run starts, and is cut before an answer for which there is no room
   pub eleven-exactly : (entryUnder rule caps journal lent .returned ≡ 11)
       ↔ (WellStarted × CutAt (length (lent .answers)) (unbounded .accepted))
-  unfolding refusalNumber
+  unfolding refusalNumber stage
   eleven-exactly =
       Iff·trans
       (run-returned-exactly noRoom (omega arith))
-      (Iff·and Iff·rfl (no-room-exactly (length (lent .answers)) caps (emptyBook rule) journal))
+      (Iff·and Iff·rfl (no-room-exactly (length (lent .answers)) caps (emptyState rule) journal))
 
-  -- 4 to 10: the run starts, all answers before it fit, and the command where they end is refused so
-  pub four-to-ten-exactly : (r : Refusal) → Between 4 10 r → (entryUnder rule caps journal lent .returned ≡ refusalNumber r)
+  -- those of what is read: the run starts, all answers before it fit, and the command where they end is refused so
+  pub read-returned-exactly : (r : Refusal) → Between 1 2 r → (entryUnder rule caps journal lent .returned ≡ refusalNumber r)
       ↔ (WellStarted
       × (RoomForAll (length (lent .answers)) (unbounded .accepted)
-      × RefusedAt caps (emptyBook rule) journal (unbounded .accepted) r))
-  unfolding refusalNumber
-  four-to-ten-exactly r h =
+      × RefusedAt caps (emptyState rule) journal (unbounded .accepted) r))
+  unfolding stage
+  read-returned-exactly r h =
       Iff·trans
       (run-returned-exactly r (h .from))
       (Iff·and
       Iff·rfl
       (Iff·trans
-      (otherwise-exactly (length (lent .answers)) caps (emptyBook rule) journal (some r) not-room)
-      (Iff·and Iff·rfl (refused-exactly caps (emptyBook rule) journal r))))
+      (otherwise-exactly (length (lent .answers)) caps (emptyState rule) journal (some r) not-room)
+      (Iff·and Iff·rfl (refused-exactly caps (emptyState rule) journal r))))
     where
       not-room : some r ≢ some noRoom
-      not-room e = let same : r ≡ noRoom = cc in omega (arith, ap refusalNumber same)
+      not-room e = let same : r ≡ noRoom = cc in omega (arith, ap stage same)
 
-  -- the book after the commands before the one refused
-  abbrev pub reached : Book
-  reached = bookFed (emptyBook rule) (unbounded .accepted)
+  -- the state after the commands before the one refused
+  abbrev pub reached : State
+  reached = stateFed (emptyState rule) (unbounded .accepted)
 
   -- the run starts, the answers before the refused command fit, and this is so of what stands there
   abbrev pub Stopped : Type 0 → Type 0
@@ -201,71 +204,71 @@ module _ (rule : Rule) (caps : Capacities) (journal : List ℕ) (lent : Buffers)
   abbrev pub StoppedAtCommand : (Command → Type 0) → Type 0
   StoppedAtCommand Cause = Stopped (CommandAt journal (unbounded .accepted) Cause)
 
-  byte-returned-exactly : (r : Refusal) → Between 4 10 r → (Cause : ℕ → List ℕ → Type 0)
-      → ((byte : ℕ) (bytes : List ℕ) → (verdict caps reached (readCommand byte bytes) ≡ refused r) ↔ Cause byte bytes)
+  byte-returned-exactly : (r : Refusal) → Between 1 2 r → (Cause : ℕ → List ℕ → Type 0)
+      → ((byte : ℕ) (bytes : List ℕ) → RefusedFor caps reached (readCommand byte bytes) r ↔ Cause byte bytes)
       → (entryUnder rule caps journal lent .returned ≡ refusalNumber r) ↔ StoppedAtByte Cause
   byte-returned-exactly r h Cause f =
       Iff·trans
-      (four-to-ten-exactly r h)
-      (Iff·and Iff·rfl (Iff·and Iff·rfl (byte-refused-exactly caps (emptyBook rule) journal (unbounded .accepted) r Cause f)))
+      (read-returned-exactly r h)
+      (Iff·and Iff·rfl (Iff·and Iff·rfl (byte-refused-exactly caps (emptyState rule) journal (unbounded .accepted) r Cause f)))
 
-  command-returned-exactly : (r : Refusal) → Between 6 10 r → (Cause : Command → Type 0)
+  command-returned-exactly : (r : Refusal) → Between 2 2 r → (Cause : Command → Type 0)
       → ((c : Command) → (refusalOf caps reached c ≡ some r) ↔ Cause c)
       → (entryUnder rule caps journal lent .returned ≡ refusalNumber r) ↔ StoppedAtCommand Cause
   command-returned-exactly r h Cause f =
       Iff·trans
-      (four-to-ten-exactly r (record { from = omega arith; to = h .to }))
+      (read-returned-exactly r (record { from = omega arith; to = h .to }))
       (Iff·and
       Iff·rfl
-      (Iff·and Iff·rfl (command-refused-exactly caps (emptyBook rule) journal (unbounded .accepted) r Cause (h .from) f)))
+      (Iff·and Iff·rfl (command-refused-exactly caps (emptyState rule) journal (unbounded .accepted) r Cause (h .from) f)))
 
-  -- 4: the command byte is not 01 to 08
+  -- 4: the byte is no command's (`known-bytes` says which are)
   pub four-exactly : (entryUnder rule caps journal lent .returned ≡ 4)
-      ↔ StoppedAtByte (λ byte bytes. (leb 1 byte && leb byte 8) ≡ false)
-  unfolding refusalNumber
+      ↔ StoppedAtByte (λ byte bytes. isCommand byte ≡ false)
+  unfolding refusalNumber stage
   four-exactly = byte-returned-exactly badByte (omega arith) _ (bad-byte-exactly caps reached)
 
-  -- 5: the command byte is 01 to 08, and its operands are cut off by the journal's end
+  -- 5: the byte is a command's, and its operands are cut off by the journal's end
   pub five-exactly : (entryUnder rule caps journal lent .returned ≡ 5)
-      ↔ StoppedAtByte (λ byte bytes. ((leb 1 byte && leb byte 8) ≡ true) × (length bytes < widthOf (form byte)))
-  unfolding refusalNumber
+      ↔ StoppedAtByte (λ byte bytes. (isCommand byte ≡ true) × (length bytes < widthOf (form byte)))
+  unfolding refusalNumber stage
   five-exactly = byte-returned-exactly cutOperands (omega arith) _ (cut-operands-exactly caps reached)
 
   -- 6: the command is read whole, and a cabinet number is not yet given
   pub six-exactly : (entryUnder rule caps journal lent .returned ≡ 6) ↔ StoppedAtCommand (λ c. cabinetsKnown reached c ≡ false)
-  unfolding refusalNumber
+  unfolding refusalNumber stage
   six-exactly = command-returned-exactly unknownCabinet (omega arith) _ (unknown-cabinet-exactly caps reached)
 
   -- 7: the cabinet numbers are given, and a span number is not
   pub seven-exactly : (entryUnder rule caps journal lent .returned ≡ 7)
       ↔ StoppedAtCommand (λ c. (cabinetsKnown reached c ≡ true) × (spansKnown reached c ≡ false))
-  unfolding refusalNumber
+  unfolding refusalNumber stage
   seven-exactly = command-returned-exactly unknownSpan (omega arith) _ (unknown-span-exactly caps reached)
 
-  -- 8: all numbers are given, and the command is 02 or 05 with equal cabinets
+  -- 8: all numbers are given, and two cabinets are equal that the command wants different
   pub eight-exactly : (entryUnder rule caps journal lent .returned ≡ 8)
       ↔ StoppedAtCommand
-      (λ c. (cabinetsKnown reached c ≡ true) × ((spansKnown reached c ≡ true) × (hasEqualCabinets c ≡ true)))
-  unfolding refusalNumber
+      (λ c. (cabinetsKnown reached c ≡ true) × ((spansKnown reached c ≡ true) × (meets equalCabinets reached c ≡ false)))
+  unfolding refusalNumber stage
   eight-exactly = command-returned-exactly equalCabinets (omega arith) _ (equal-cabinets-exactly caps reached)
 
-  -- 9: none of these, and the command is 01 with C cabinets, or 02 with S spans present
+  -- 9: none of these, and the command adds a cabinet to C cabinets or a span to S spans
   pub nine-exactly : (entryUnder rule caps journal lent .returned ≡ 9)
       ↔ StoppedAtCommand
       (λ c.
       (cabinetsKnown reached c ≡ true)
-      × ((spansKnown reached c ≡ true) × ((hasEqualCabinets c ≡ false) × (isFull caps reached c ≡ true))))
-  unfolding refusalNumber
+      × ((spansKnown reached c ≡ true) × ((meets equalCabinets reached c ≡ true) × (isFull caps reached c ≡ true))))
+  unfolding refusalNumber stage
   nine-exactly = command-returned-exactly full (omega arith) _ (full-exactly caps reached)
 
-  -- 10: none of these, and the command is 06 or 07 across districts
+  -- 10: none of these, and two cabinets share no district that the command wants in one
   pub ten-exactly : (entryUnder rule caps journal lent .returned ≡ 10)
       ↔ StoppedAtCommand
       (λ c.
       (cabinetsKnown reached c ≡ true)
       × ((spansKnown reached c ≡ true)
-      × ((hasEqualCabinets c ≡ false) × ((isFull caps reached c ≡ false) × (isAcross reached c ≡ true)))))
-  unfolding refusalNumber
+      × ((meets equalCabinets reached c ≡ true) × ((isFull caps reached c ≡ false) × (meets twoDistricts reached c ≡ false)))))
+  unfolding refusalNumber stage
   ten-exactly = command-returned-exactly twoDistricts (omega arith) _ (two-districts-exactly caps reached)
 
   -- 0: the run starts, all answers fit, and no command is refused
@@ -274,7 +277,7 @@ module _ (rule : Rule) (caps : Capacities) (journal : List ℕ) (lent : Buffers)
   nought-exactly =
       Iff·trans
       (λ e. go e (refused-or-ran rule caps journal _ _ _), λ w. returned-by-run (w .0) ∙ zero-exactly (within .refusal) .1 (w .1))
-      (Iff·and Iff·rfl (otherwise-exactly (length (lent .answers)) caps (emptyBook rule) journal none (λ e. impossible (cc))))
+      (Iff·and Iff·rfl (otherwise-exactly (length (lent .answers)) caps (emptyState rule) journal none (λ e. impossible (cc))))
     where
       go : entryUnder rule caps journal lent .returned ≡ 0 → ((s : Refusal) × (whole ≡ refusedAtStart s)) ⊎ WellStarted
           → WellStarted × (within .refusal ≡ none)

@@ -8,18 +8,10 @@ use native.Mathlib.Omega.{arith}
 use lib.ListN.{length, take, drop, length-append, length-drop}
 use lib.Seq.{take-length, length-take-le}
 use Rattle.graph.proofs.Truth.{le-leb}
-use Rattle.naming.specs.Book.{Book}
 use Rattle.commands.specs.Answer.{answerBytes}
-use Rattle.commands.specs.Refusal.{Refusal, noRoom, Capacities}
-use Rattle.commands.specs.Run.{Accepted, stop, andThen, Verdict, refused, accepted, runFrom, within, fitting, bytesOfAnswers}
+use Rattle.commands.specs.Refusal.{Refusal, noRoom}
+use Rattle.commands.specs.Run.{Accepted, stop, andThen, fitting, bytesOfAnswers}
 use Rattle.commands.proofs.Cases.{le-or-gt, gt-leb, impossible}
-
--- to run with operands to skip is to run from behind them
-pub run-skips-operands : (caps : Capacities) (b : Book) (k : ℕ) (bytes : List ℕ) → runFrom caps b k bytes ≡ runFrom caps b 0 (drop k bytes)
-unfolding runFrom
-run-skips-operands caps b zero bytes = refl
-run-skips-operands caps b (suc k) [] = refl
-run-skips-operands caps b (suc k) (byte ∷ bytes) = run-skips-operands caps b k bytes
 
 -- the bytes of the answers of two lists, one after the other
 pub bytes-append : (l m : List Accepted) → bytesOfAnswers (l ++ m) ≡ bytesOfAnswers l ++ bytesOfAnswers m
@@ -33,38 +25,17 @@ pub bytes-of-more : (a : Accepted) (later : List Accepted)
 unfolding bytesOfAnswers
 bytes-of-more a later = length-append (answerBytes (a .answer)) (bytesOfAnswers later)
 
--- an answer that fits is given
-pub fits-within : (room : ℕ) (a : Accepted) → length (answerBytes (a .answer)) ≤ room → within room (accepted a) ≡ accepted a
-unfolding within
-fits-within room a h = rw (le-leb (length (answerBytes (a .answer))) room h)
-
--- one that does not is refused
-pub does-not-fit-within : (room : ℕ) (a : Accepted) → room < length (answerBytes (a .answer)) → within room (accepted a) ≡ refused noRoom
-unfolding within
-does-not-fit-within room a h = rw (gt-leb (length (answerBytes (a .answer))) room h)
-
--- so what is accepted with the room that there is was accepted, and its answer fits
-pub within-kept : (room : ℕ) (v : Verdict) (a : Accepted) → within room v ≡ accepted a → (v ≡ accepted a) × (length (answerBytes (a .answer)) ≤ room)
-unfolding within
-within-kept room (refused r) a e = impossible (cc)
-within-kept room (accepted c) a e = go (le-or-gt (length (answerBytes (c .answer))) room)
-  where
-    go : (length (answerBytes (c .answer)) ≤ room) ⊎ (room < length (answerBytes (c .answer)))
-        → (accepted c ≡ accepted a) × (length (answerBytes (a .answer)) ≤ room)
-    go (inl h) = let same : c ≡ a = cc (sym (fits-within room c h) ∙ e) in (ap accepted same, rw (← same) h)
-    go (inr h) = let clash = sym (does-not-fit-within room c h) ∙ e in impossible (cc clash)
-
 -- the first answer fits: it is given, and the others have the room that is left
 pub first-fits : (room : ℕ) (a : Accepted) (later : List Accepted) (end : Option Refusal) → length (answerBytes (a .answer)) ≤ room
     → fitting room (a ∷ later) end ≡ andThen a (fitting (room - length (answerBytes (a .answer))) later end)
 unfolding fitting
-first-fits room a later end h = rw (fits-within room a h, fitting)
+first-fits room a later end h = rw (le-leb (length (answerBytes (a .answer))) room h, fitting)
 
 -- the first answer does not fit: the run is stopped
 pub first-does-not-fit : (room : ℕ) (a : Accepted) (later : List Accepted) (end : Option Refusal)
     → room < length (answerBytes (a .answer)) → fitting room (a ∷ later) end ≡ stop noRoom
 unfolding fitting
-first-does-not-fit room a later end h = rw (does-not-fit-within room a h, fitting)
+first-does-not-fit room a later end h = rw (gt-leb (length (answerBytes (a .answer))) room h, fitting)
 
 -- there is room for all answers
 abbrev pub RoomForAll : ℕ → List Accepted → Type 0

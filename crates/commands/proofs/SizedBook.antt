@@ -8,9 +8,10 @@ use Rattle.graph.specs.Below.{length-tabulate}
 use Rattle.graph.specs.Network.{Rule, edgeCount, addVertex, addEdge}
 use Rattle.naming.specs.Rename.{rename}
 use Rattle.naming.specs.Book.{Book, emptyBook, enterVertex, enterEdge, Addition, vertex, edge, neither, feed}
-use Rattle.commands.specs.Command.{Command, addition}
-use Rattle.commands.specs.Answer.{Kind, district, ring, mesh}
-use Rattle.commands.specs.Step.{after}
+use Rattle.naming.specs.State.{State, afterAddition}
+use Rattle.commands.specs.Field.{Kind, district, ring, mesh}
+use Rattle.commands.specs.Command.{Command}
+use Rattle.commands.specs.Facts.{addition, after}
 use Rattle.commands.specs.WholeRun.{itemsOf}
 
 -- the book has a name of each kind for each item
@@ -48,9 +49,9 @@ sized-feed b s (edge e) =
 sized-feed b s neither = s
 
 -- and so does a command
-pub sized-after : (b : Book) → SizedBook b → (c : Command) → SizedBook (after b c)
-unfolding after
-sized-after b s c = sized-feed b s (addition c)
+pub sized-after : (s : State) → SizedBook (s .book) → (c : Command) → SizedBook (after s c .book)
+unfolding after afterAddition
+sized-after s sized c = sized-feed (s .book) sized (addition c)
 
 -- the names of one kind
 unfoldable pub namesIn : Kind → Book → List ℕ

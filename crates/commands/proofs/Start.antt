@@ -9,12 +9,13 @@ use lib.Dec.{leb, ltb}
 use lib.ListN.{length}
 use Rattle.graph.specs.Network.{Rule}
 use Rattle.graph.proofs.Truth.{not-of-true, true-of-not-false, and-left, and-right, and-both, leb-le, le-leb}
-use Rattle.naming.specs.Book.{emptyBook}
+use Rattle.naming.specs.State.{emptyState}
 use Rattle.commands.specs.Refusal.{Refusal, badCapacity, shortBuffer, longJournal, refusalNumber, Line, Capacities, firstThatApplies}
+use Rattle.commands.specs.Text.{textOf}
 use Rattle.commands.specs.Run.{Run, runWithin}
 use Rattle.commands.specs.Entry.{goodCapacities, shortBuffers, startLines, refusedAtStart, ran, wholeUnless, wholeRun}
 use Rattle.commands.proofs.Cases.{impossible}
-use Rattle.commands.proofs.Table.{given-exactly, Between, given-between, NoneOf, none-exactly}
+use Rattle.commands.proofs.Table.{given-exactly, stage, Between, given-between, NoneOf, none-exactly}
 use Rattle.commands.proofs.Causes.{not-is-true, not-is-false}
 
 -- C is 1 to 4,096, and S is 1 to 8,192
@@ -77,10 +78,10 @@ module _ (rule : Rule) (caps : Capacities) (journal : List ℕ) (workLength answ
   unfolding wholeRun
   start-decides r = refused-unless (firstThatApplies startTable) _ r
 
-  -- a run is refused at the start with a number from 1 to 3
-  pub start-numbers : (r : Refusal) → wholeRun rule caps journal workLength answersLength reportLength ≡ refusedAtStart r → Between 1 3 r
-  unfolding startLines refusalNumber
-  start-numbers r e = given-between 1 3 startTable r refl (start-decides r .0 e)
+  -- a run is refused at the start at that stage
+  pub start-stage : (r : Refusal) → wholeRun rule caps journal workLength answersLength reportLength ≡ refusedAtStart r → Between 0 0 r
+  unfolding startLines stage
+  start-stage r e = given-between 0 0 startTable r refl (start-decides r .0 e)
 
   -- bad capacity: C or S is out of its range
   pub bad-capacity-exactly : (wholeRun rule caps journal workLength answersLength reportLength ≡ refusedAtStart badCapacity)
@@ -109,7 +110,7 @@ module _ (rule : Rule) (caps : Capacities) (journal : List ℕ) (workLength answ
   no-line w = (not-of-true (w .good-capacities), (w .long-buffers, (w .short-journal, tt)))
 
   -- the run goes ahead exactly if none of the three applies
-  pub ran-exactly : (wholeRun rule caps journal workLength answersLength reportLength ≡ ran (runWithin answersLength caps (emptyBook rule) journal))
+  pub ran-exactly : (wholeRun rule caps journal workLength answersLength reportLength ≡ ran (runWithin answersLength caps (emptyState rule) (textOf journal)))
       ↔ StartsWell caps (length journal) workLength reportLength
   unfolding wholeRun
   ran-exactly =

@@ -1,132 +1,200 @@
--- The run step by step: what is read, what is accepted and what is refused.
+-- The text of a journal and the run over it, step by step: what is read, what is accepted and what is refused.
 use mathlib.Core.List.{List, [], _∷_}
-use mathlib.Core.Logic.{_↔_}
+use mathlib.Core.Logic.{_⊎_, inl, inr}
 use mathlib.Core.Option.{Option, none, some}
-use mathlib.Core.Path.{_≡_, refl, sym, _∙_, ap, subst}
-use Prim.Native.Nat.{ℕ, zero, suc, _-_, _≤_}
+use mathlib.Core.Path.{_≡_, refl, _∙_, ap}
+use Prim.Native.Nat.{ℕ, zero, suc, _+_, _-_, _≤_, _<_}
+use native.Mathlib.Omega.{arith}
 use lib.ListN.{length, drop}
-use Rattle.naming.specs.Book.{Book}
-use Rattle.commands.specs.Command.{Reading, unknownByte, cutOff, command, readCommand}
-use Rattle.commands.specs.Refusal.{Refusal, Capacities, refusalOf}
+use Rattle.naming.specs.State.{State}
+use Rattle.commands.specs.Command.{Command, Reading, unknownByte, cutOff, command, readCommand}
 use Rattle.commands.specs.Answer.{answerBytes}
-use Rattle.commands.specs.Step.{after, answer}
-use Rattle.commands.specs.Run.{Accepted, stop, atEnd, andThen, Verdict, refused, accepted, verdictUnless, verdict, runFrom, within, fitting, runWithin}
-use Rattle.commands.proofs.Cases.{impossible}
-use Rattle.commands.proofs.Room.{run-skips-operands, within-kept, first-fits}
+use Rattle.commands.specs.Facts.{after, answer}
+use Rattle.commands.specs.Refusal.{Refusal, badByte, cutOperands, noRoom, Capacities, refusalOf}
+use Rattle.commands.specs.Text.{Read, Text, endsWith, followedBy, textFrom}
+use Rattle.commands.specs.Run.{Accepted, stop, andThen, acceptedIn, runOver, runText, fitting, runWithin}
+use Rattle.commands.proofs.Room.{first-fits, first-does-not-fit}
 use Rattle.commands.proofs.Reading.{operands-fit}
 
+-- to read with operands to skip is to read from behind them
+pub text-skips-operands : (place k : ℕ) (bytes : List ℕ) → textFrom place k bytes ≡ textFrom (place + k) 0 (drop k bytes)
+unfolding textFrom
+text-skips-operands place zero bytes = ap (λ p. textFrom p 0 bytes) (omega arith)
+text-skips-operands place (suc k) [] = refl
+text-skips-operands place (suc k) (byte ∷ bytes) =
+    text-skips-operands (suc place) k bytes ∙ ap (λ p. textFrom p 0 (drop k bytes)) (omega arith)
+
 -- a journal at its end
-pub run-ends : (caps : Capacities) (b : Book) → runFrom caps b 0 [] ≡ atEnd
-unfolding runFrom
-run-ends caps b = refl
+pub text-ends : (place : ℕ) → textFrom place 0 [] ≡ endsWith none
+unfolding textFrom
+text-ends place = refl
 
--- a command that is refused stops the run
-pub run-refuses : (caps : Capacities) (b : Book) (byte : ℕ) (bytes : List ℕ) {r : Refusal}
-    → verdict caps b (readCommand byte bytes) ≡ refused r → runFrom caps b 0 (byte ∷ bytes) ≡ stop r
-unfolding runFrom
-run-refuses caps b byte bytes e = rw (e, runFrom)
+-- The text from a byte on.
+module _ (place byte : ℕ) (bytes : List ℕ) where
+  -- a byte that begins no command ends the text
+  pub text-unknown : readCommand byte bytes ≡ unknownByte → textFrom place 0 (byte ∷ bytes) ≡ endsWith (some badByte)
+  unfolding textFrom
+  text-unknown e = rw (e, textFrom)
 
--- a command that is accepted is followed by the run from behind its operands, from the book after it
-pub run-accepts : (caps : Capacities) (b : Book) (byte : ℕ) (bytes : List ℕ) {a : Accepted}
-    → verdict caps b (readCommand byte bytes) ≡ accepted a
-    → runFrom caps b 0 (byte ∷ bytes) ≡ andThen a (runFrom caps (after b (a .command)) 0 (drop (a .width) bytes))
-unfolding runFrom
-run-accepts caps b byte bytes {a} e = rw (e, runFrom) (ap (andThen a) (run-skips-operands caps (after b (a .command)) (a .width) bytes))
+  -- and so does a command whose operands are cut off
+  pub text-cut-off : readCommand byte bytes ≡ cutOff → textFrom place 0 (byte ∷ bytes) ≡ endsWith (some cutOperands)
+  unfolding textFrom
+  text-cut-off e = rw (e, textFrom)
 
--- From a book, over the bytes of a journal: the commands accepted one after another, each read from behind the one before it with the
--- book after that one, until the journal ends or a command is refused.
-pub data RunsTo (caps : Capacities) : Book → List ℕ → List Accepted → Option Refusal → Type 0 where
-  ends : {b : Book} → RunsTo caps b [] [] none
-  refuses : {b : Book} {byte : ℕ} {bytes : List ℕ} {r : Refusal}
-      → verdict caps b (readCommand byte bytes) ≡ refused r → RunsTo caps b (byte ∷ bytes) [] (some r)
-  accepts : {b : Book} {byte : ℕ} {bytes : List ℕ} {a : Accepted} {later : List Accepted} {end : Option Refusal}
-      → verdict caps b (readCommand byte bytes) ≡ accepted a
-      → RunsTo caps (after b (a .command)) (drop (a .width) bytes) later end
-      → RunsTo caps b (byte ∷ bytes) (a ∷ later) end
+  -- a command that is read is followed by the text from behind its operands
+  pub text-goes-on : {c : Command} {width : ℕ} → readCommand byte bytes ≡ command c width
+      → textFrom place 0 (byte ∷ bytes)
+      ≡ followedBy (record { command = c; place = place; width = width }) (textFrom (place + 1 + width) 0 (drop width bytes))
+  unfolding textFrom
+  text-goes-on {c} {width} e =
+      rw
+      (e, textFrom)
+      (ap
+      (followedBy (record { command = c; place = place; width = width }))
+      (text-skips-operands (suc place) width bytes ∙ ap (λ p. textFrom p 0 (drop width bytes)) (omega arith)))
 
--- the run is such a list of steps
-pub run-takes-steps : (caps : Capacities) (b : Book) (k : ℕ) (bytes : List ℕ)
-    → RunsTo caps b (drop k bytes) (runFrom caps b k bytes .accepted) (runFrom caps b k bytes .refusal)
-unfolding runFrom atEnd stop andThen
-run-takes-steps caps b zero [] = ends
-run-takes-steps caps b (suc k) [] = ends
-run-takes-steps caps b (suc k) (byte ∷ bytes) = run-takes-steps caps b k bytes
-run-takes-steps caps b zero (byte ∷ bytes) = go (λ b′ k. run-takes-steps caps b′ k bytes) (verdict caps b (readCommand byte bytes)) refl
-  where
-    go : ((b′ : Book) (k : ℕ) → RunsTo caps b′ (drop k bytes) (runFrom caps b′ k bytes .accepted) (runFrom caps b′ k bytes .refusal))
-        → (v : Verdict) → verdict caps b (readCommand byte bytes) ≡ v
-        → RunsTo caps b (byte ∷ bytes) (runFrom caps b zero (byte ∷ bytes) .accepted) (runFrom caps b zero (byte ∷ bytes) .refusal)
-    go rest (refused r) e = rw (run-refuses caps b byte bytes e) (refuses e)
-    go rest (accepted a) e =
-        rw
-        (run-accepts caps b byte bytes e, ← (run-skips-operands caps (after b (a .command)) (a .width) bytes))
-        (accepts e (rest (after b (a .command)) (a .width)))
+-- The run over a text, from a state.
+module _ (caps : Capacities) (s : State) where
+  -- a text without commands
+  pub run-ends : (end : Option Refusal) → runText caps s (endsWith end) ≡ record { accepted = []; refusal = end }
+  unfolding runText runOver endsWith
+  run-ends end = refl
 
--- and no other list of steps is
-pub steps-are-the-run : (caps : Capacities) {b : Book} {journal : List ℕ} {l : List Accepted} {end : Option Refusal}
-    → RunsTo caps b journal l end → runFrom caps b 0 journal ≡ record { accepted = l; refusal = end }
-unfolding atEnd stop andThen
-steps-are-the-run caps {b} ends = run-ends caps b
-steps-are-the-run caps {b} (refuses {byte = byte} {bytes = bytes} e) = run-refuses caps b byte bytes e
-steps-are-the-run caps {b} (accepts {byte = byte} {bytes = bytes} {a = a} e rest) =
-    run-accepts caps b byte bytes e ∙ ap (andThen a) (steps-are-the-run caps rest)
+  -- a command that is refused stops the run
+  pub run-refuses : (r : Read) (t : Text) {q : Refusal} → refusalOf caps s (r .command) ≡ some q → runText caps s (followedBy r t) ≡ stop q
+  unfolding runText runOver followedBy
+  run-refuses r t e = rw (e, runOver)
+
+  -- a command that is not is accepted, and followed by the run from the state after it
+  pub run-accepts : (r : Read) (t : Text) → refusalOf caps s (r .command) ≡ none
+      → runText caps s (followedBy r t) ≡ andThen (acceptedIn s r) (runText caps (after s (r .command)) t)
+  unfolding runText runOver followedBy
+  run-accepts r t e = rw (e, runOver)
+
+-- The same with so much room.
+module _ (room : ℕ) (caps : Capacities) (s : State) where
+  pub within-ends : (end : Option Refusal) → runWithin room caps s (endsWith end) ≡ record { accepted = []; refusal = end }
+  unfolding runWithin fitting
+  within-ends end = rw (run-ends caps s end)
+
+  pub within-refuses : (r : Read) (t : Text) {q : Refusal} → refusalOf caps s (r .command) ≡ some q
+      → runWithin room caps s (followedBy r t) ≡ stop q
+  unfolding runWithin fitting stop
+  within-refuses r t e = rw (run-refuses caps s r t e)
+
+  -- a command whose answer is longer than the room is refused
+  pub within-no-room : (r : Read) (t : Text) → refusalOf caps s (r .command) ≡ none
+      → room < length (answerBytes (answer s (r .command))) → runWithin room caps s (followedBy r t) ≡ stop noRoom
+  unfolding runWithin andThen acceptedIn
+  within-no-room r t e h = rw (run-accepts caps s r t e) (first-does-not-fit room (acceptedIn s r) _ _ h)
+
+  -- one whose answer fits leaves the rest of the room to those behind it
+  pub within-accepts : (r : Read) (t : Text) → refusalOf caps s (r .command) ≡ none
+      → length (answerBytes (answer s (r .command))) ≤ room
+      → runWithin room caps s (followedBy r t)
+      ≡ andThen (acceptedIn s r) (runWithin (room - length (answerBytes (answer s (r .command)))) caps (after s (r .command)) t)
+  unfolding runWithin andThen acceptedIn
+  within-accepts r t e h = rw (run-accepts caps s r t e) (first-fits room (acceptedIn s r) _ _ h)
+
+-- what it is to be refused: an unknown byte, operands cut off, or a command read whole that the table refuses
+pub data RefusedFor (caps : Capacities) (s : State) : Reading → Refusal → Type 0 where
+  for-byte : RefusedFor caps s unknownByte badByte
+  for-operands : RefusedFor caps s cutOff cutOperands
+  for-command : {c : Command} {width : ℕ} {q : Refusal} → refusalOf caps s c ≡ some q → RefusedFor caps s (command c width) q
 
 -- what it is to be accepted: a command was read whole, no line of the table refuses it, and its answer is the definition's
-pub record WasAccepted (caps : Capacities) (b : Book) (read : Reading) (a : Accepted) : Type 0 where
+pub record WasAccepted (caps : Capacities) (s : State) (read : Reading) (a : Accepted) : Type 0 where
   pub was-read : read ≡ command (a .command) (a .width)
-  pub not-refused : refusalOf caps b (a .command) ≡ none
-  pub answered : a .answer ≡ answer b (a .command)
-
--- an accepted command was accepted in that way
-pub was-accepted : (caps : Capacities) (b : Book) (read : Reading) (a : Accepted) → verdict caps b read ≡ accepted a → WasAccepted caps b read a
-unfolding verdict verdictUnless
-was-accepted caps b unknownByte a e = impossible (cc)
-was-accepted caps b cutOff a e = impossible (cc)
-was-accepted caps b (command c width) a e = go (refusalOf caps b c) refl e
-  where
-    this : Accepted
-    this = record { command = c; answer = answer b c; width = width }
-
-    go : (o : Option Refusal) → refusalOf caps b c ≡ o → verdictUnless o this ≡ accepted a → WasAccepted caps b (command c width) a
-    go (some r) d e = impossible (cc)
-    go none d e =
-        let same : this ≡ a = cc in
-        subst (WasAccepted caps b (command c width)) same (record { was-read = refl; not-refused = d; answered = refl })
-
--- and one that meets all three is accepted
-pub accepted-exactly : (caps : Capacities) (b : Book) (read : Reading) (a : Accepted)
-    → (verdict caps b read ≡ accepted a) ↔ WasAccepted caps b read a
-unfolding verdict verdictUnless
-accepted-exactly caps b read a = (was-accepted caps b read a, from)
-  where
-    from : WasAccepted caps b read a → verdict caps b read ≡ accepted a
-    from w =
-        rw
-        (w .was-read, w .not-refused)
-        (ap (λ x. accepted (record { command = a .command; answer = x; width = a .width })) (sym (w .answered)))
+  pub not-refused : refusalOf caps s (a .command) ≡ none
+  pub answered : a .answer ≡ answer s (a .command)
 
 -- the operands of an accepted command stand in the journal
-pub accepted-width-fits : (caps : Capacities) (b : Book) (byte : ℕ) (bytes : List ℕ) (a : Accepted)
-    → verdict caps b (readCommand byte bytes) ≡ accepted a → a .width ≤ length bytes
-accepted-width-fits caps b byte bytes a e =
-    operands-fit byte bytes (a .command) (a .width) (was-accepted caps b (readCommand byte bytes) a e .was-read)
+pub accepted-width-fits : (caps : Capacities) (s : State) (byte : ℕ) (bytes : List ℕ) (a : Accepted)
+    → WasAccepted caps s (readCommand byte bytes) a → a .width ≤ length bytes
+accepted-width-fits caps s byte bytes a w = operands-fit byte bytes (a .command) (a .width) (w .was-read)
 
--- The run with room, one command at a time.
-module _ (room : ℕ) (caps : Capacities) (b : Book) (byte : ℕ) (bytes : List ℕ) where
-  -- what is refused with the room that there is stops the run
-  pub within-refuses : {r : Refusal} → within room (verdict caps b (readCommand byte bytes)) ≡ refused r → runWithin room caps b (byte ∷ bytes) ≡ stop r
-  unfolding runWithin stop andThen fitting within
-  within-refuses {r} e = go (verdict caps b (readCommand byte bytes)) refl e
+-- what is read is refused or accepted
+refused-or-accepted : (caps : Capacities) (s : State) (read : Reading)
+    → ((q : Refusal) × RefusedFor caps s read q) ⊎ ((a : Accepted) × WasAccepted caps s read a)
+refused-or-accepted caps s unknownByte = inl (badByte, for-byte)
+refused-or-accepted caps s cutOff = inl (cutOperands, for-operands)
+refused-or-accepted caps s (command c width) = go (refusalOf caps s c) refl
+  where
+    go : (o : Option Refusal) → refusalOf caps s c ≡ o
+        → ((q : Refusal) × RefusedFor caps s (command c width) q) ⊎ ((a : Accepted) × WasAccepted caps s (command c width) a)
+    go (some q) e = inl (q, for-command e)
+    go none e =
+        inr (record { command = c; answer = answer s c; width = width }, record { was-read = refl; not-refused = e; answered = refl })
+
+-- The run over the text from a byte on.
+module _ (caps : Capacities) (s : State) (place byte : ℕ) (bytes : List ℕ) where
+  -- what is refused stops it
+  pub journal-refuses : {q : Refusal} → RefusedFor caps s (readCommand byte bytes) q → runText caps s (textFrom place 0 (byte ∷ bytes)) ≡ stop q
+  unfolding stop
+  journal-refuses f = go refl f
     where
-      go : (v : Verdict) → verdict caps b (readCommand byte bytes) ≡ v → within room v ≡ refused r → runWithin room caps b (byte ∷ bytes) ≡ stop r
-      go (refused s) d e = let same : s ≡ r = cc in rw (← same, run-refuses caps b byte bytes d)
-      go (accepted a) d e = rw (run-accepts caps b byte bytes d, e, fitting)
+      go : {read : Reading} {q : Refusal} → readCommand byte bytes ≡ read → RefusedFor caps s read q
+          → runText caps s (textFrom place 0 (byte ∷ bytes)) ≡ stop q
+      go e for-byte = rw (text-unknown place byte bytes e) (run-ends caps s (some badByte))
+      go e for-operands = rw (text-cut-off place byte bytes e) (run-ends caps s (some cutOperands))
+      go e (for-command d) = rw (text-goes-on place byte bytes e) (run-refuses caps s _ _ d)
 
-  -- what is accepted with it is followed by the run from behind its operands, from the book after it, with the room that is left
-  pub within-accepts : {a : Accepted} → within room (verdict caps b (readCommand byte bytes)) ≡ accepted a
-      → runWithin room caps b (byte ∷ bytes)
-      ≡ andThen a (runWithin (room - length (answerBytes (a .answer))) caps (after b (a .command)) (drop (a .width) bytes))
-  unfolding runWithin andThen
-  within-accepts {a} e =
-      let kept = within-kept room (verdict caps b (readCommand byte bytes)) a e in
-      rw (run-accepts caps b byte bytes (kept .0)) (first-fits room a _ _ (kept .1))
+  -- what is accepted is followed by the run over the text from behind its operands, from the state after it
+  pub journal-accepts : {a : Accepted} → WasAccepted caps s (readCommand byte bytes) a
+      → runText caps s (textFrom place 0 (byte ∷ bytes))
+      ≡ andThen a (runText caps (after s (a .command)) (textFrom (place + 1 + a .width) 0 (drop (a .width) bytes)))
+  unfolding acceptedIn
+  journal-accepts {a} w =
+      rw
+      (text-goes-on place byte bytes (w .was-read), w .answered)
+      (run-accepts caps s _ _ (w .not-refused))
+
+-- From a state, over the bytes of a journal: the commands accepted one after another, each read from behind the one before it in the
+-- state after that one, until the journal ends or a command is refused.
+pub data RunsTo (caps : Capacities) : State → List ℕ → List Accepted → Option Refusal → Type 0 where
+  ends : {s : State} → RunsTo caps s [] [] none
+  refuses : {s : State} {byte : ℕ} {bytes : List ℕ} {q : Refusal}
+      → RefusedFor caps s (readCommand byte bytes) q → RunsTo caps s (byte ∷ bytes) [] (some q)
+  accepts : {s : State} {byte : ℕ} {bytes : List ℕ} {a : Accepted} {later : List Accepted} {end : Option Refusal}
+      → WasAccepted caps s (readCommand byte bytes) a
+      → RunsTo caps (after s (a .command)) (drop (a .width) bytes) later end
+      → RunsTo caps s (byte ∷ bytes) (a ∷ later) end
+
+-- the run over the text of these bytes goes so
+abbrev Goes : Capacities → State → ℕ → ℕ → List ℕ → Type 0
+Goes caps s place k bytes =
+    let run = runText caps s (textFrom place k bytes) in
+    RunsTo caps s (drop k bytes) (run .accepted) (run .refusal)
+
+-- the run is such a list of steps
+pub run-takes-steps : (caps : Capacities) (s : State) (place k : ℕ) (bytes : List ℕ)
+    → RunsTo
+    caps
+    s
+    (drop k bytes)
+    (runText caps s (textFrom place k bytes) .accepted)
+    (runText caps s (textFrom place k bytes) .refusal)
+unfolding textFrom runText runOver endsWith stop andThen
+run-takes-steps caps s place zero [] = ends
+run-takes-steps caps s place (suc k) [] = ends
+run-takes-steps caps s place (suc k) (byte ∷ bytes) = run-takes-steps caps s (suc place) k bytes
+run-takes-steps caps s place zero (byte ∷ bytes) =
+    go (λ s′ k. run-takes-steps caps s′ (place + 1) k bytes) (refused-or-accepted caps s (readCommand byte bytes))
+  where
+    go : ((s′ : State) (k : ℕ) → Goes caps s′ (place + 1) k bytes)
+        → ((q : Refusal) × RefusedFor caps s (readCommand byte bytes) q) ⊎ ((a : Accepted) × WasAccepted caps s (readCommand byte bytes) a)
+        → Goes caps s place 0 (byte ∷ bytes)
+    go rest (inl (q, f)) = rw (journal-refuses caps s place byte bytes f) (refuses f)
+    go rest (inr (a, w)) =
+        rw
+        (journal-accepts caps s place byte bytes w, ← (text-skips-operands (place + 1) (a .width) bytes))
+        (accepts w (rest (after s (a .command)) (a .width)))
+
+-- and no other list of steps is
+pub steps-are-the-run : (caps : Capacities) (place : ℕ) {s : State} {journal : List ℕ} {l : List Accepted} {end : Option Refusal}
+    → RunsTo caps s journal l end → runText caps s (textFrom place 0 journal) ≡ record { accepted = l; refusal = end }
+unfolding stop andThen
+steps-are-the-run caps place {s} ends = rw (text-ends place) (run-ends caps s none)
+steps-are-the-run caps place {s} (refuses {byte = byte} {bytes = bytes} f) = journal-refuses caps s place byte bytes f
+steps-are-the-run caps place {s} (accepts {byte = byte} {bytes = bytes} {a = a} w rest) =
+    journal-accepts caps s place byte bytes w ∙ ap (andThen a) (steps-are-the-run caps (place + 1 + a .width) rest)

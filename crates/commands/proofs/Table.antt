@@ -165,23 +165,37 @@ given-passes p (l ∷ ls) r a e = go (given-passes p ls r (and-right (p (l .refu
         rw same at (and-left (p (l .refusal)) (everyRefusal p ls) a)
     go rest (inr d) = rest (sym (line-passed-over l ls d) ∙ e)
 
--- the refusal's number lies between the two
+-- when a refusal is given: 0 at the start, 1 where no command can be read, 2 for a command that was read, 3 for want of room
+unfoldable pub stage : Refusal → ℕ
+stage badCapacity = 0
+stage shortBuffer = 0
+stage longJournal = 0
+stage badByte = 1
+stage cutOperands = 1
+stage unknownCabinet = 2
+stage unknownSpan = 2
+stage equalCabinets = 2
+stage full = 2
+stage twoDistricts = 2
+stage noRoom = 3
+
+-- the refusal's stage lies between the two
 abbrev pub between : ℕ → ℕ → Refusal → Bool
-between low high r = leb low (refusalNumber r) && leb (refusalNumber r) high
+between low high r = leb low (stage r) && leb (stage r) high
 
 -- the same as an order of numbers
 pub record Between (low high : ℕ) (r : Refusal) : Type 0 where
-  pub from : low ≤ refusalNumber r
-  pub to : refusalNumber r ≤ high
+  pub from : low ≤ stage r
+  pub to : stage r ≤ high
 
--- if every line's number lies between the two, so does the number that is given
+-- if every line's stage lies between the two, so does that of the refusal that is given
 pub given-between : (low high : ℕ) (ls : List Line) (r : Refusal) → everyRefusal (between low high) ls ≡ true
     → firstThatApplies ls ≡ some r → Between low high r
 given-between low high ls r a e =
     let b = given-passes (between low high) ls r a e in
     record {
-      from = leb-le _ _ (and-left (leb low (refusalNumber r)) (leb (refusalNumber r) high) b);
-      to = leb-le _ _ (and-right (leb low (refusalNumber r)) (leb (refusalNumber r) high) b);
+      from = leb-le _ _ (and-left (leb low (stage r)) (leb (stage r) high) b);
+      to = leb-le _ _ (and-right (leb low (stage r)) (leb (stage r) high) b);
     }
 
 -- the two refusals have the same number

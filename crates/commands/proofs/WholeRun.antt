@@ -1,18 +1,19 @@
 -- Demand 3: the whole-run claim holds of every run of the definitions, for every rule of mates, capacity, journal and buffer.
 use mathlib.Core.List.{List}
-use mathlib.Core.Path.{_≡_, _∙_}
+use mathlib.Core.Path.{_≡_, sym, _∙_}
 use Prim.Native.Nat.{ℕ, suc, _≤_}
 use lib.ListN.{length, take}
 use lib.Seq.{length-take-le}
 use Rattle.graph.specs.Network.{Rule, MateRule}
 use Rattle.graph.proofs.Never.{never-mates}
-use Rattle.naming.specs.Book.{Book, emptyBook}
+use Rattle.naming.specs.State.{State, emptyState}
 use Rattle.commands.specs.Command.{Command}
 use Rattle.commands.specs.Refusal.{Capacities}
 use Rattle.commands.specs.Entry.{wholeRun, acceptedCommands, bookAfter, Buffers, entryUnder}
 use Rattle.commands.specs.Register.{registerRule, register}
 use Rattle.commands.specs.Decode.{decodeFirst}
 use Rattle.commands.specs.WholeRun.{WholeRunClaim}
+use Rattle.commands.proofs.StateAfter.{stateAfter, book-after-commands}
 use Rattle.commands.proofs.SizedBook.{sized-empty}
 use Rattle.commands.proofs.NameList.{answersFrom, hear-all, no-names}
 use Rattle.commands.proofs.RunBooks.{NoneRefused, first-not-refused, Sound, empty-sound, whole-run-not-refused}
@@ -25,21 +26,21 @@ pub whole-run : (rule : Rule) → MateRule rule → (caps : Capacities) (journal
     rule
     (acceptedCommands (wholeRun rule caps journal (length (lent .work)) (length (lent .answers)) (length (lent .report))))
     (entryUnder rule caps journal lent .buffers .answers)
-unfolding bookAfter
+unfolding emptyState
 whole-run rule r caps journal lent =
     record {
       holds-after = λ k h.
           record {
             answered = rw (read k h) (length-answers start (take k commands) ∙ length-take-le k commands h);
-            same-names = rw (read k h, ← no-names rule) (hear-all start (sized-empty rule) (take k commands));
+            same-names = rw (read k h, ← no-names rule, book k) (hear-all start (sized-empty rule) (take k commands));
             few-notices = λ kind.
-                rw (read k h) (few-in-all caps kind start (take k commands) sound (first-not-refused caps start commands not-refused k));
+                rw (read k h, book k) (few-in-all caps kind start (take k commands) sound (first-not-refused caps start commands not-refused k));
           };
-      notices-double = λ i h. rw (read (suc i) h) (each-doubles-at caps start commands sound not-refused i h);
+      notices-double = λ i h. rw (read (suc i) h, book i, book (suc i)) (each-doubles-at caps start commands sound not-refused i h);
     }
   where
-    start : Book
-    start = emptyBook rule
+    start : State
+    start = emptyState rule
 
     sound : Sound caps start
     sound = empty-sound caps rule r
@@ -47,17 +48,25 @@ whole-run rule r caps journal lent =
     commands : List Command
     commands = accepted rule caps journal lent
 
+    book : (k : ℕ) → bookAfter rule (take k commands) ≡ stateAfter start (take k commands) .book
+    book k = sym (book-after-commands rule (take k commands))
+
     not-refused : NoneRefused caps start commands
     not-refused = whole-run-not-refused rule caps journal (length (lent .work)) (length (lent .answers)) (length (lent .report))
 
     read : (k : ℕ) → k ≤ length commands → decodeFirst k (answerBuffer rule caps journal lent) ≡ answersFrom start (take k commands)
     read = read-back rule caps journal lent r
 
--- so it holds of every run of the register
+-- the register's is a rule of mates
+pub register-mates : MateRule registerRule
+unfolding registerRule
+register-mates = never-mates
+
+-- so the claim holds of every run of the register
 pub register-whole-run : (caps : Capacities) (journal : List ℕ) (lent : Buffers)
     → WholeRunClaim
     registerRule
     (acceptedCommands (wholeRun registerRule caps journal (length (lent .work)) (length (lent .answers)) (length (lent .report))))
     (register caps journal lent .buffers .answers)
-unfolding register registerRule
-register-whole-run = whole-run registerRule never-mates
+unfolding register
+register-whole-run = whole-run registerRule register-mates

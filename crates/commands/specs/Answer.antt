@@ -1,16 +1,11 @@
--- The answers and notices, and their bytes.
+-- The answers and notices, and their fields.
 use mathlib.Core.Bool.{Bool, true, false}
 use mathlib.Core.List.{List, [], _∷_, _++_, map}
 use Prim.Native.Nat.{ℕ}
 use lib.ListN.{length}
 use Rattle.naming.specs.Rename.{Change, changesBetween}
 use Rattle.naming.specs.Book.{Book}
-use Rattle.commands.specs.Bytes.{twoBytes, twoBytesEach}
-
-pub data Kind : Type 0 where
-  district : Kind
-  ring : Kind
-  mesh : Kind
+use Rattle.commands.specs.Field.{Kind, district, ring, mesh, Field, cabinet, span, name, number, byte, fieldsBytes}
 
 unfoldable pub kindByte : Kind → ℕ
 kindByte district = 0x01
@@ -23,12 +18,18 @@ pub record Notice : Type 0 where
   pub item : ℕ
   pub name : ℕ
 
-unfoldable pub noticeBytes : Notice → List ℕ
-noticeBytes t = kindByte (t .kind) ∷ twoBytes (t .item) ++ twoBytes (t .name)
+-- An item of a kind of groups.
+unfoldable pub itemField : Kind → ℕ → Field
+itemField district n = cabinet n
+itemField ring n = cabinet n
+itemField mesh n = span n
 
-unfoldable pub noticesBytes : List Notice → List ℕ
-noticesBytes [] = []
-noticesBytes (t ∷ ts) = noticeBytes t ++ noticesBytes ts
+unfoldable pub noticeFields : Notice → List Field
+noticeFields t = byte (kindByte (t .kind)) ∷ itemField (t .kind) (t .item) ∷ name (t .kind) (t .name) ∷ []
+
+unfoldable pub noticesFields : List Notice → List Field
+noticesFields [] = []
+noticesFields (t ∷ ts) = noticeFields t ++ noticesFields ts
 
 -- An item's new name as a notice of a kind.
 unfoldable pub changeNotice : Kind → Change → Notice
@@ -45,29 +46,39 @@ notices b b′ =
     ++ changes ring (b .bridgeBlocks) (b′ .bridgeBlocks)
     ++ changes mesh (b .blocks) (b′ .blocks)
 
--- An added span is answered with its number, its mesh name and the notices; lists are in travelling order.
+-- The answers to commands that add nothing: they bring no notices. Lists are in travelling order.
+pub data Plain : Type 0 where
+  districtNamed : ℕ → Plain
+  ringNamed : ℕ → Plain
+  meshShared : ℕ → Plain
+  noMeshShared : Plain
+  soleSpansAre : List ℕ → Plain
+  cutCabinetsAre : List ℕ → Plain
+  soleIs : Bool → Plain
+
+-- An added span is answered with its number, its mesh name and the notices.
 pub data Answer : Type 0 where
   cabinetAdded : ℕ → Answer
   spanAdded : ℕ → ℕ → List Notice → Answer
-  districtNamed : ℕ → Answer
-  ringNamed : ℕ → Answer
-  meshShared : ℕ → Answer
-  noMeshShared : Answer
-  soleSpansAre : List ℕ → Answer
-  cutCabinetsAre : List ℕ → Answer
-  soleIs : Bool → Answer
+  plain : Plain → Answer
 
 unfoldable pub boolByte : Bool → ℕ
 boolByte true = 1
 boolByte false = 0
 
+unfoldable pub plainFields : Plain → List Field
+plainFields (districtNamed n) = byte 0x83 ∷ name district n ∷ []
+plainFields (ringNamed n) = byte 0x84 ∷ name ring n ∷ []
+plainFields (meshShared n) = byte 0x85 ∷ byte 1 ∷ name mesh n ∷ []
+plainFields noMeshShared = byte 0x85 ∷ byte 0 ∷ number 0 ∷ []
+plainFields (soleSpansAre ss) = byte 0x86 ∷ number (length ss) ∷ map span ss
+plainFields (cutCabinetsAre cs) = byte 0x87 ∷ number (length cs) ∷ map cabinet cs
+plainFields (soleIs sole) = byte 0x88 ∷ byte (boolByte sole) ∷ []
+
+unfoldable pub answerFields : Answer → List Field
+answerFields (cabinetAdded k) = byte 0x81 ∷ cabinet k ∷ []
+answerFields (spanAdded s n ts) = byte 0x82 ∷ span s ∷ name mesh n ∷ number (length ts) ∷ noticesFields ts
+answerFields (plain p) = plainFields p
+
 unfoldable pub answerBytes : Answer → List ℕ
-answerBytes (cabinetAdded k) = 0x81 ∷ twoBytes k
-answerBytes (spanAdded s name ts) = 0x82 ∷ twoBytes s ++ twoBytes name ++ twoBytes (length ts) ++ noticesBytes ts
-answerBytes (districtNamed name) = 0x83 ∷ twoBytes name
-answerBytes (ringNamed name) = 0x84 ∷ twoBytes name
-answerBytes (meshShared name) = 0x85 ∷ 1 ∷ twoBytes name
-answerBytes noMeshShared = 0x85 ∷ 0 ∷ twoBytes 0
-answerBytes (soleSpansAre ss) = 0x86 ∷ twoBytes (length ss) ++ twoBytesEach ss
-answerBytes (cutCabinetsAre cs) = 0x87 ∷ twoBytes (length cs) ++ twoBytesEach cs
-answerBytes (soleIs sole) = 0x88 ∷ boolByte sole ∷ []
+answerBytes a = fieldsBytes (answerFields a)

@@ -13,8 +13,3 @@ twoBytes n = n / 256 % 256 ∷ n % 256 ∷ []
 -- A number below 4,294,967,296 in four bytes.
 unfoldable pub fourBytes : ℕ → List ℕ
 fourBytes n = twoBytes (n / 65536) ++ twoBytes n
-
--- Each number of a list in two bytes.
-unfoldable pub twoBytesEach : List ℕ → List ℕ
-twoBytesEach [] = []
-twoBytesEach (n ∷ ns) = twoBytes n ++ twoBytesEach ns

@@ -1,10 +1,9 @@
--- The commands, and how they stand in a journal's bytes.
+-- The commands, and how they are read from a journal's bytes.
 use mathlib.Core.Bool.{cond}
 use mathlib.Core.List.{List, [], _∷_}
 use Prim.Native.Nat.{ℕ, _+_, _*_}
 use lib.Dec.{leb}
 use lib.ListN.{length, getD}
-use Rattle.naming.specs.Book.{Addition, vertex, edge, neither}
 use Rattle.commands.specs.Bytes.{number}
 
 pub data Command : Type 0 where
@@ -17,29 +16,28 @@ pub data Command : Type 0 where
   cutCabinets : ℕ → ℕ → Command
   isSole : ℕ → Command
 
--- What a command byte makes of the operands that follow it.
+-- What a command byte makes of what follows it: so many operands, and the command that they give, by their place from 0 on.
 pub data Form : Type 0 where
   unknown : Form
-  alone : Command → Form
-  withOne : (ℕ → Command) → Form
-  withTwo : (ℕ → ℕ → Command) → Form
+  takes : ℕ → ((ℕ → ℕ) → Command) → Form
 
--- The commands by their byte, from 00 on: 01 to 08. Every other byte is unknown.
-unfoldable pub form : ℕ → Form
-form byte =
-    getD
-    (unknown
-    ∷ alone addCabinet
-    ∷ withTwo addSpan
-    ∷ withOne districtName
-    ∷ withOne ringName
-    ∷ withTwo sharedMesh
-    ∷ withTwo soleSpans
-    ∷ withTwo cutCabinets
-    ∷ withOne isSole
-    ∷ [])
-    byte
+-- The commands by their byte, from 00 on: 01 to 08.
+unfoldable pub forms : List Form
+forms =
     unknown
+    ∷ takes 0 (λ x. addCabinet)
+    ∷ takes 2 (λ x. addSpan (x 0) (x 1))
+    ∷ takes 1 (λ x. districtName (x 0))
+    ∷ takes 1 (λ x. ringName (x 0))
+    ∷ takes 2 (λ x. sharedMesh (x 0) (x 1))
+    ∷ takes 2 (λ x. soleSpans (x 0) (x 1))
+    ∷ takes 2 (λ x. cutCabinets (x 0) (x 1))
+    ∷ takes 1 (λ x. isSole (x 0))
+    ∷ []
+
+-- Every byte beyond these is unknown.
+unfoldable pub form : ℕ → Form
+form byte = getD forms byte unknown
 
 -- Operand k, counted from 0, of the bytes that follow a command byte: two bytes each, high byte first.
 unfoldable pub operand : List ℕ → ℕ → ℕ
@@ -51,28 +49,22 @@ pub data Reading : Type 0 where
   cutOff : Reading
   command : Command → ℕ → Reading
 
--- So many bytes of operands are there, or they are cut off by the journal's end.
-unfoldable pub ifLong : ℕ → List ℕ → Command → Reading
-ifLong width bytes c = cond (leb width (length bytes)) (command c width) cutOff
-
--- The command of this form whose operands begin the bytes.
+-- The command of this form whose operands begin the bytes. All of them are there, or they are cut off by the journal's end.
 unfoldable pub readForm : Form → List ℕ → Reading
 readForm unknown bytes = unknownByte
-readForm (alone c) bytes = command c 0
-readForm (withOne f) bytes = ifLong 2 bytes (f (operand bytes 0))
-readForm (withTwo f) bytes = ifLong 4 bytes (f (operand bytes 0) (operand bytes 1))
+readForm (takes n make) bytes = cond (leb (2 * n) (length bytes)) (command (make (operand bytes)) (2 * n)) cutOff
 
 -- The command byte decides everything that follows it.
 unfoldable pub readCommand : ℕ → List ℕ → Reading
 readCommand byte bytes = readForm (form byte) bytes
 
--- What the naming book is fed of a command.
-unfoldable pub addition : Command → Addition
-addition addCabinet = vertex
-addition (addSpan a b) = edge (record { left = a; right = b })
-addition (districtName a) = neither
-addition (ringName a) = neither
-addition (sharedMesh a b) = neither
-addition (soleSpans a b) = neither
-addition (cutCabinets a b) = neither
-addition (isSole s) = neither
+-- The byte of a command.
+unfoldable pub commandByte : Command → ℕ
+commandByte addCabinet = 0x01
+commandByte (addSpan a b) = 0x02
+commandByte (districtName a) = 0x03
+commandByte (ringName a) = 0x04
+commandByte (sharedMesh a b) = 0x05
+commandByte (soleSpans a b) = 0x06
+commandByte (cutCabinets a b) = 0x07
+commandByte (isSole s) = 0x08

@@ -5,7 +5,8 @@ use mathlib.Core.Option.{Option, none, some}
 use Prim.Native.Nat.{ℕ, zero, suc, _-_}
 use lib.ListN.{getD}
 use Rattle.commands.specs.Bytes.{number}
-use Rattle.commands.specs.Answer.{Kind, district, ring, mesh, Notice, Answer, cabinetAdded, spanAdded, districtNamed, ringNamed, meshShared, noMeshShared, soleSpansAre, cutCabinetsAre, soleIs}
+use Rattle.commands.specs.Field.{Kind, district, ring, mesh}
+use Rattle.commands.specs.Answer.{Notice, Answer, cabinetAdded, spanAdded, plain, districtNamed, ringNamed, meshShared, noMeshShared, soleSpansAre, cutCabinetsAre, soleIs}
 
 -- An answer and the bytes that follow it.
 pub data Decoded : Type 0 where
@@ -51,22 +52,23 @@ flagThen one none′ = byteThen (λ byte. getD (none′ ∷ one ∷ []) byte (λ
 unfoldable pub noughtThen : (List ℕ → Decoded) → List ℕ → Decoded
 noughtThen k = fieldThen (λ n. getD (k ∷ []) n (λ bytes. malformed))
 
--- The answers by their byte, from 80 on: 81 to 88. Every other byte is malformed.
-unfoldable pub decodeBody : ℕ → List ℕ → Decoded
-decodeBody byte =
-    getD
-    ((λ bytes. malformed)
+-- What follows the byte of an answer, by that byte from 80 on: 81 to 88.
+unfoldable pub bodies : List (List ℕ → Decoded)
+bodies =
+    (λ bytes. malformed)
     ∷ fieldThen (λ k. decoded (cabinetAdded k))
     ∷ fieldThen (λ s. fieldThen (λ name. fieldThen (λ n. noticesThen n (λ ts. decoded (spanAdded s name ts)))))
-    ∷ fieldThen (λ name. decoded (districtNamed name))
-    ∷ fieldThen (λ name. decoded (ringNamed name))
-    ∷ flagThen (fieldThen (λ name. decoded (meshShared name))) (noughtThen (decoded noMeshShared))
-    ∷ fieldThen (λ n. fieldsThen n (λ ss. decoded (soleSpansAre ss)))
-    ∷ fieldThen (λ n. fieldsThen n (λ cs. decoded (cutCabinetsAre cs)))
-    ∷ flagThen (decoded (soleIs true)) (decoded (soleIs false))
-    ∷ [])
-    (byte - 0x80)
-    (λ bytes. malformed)
+    ∷ fieldThen (λ name. decoded (plain (districtNamed name)))
+    ∷ fieldThen (λ name. decoded (plain (ringNamed name)))
+    ∷ flagThen (fieldThen (λ name. decoded (plain (meshShared name)))) (noughtThen (decoded (plain noMeshShared)))
+    ∷ fieldThen (λ n. fieldsThen n (λ ss. decoded (plain (soleSpansAre ss))))
+    ∷ fieldThen (λ n. fieldsThen n (λ cs. decoded (plain (cutCabinetsAre cs))))
+    ∷ flagThen (decoded (plain (soleIs true))) (decoded (plain (soleIs false)))
+    ∷ []
+
+-- Every other byte is malformed.
+unfoldable pub decodeBody : ℕ → List ℕ → Decoded
+decodeBody byte = getD bodies (byte - 0x80) (λ bytes. malformed)
 
 unfoldable pub decode : List ℕ → Decoded
 decode = byteThen decodeBody

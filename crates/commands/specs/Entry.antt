@@ -7,8 +7,11 @@ use lib.Dec.{leb, ltb}
 use lib.ListN.{length, drop, replicate}
 use Rattle.graph.specs.Network.{Rule, edgeCount}
 use Rattle.naming.specs.Book.{Book, emptyBook, feedAll}
-use Rattle.commands.specs.Command.{Command, addition}
+use Rattle.naming.specs.State.{emptyState}
+use Rattle.commands.specs.Command.{Command}
+use Rattle.commands.specs.Facts.{addition}
 use Rattle.commands.specs.Refusal.{Refusal, Line, Capacities, refusalNumber, firstThatApplies, badCapacity, shortBuffer, longJournal}
+use Rattle.commands.specs.Text.{textOf}
 use Rattle.commands.specs.Run.{Run, runWithin, commandsOf, bytesOfAnswers, placeAfter}
 
 -- W, the numbers of the working table that a run uses.
@@ -45,7 +48,7 @@ unfoldable pub wholeRun : Rule → Capacities → List ℕ → ℕ → ℕ → �
 wholeRun rule caps journal workLength answersLength reportLength =
     wholeUnless
     (firstThatApplies (startLines caps (length journal) workLength reportLength))
-    (runWithin answersLength caps (emptyBook rule) journal)
+    (runWithin answersLength caps (emptyState rule) (textOf journal))
 
 -- The accepted commands of a whole run: none where it was refused at the start.
 unfoldable pub acceptedCommands : Whole → List Command

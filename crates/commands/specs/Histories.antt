@@ -3,9 +3,10 @@ use mathlib.Core.Bool.{true, false}
 use mathlib.Core.List.{List, [], _∷_, _++_}
 use mathlib.Core.Path.{_≡_}
 use Prim.Native.Nat.{ℕ}
-use Rattle.commands.specs.Bytes.{twoBytes}
-use Rattle.commands.specs.Command.{Command, addCabinet, addSpan, districtName, ringName, sharedMesh, soleSpans, cutCabinets, isSole}
-use Rattle.commands.specs.Answer.{Kind, district, ring, mesh, Notice, Answer, cabinetAdded, spanAdded, districtNamed, ringNamed, meshShared, noMeshShared, soleSpansAre, cutCabinetsAre, soleIs, answerBytes}
+use Rattle.commands.specs.Command.{addCabinet, addSpan, districtName, ringName, sharedMesh, soleSpans, cutCabinets, isSole}
+use Rattle.commands.specs.Field.{Kind, district, ring, mesh}
+use Rattle.commands.specs.Answer.{Notice, Answer, cabinetAdded, spanAdded, plain, districtNamed, ringNamed, meshShared, noMeshShared, soleSpansAre, cutCabinetsAre, soleIs, answerBytes}
+use Rattle.commands.specs.Text.{journalBytes}
 use Rattle.commands.specs.Register.{program, programReport}
 
 -- The program's input and output, and the six numbers of the report.
@@ -22,21 +23,6 @@ pub record Shown (h : History) : Type 0 where
 abbrev pub EachShown : List History → Type 0
 EachShown [] = Unit
 EachShown (h ∷ hs) = Shown h × EachShown hs
-
--- A command's bytes.
-unfoldable pub commandBytes : Command → List ℕ
-commandBytes addCabinet = 0x01 ∷ []
-commandBytes (addSpan a b) = 0x02 ∷ twoBytes a ++ twoBytes b
-commandBytes (districtName a) = 0x03 ∷ twoBytes a
-commandBytes (ringName a) = 0x04 ∷ twoBytes a
-commandBytes (sharedMesh a b) = 0x05 ∷ twoBytes a ++ twoBytes b
-commandBytes (soleSpans a b) = 0x06 ∷ twoBytes a ++ twoBytes b
-commandBytes (cutCabinets a b) = 0x07 ∷ twoBytes a ++ twoBytes b
-commandBytes (isSole s) = 0x08 ∷ twoBytes s
-
-unfoldable pub journal : List Command → List ℕ
-journal [] = []
-journal (c ∷ cs) = commandBytes c ++ journal cs
 
 -- The answers, then what ends the output.
 unfoldable pub output : List Answer → List ℕ → List ℕ
@@ -88,7 +74,7 @@ unfoldable pub oneSpan : History
 oneSpan =
     record {
       input =
-          journal
+          journalBytes
           (addCabinet
           ∷ addCabinet
           ∷ addSpan 0 1
@@ -104,12 +90,12 @@ oneSpan =
           (cabinetAdded 0
           ∷ cabinetAdded 1
           ∷ spanAdded 0 0 (notice district 1 0 ∷ [])
-          ∷ districtNamed 0
-          ∷ districtNamed 0
-          ∷ ringNamed 0
-          ∷ ringNamed 1
-          ∷ meshShared 0
-          ∷ soleIs true
+          ∷ plain (districtNamed 0)
+          ∷ plain (districtNamed 0)
+          ∷ plain (ringNamed 0)
+          ∷ plain (ringNamed 1)
+          ∷ plain (meshShared 0)
+          ∷ plain (soleIs true)
           ∷ [])
           accepted;
       report = 0 ∷ 27 ∷ 9 ∷ 36 ∷ 2 ∷ 1 ∷ [];
@@ -120,7 +106,7 @@ unfoldable pub twoSpans : History
 twoSpans =
     record {
       input =
-          journal
+          journalBytes
           (addCabinet
           ∷ addCabinet
           ∷ addSpan 0 1
@@ -137,11 +123,11 @@ twoSpans =
           ∷ cabinetAdded 1
           ∷ spanAdded 0 0 (notice district 1 0 ∷ [])
           ∷ spanAdded 1 0 (notice ring 1 0 ∷ [])
-          ∷ ringNamed 0
-          ∷ ringNamed 0
-          ∷ meshShared 0
-          ∷ soleIs false
-          ∷ soleIs false
+          ∷ plain (ringNamed 0)
+          ∷ plain (ringNamed 0)
+          ∷ plain (meshShared 0)
+          ∷ plain (soleIs false)
+          ∷ plain (soleIs false)
           ∷ [])
           accepted;
       report = 0 ∷ 29 ∷ 9 ∷ 44 ∷ 2 ∷ 2 ∷ [];
@@ -152,7 +138,7 @@ unfoldable pub chain : History
 chain =
     record {
       input =
-          journal
+          journalBytes
           (addCabinet
           ∷ addCabinet
           ∷ addCabinet
@@ -170,10 +156,10 @@ chain =
           ∷ cabinetAdded 2
           ∷ spanAdded 0 0 (notice district 1 0 ∷ [])
           ∷ spanAdded 1 1 (notice district 2 0 ∷ [])
-          ∷ soleSpansAre (0 ∷ 1 ∷ [])
-          ∷ soleSpansAre (1 ∷ 0 ∷ [])
-          ∷ cutCabinetsAre (1 ∷ [])
-          ∷ cutCabinetsAre (1 ∷ [])
+          ∷ plain (soleSpansAre (0 ∷ 1 ∷ []))
+          ∷ plain (soleSpansAre (1 ∷ 0 ∷ []))
+          ∷ plain (cutCabinetsAre (1 ∷ []))
+          ∷ plain (cutCabinetsAre (1 ∷ []))
           ∷ [])
           accepted;
       report = 0 ∷ 33 ∷ 9 ∷ 57 ∷ 3 ∷ 2 ∷ [];
@@ -185,7 +171,7 @@ unfoldable pub twoMeshes : History
 twoMeshes =
     record {
       input =
-          journal
+          journalBytes
           (addCabinet
           ∷ addCabinet
           ∷ addCabinet
@@ -211,14 +197,14 @@ twoMeshes =
           ∷ spanAdded 1 0 (notice ring 2 1 ∷ [])
           ∷ spanAdded 2 2 (notice district 0 1 ∷ [])
           ∷ spanAdded 3 2 (notice ring 0 1 ∷ [])
-          ∷ ringNamed 1
-          ∷ ringNamed 1
-          ∷ ringNamed 1
-          ∷ meshShared 0
-          ∷ meshShared 2
-          ∷ noMeshShared
-          ∷ soleSpansAre []
-          ∷ cutCabinetsAre (1 ∷ [])
+          ∷ plain (ringNamed 1)
+          ∷ plain (ringNamed 1)
+          ∷ plain (ringNamed 1)
+          ∷ plain (meshShared 0)
+          ∷ plain (meshShared 2)
+          ∷ plain noMeshShared
+          ∷ plain (soleSpansAre [])
+          ∷ plain (cutCabinetsAre (1 ∷ []))
           ∷ [])
           accepted;
       report = 0 ∷ 57 ∷ 15 ∷ 86 ∷ 3 ∷ 4 ∷ [];
@@ -230,7 +216,7 @@ unfoldable pub twoRingsJoined : History
 twoRingsJoined =
     record {
       input =
-          journal
+          journalBytes
           (addCabinet
           ∷ addCabinet
           ∷ addCabinet
@@ -266,8 +252,8 @@ twoRingsJoined =
 unfoldable pub fromItselfToItself : History
 fromItselfToItself =
     record {
-      input = journal (addCabinet ∷ soleSpans 0 0 ∷ []);
-      output = output (cabinetAdded 0 ∷ soleSpansAre [] ∷ []) accepted;
+      input = journalBytes (addCabinet ∷ soleSpans 0 0 ∷ []);
+      output = output (cabinetAdded 0 ∷ plain (soleSpansAre []) ∷ []) accepted;
       report = 0 ∷ 6 ∷ 2 ∷ 6 ∷ 1 ∷ 0 ∷ [];
     }
 
@@ -275,7 +261,7 @@ fromItselfToItself =
 unfoldable pub spanToItself : History
 spanToItself =
     record {
-      input = journal (addCabinet ∷ addSpan 0 0 ∷ []);
+      input = journalBytes (addCabinet ∷ addSpan 0 0 ∷ []);
       output = output (cabinetAdded 0 ∷ []) (refusedWith 8 1);
       report = 8 ∷ 1 ∷ 1 ∷ 3 ∷ 1 ∷ 0 ∷ [];
     }
@@ -284,7 +270,7 @@ spanToItself =
 unfoldable pub spanToNowhere : History
 spanToNowhere =
     record {
-      input = journal (addCabinet ∷ addSpan 0 5 ∷ []);
+      input = journalBytes (addCabinet ∷ addSpan 0 5 ∷ []);
       output = output (cabinetAdded 0 ∷ []) (refusedWith 6 1);
       report = 6 ∷ 1 ∷ 1 ∷ 3 ∷ 1 ∷ 0 ∷ [];
     }
@@ -293,7 +279,7 @@ spanToNowhere =
 unfoldable pub acrossDistricts : History
 acrossDistricts =
     record {
-      input = journal (addCabinet ∷ addCabinet ∷ soleSpans 0 1 ∷ []);
+      input = journalBytes (addCabinet ∷ addCabinet ∷ soleSpans 0 1 ∷ []);
       output = output (cabinetAdded 0 ∷ cabinetAdded 1 ∷ []) (refusedWith 10 2);
       report = 10 ∷ 2 ∷ 2 ∷ 6 ∷ 2 ∷ 0 ∷ [];
     }

@@ -1,8 +1,10 @@
 pub mod Bytes
+pub mod Field
 pub mod Command
-pub mod Refusal
 pub mod Answer
-pub mod Step
+pub mod Facts
+pub mod Refusal
+pub mod Text
 pub mod Run
 pub mod Entry
 pub mod Register
@@ -10,6 +12,4 @@ pub mod Decode
 pub mod NameList
 pub mod WholeRun
 pub mod Histories
-pub mod Computed
-pub mod HistoriesShown
-pub mod EntryShown
+pub mod Calls

@@ -7,7 +7,8 @@ use Rattle.graph.specs.Below.{tabulate}
 use Rattle.graph.specs.Network.{edgeCount}
 use Rattle.naming.specs.Rename.{nameOf}
 use Rattle.naming.specs.Book.{Book}
-use Rattle.commands.specs.Answer.{Kind, district, ring, mesh, Notice, Answer, cabinetAdded, spanAdded, districtNamed, ringNamed, meshShared, noMeshShared, soleSpansAre, cutCabinetsAre, soleIs}
+use Rattle.commands.specs.Field.{Kind, district, ring, mesh}
+use Rattle.commands.specs.Answer.{Notice, Answer, cabinetAdded, spanAdded, plain}
 
 -- A cabinet or span number with its name.
 pub record Named : Type 0 where
@@ -55,13 +56,7 @@ addSpanNamed s name l =
 unfoldable pub hear : NameList → Answer → NameList
 hear l (cabinetAdded k) = addCabinetNamed k l
 hear l (spanAdded s name ts) = applyNotices ts (addSpanNamed s name l)
-hear l (districtNamed name) = l
-hear l (ringNamed name) = l
-hear l (meshShared name) = l
-hear l noMeshShared = l
-hear l (soleSpansAre ss) = l
-hear l (cutCabinetsAre cs) = l
-hear l (soleIs sole) = l
+hear l (plain p) = l
 
 unfoldable pub hearAll : NameList → List Answer → NameList
 hearAll l [] = l

@@ -1,14 +1,17 @@
 -- The table of causes: the refusals with their numbers, and which of them a command meets first.
-use mathlib.Core.Bool.{Bool, true, false, not}
+use mathlib.Core.Bool.{Bool, true, false, not, _||_}
 use mathlib.Core.List.{List, [], _∷_}
 use mathlib.Core.Option.{Option, none, some}
 use Prim.Native.Nat.{ℕ}
 use lib.Dec.{eqb, leb, ltb}
 use Rattle.graph.specs.Lists.{allIn}
-use Rattle.graph.specs.Network.{edgeCount}
+use Rattle.graph.specs.Network.{Network, edgeCount}
 use Rattle.graph.specs.Groups.{component}
-use Rattle.naming.specs.Book.{Book}
-use Rattle.commands.specs.Command.{Command, addCabinet, addSpan, districtName, ringName, sharedMesh, soleSpans, cutCabinets, isSole}
+use Rattle.naming.specs.Book.{Addition, vertex, edge, neither}
+use Rattle.naming.specs.State.{State}
+use Rattle.commands.specs.Field.{Field, cabinet, span, name, number, byte}
+use Rattle.commands.specs.Command.{Command}
+use Rattle.commands.specs.Facts.{Demand, differ, shareDistrict, facts, operandsOf, demandsOf, addition}
 
 pub data Refusal : Type 0 where
   badCapacity : Refusal
@@ -51,78 +54,61 @@ pub record Capacities : Type 0 where
   pub cabinets : ℕ
   pub spans : ℕ
 
--- The operands of a command that are cabinet numbers.
-unfoldable pub cabinetsOf : Command → List ℕ
-cabinetsOf addCabinet = []
-cabinetsOf (addSpan a b) = a ∷ b ∷ []
-cabinetsOf (districtName a) = a ∷ []
-cabinetsOf (ringName a) = a ∷ []
-cabinetsOf (sharedMesh a b) = a ∷ b ∷ []
-cabinetsOf (soleSpans a b) = a ∷ b ∷ []
-cabinetsOf (cutCabinets a b) = a ∷ b ∷ []
-cabinetsOf (isSole s) = []
+-- The field, if it is a cabinet, is a known one.
+unfoldable pub cabinetKnown : Network → Field → Bool
+cabinetKnown g (cabinet a) = ltb a (g .vertices)
+cabinetKnown g (span x) = true
+cabinetKnown g (name kind n) = true
+cabinetKnown g (number n) = true
+cabinetKnown g (byte n) = true
 
--- The operands of a command that are span numbers.
-unfoldable pub spansOf : Command → List ℕ
-spansOf addCabinet = []
-spansOf (addSpan a b) = []
-spansOf (districtName a) = []
-spansOf (ringName a) = []
-spansOf (sharedMesh a b) = []
-spansOf (soleSpans a b) = []
-spansOf (cutCabinets a b) = []
-spansOf (isSole s) = s ∷ []
+-- The field, if it is a span, is a known one.
+unfoldable pub spanKnown : Network → Field → Bool
+spanKnown g (cabinet a) = true
+spanKnown g (span x) = ltb x (edgeCount g)
+spanKnown g (name kind n) = true
+spanKnown g (number n) = true
+spanKnown g (byte n) = true
 
--- The cabinets that a command names are all known.
-unfoldable pub cabinetsKnown : Book → Command → Bool
-cabinetsKnown b c = allIn (λ a. ltb a (b .network .vertices)) (cabinetsOf c)
+-- The cabinets that a command names are all known, and so are the spans.
+unfoldable pub cabinetsKnown : State → Command → Bool
+cabinetsKnown s c = allIn (cabinetKnown (s .book .network)) (operandsOf (facts c))
 
--- The spans that a command names are all known.
-unfoldable pub spansKnown : Book → Command → Bool
-spansKnown b c = allIn (λ s. ltb s (edgeCount (b .network))) (spansOf c)
+unfoldable pub spansKnown : State → Command → Bool
+spansKnown s c = allIn (spanKnown (s .book .network)) (operandsOf (facts c))
 
--- The command is 02 or 05, with equal cabinets.
-unfoldable pub hasEqualCabinets : Command → Bool
-hasEqualCabinets addCabinet = false
-hasEqualCabinets (addSpan a b) = eqb a b
-hasEqualCabinets (districtName a) = false
-hasEqualCabinets (ringName a) = false
-hasEqualCabinets (sharedMesh a b) = eqb a b
-hasEqualCabinets (soleSpans a b) = false
-hasEqualCabinets (cutCabinets a b) = false
-hasEqualCabinets (isSole s) = false
+-- The demand is met.
+unfoldable pub met : State → Demand → Bool
+met s (differ a b) = not (eqb a b)
+met s (shareDistrict a b) = component (s .book .network) a b
 
--- The command is 01 with C cabinets, or 02 with S spans present.
-unfoldable pub isFull : Capacities → Book → Command → Bool
-isFull caps b addCabinet = leb (caps .cabinets) (b .network .vertices)
-isFull caps b (addSpan x y) = leb (caps .spans) (edgeCount (b .network))
-isFull caps b (districtName x) = false
-isFull caps b (ringName x) = false
-isFull caps b (sharedMesh x y) = false
-isFull caps b (soleSpans x y) = false
-isFull caps b (cutCabinets x y) = false
-isFull caps b (isSole s) = false
+-- The refusal where it is not.
+unfoldable pub cause : Demand → Refusal
+cause (differ a b) = equalCabinets
+cause (shareDistrict a b) = twoDistricts
 
--- The command is 06 or 07 across districts.
-unfoldable pub isAcross : Book → Command → Bool
-isAcross b addCabinet = false
-isAcross b (addSpan x y) = false
-isAcross b (districtName x) = false
-isAcross b (ringName x) = false
-isAcross b (sharedMesh x y) = false
-isAcross b (soleSpans x y) = not (component (b .network) x y)
-isAcross b (cutCabinets x y) = not (component (b .network) x y)
-isAcross b (isSole s) = false
+-- All demands of the command that could give this refusal are met.
+unfoldable pub meets : Refusal → State → Command → Bool
+meets r s c = allIn (λ d. not (eqb (refusalNumber (cause d)) (refusalNumber r)) || met s d) (demandsOf (facts c))
+
+-- There are as many cabinets as there may be where one is added, or as many spans.
+unfoldable pub fullFor : Capacities → Network → Addition → Bool
+fullFor caps g vertex = leb (caps .cabinets) (g .vertices)
+fullFor caps g (edge e) = leb (caps .spans) (edgeCount g)
+fullFor caps g neither = false
+
+unfoldable pub isFull : Capacities → State → Command → Bool
+isFull caps s c = fullFor caps (s .book .network) (addition c)
 
 -- The lines of the table that a command read whole can meet, in their order; room for the answer comes after them.
-unfoldable pub lines : Capacities → Book → Command → List Line
-lines caps b c =
-    record { applies = not (cabinetsKnown b c); refusal = unknownCabinet }
-    ∷ record { applies = not (spansKnown b c); refusal = unknownSpan }
-    ∷ record { applies = hasEqualCabinets c; refusal = equalCabinets }
-    ∷ record { applies = isFull caps b c; refusal = full }
-    ∷ record { applies = isAcross b c; refusal = twoDistricts }
+unfoldable pub lines : Capacities → State → Command → List Line
+lines caps s c =
+    record { applies = not (cabinetsKnown s c); refusal = unknownCabinet }
+    ∷ record { applies = not (spansKnown s c); refusal = unknownSpan }
+    ∷ record { applies = not (meets equalCabinets s c); refusal = equalCabinets }
+    ∷ record { applies = isFull caps s c; refusal = full }
+    ∷ record { applies = not (meets twoDistricts s c); refusal = twoDistricts }
     ∷ []
 
-unfoldable pub refusalOf : Capacities → Book → Command → Option Refusal
-refusalOf caps b c = firstThatApplies (lines caps b c)
+unfoldable pub refusalOf : Capacities → State → Command → Option Refusal
+refusalOf caps s c = firstThatApplies (lines caps s c)

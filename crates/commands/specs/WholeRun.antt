@@ -1,8 +1,9 @@
 -- The whole-run claim (demand 3): one statement about the whole list of accepted commands and the answer buffer on return.
-use mathlib.Core.Bool.{Bool, true, false, cond}
+use mathlib.Core.Bool.{Bool, cond}
 use mathlib.Core.List.{List, [], _∷_}
 use mathlib.Core.Path.{_≡_}
 use Prim.Native.Nat.{ℕ, suc, _+_, _*_, _≤_, _<_}
+use lib.Dec.{eqb}
 use lib.ListN.{length, take, getD}
 use Rattle.graph.specs.Network.{Network, Rule, edgeCount}
 use Rattle.graph.specs.Groups.{component, bridgeBlock}
@@ -10,7 +11,8 @@ use Rattle.graph.specs.Block.{block}
 use Rattle.naming.specs.Rename.{Grouping, size}
 use Rattle.naming.specs.Log.{wholeLog2}
 use Rattle.commands.specs.Command.{Command}
-use Rattle.commands.specs.Answer.{Kind, district, ring, mesh, Notice, Answer, cabinetAdded, spanAdded, districtNamed, ringNamed, meshShared, noMeshShared, soleSpansAre, cutCabinetsAre, soleIs}
+use Rattle.commands.specs.Field.{Kind, district, ring, mesh}
+use Rattle.commands.specs.Answer.{Notice, Answer, cabinetAdded, spanAdded, plain, noMeshShared, kindByte}
 use Rattle.commands.specs.Entry.{bookAfter}
 use Rattle.commands.specs.Decode.{decodeFirst}
 use Rattle.commands.specs.NameList.{noNames, hearAll, namesOf}
@@ -33,24 +35,10 @@ groupSize kind g x = size (itemsOf kind g) (groupsOf kind g) x
 unfoldable pub noticesIn : Answer → List Notice
 noticesIn (cabinetAdded k) = []
 noticesIn (spanAdded s name ts) = ts
-noticesIn (districtNamed name) = []
-noticesIn (ringNamed name) = []
-noticesIn (meshShared name) = []
-noticesIn noMeshShared = []
-noticesIn (soleSpansAre ss) = []
-noticesIn (cutCabinetsAre cs) = []
-noticesIn (soleIs sole) = []
+noticesIn (plain p) = []
 
 unfoldable pub sameKind : Kind → Kind → Bool
-sameKind district district = true
-sameKind district ring = false
-sameKind district mesh = false
-sameKind ring district = false
-sameKind ring ring = true
-sameKind ring mesh = false
-sameKind mesh district = false
-sameKind mesh ring = false
-sameKind mesh mesh = true
+sameKind kind other = eqb (kindByte kind) (kindByte other)
 
 -- How many notices of a kind there are, in a list of notices and over all answers.
 unfoldable pub countNotices : Kind → List Notice → ℕ
@@ -87,7 +75,7 @@ abbrev pub AnswerDoubles : Rule → List Command → List ℕ → ℕ → Type 0
 AnswerDoubles rule commands buffer i =
     EachNotice
     (Doubles (bookAfter rule (take i commands) .network) (bookAfter rule (take (suc i) commands) .network))
-    (noticesIn (getD (decodeFirst (suc i) buffer) i noMeshShared))
+    (noticesIn (getD (decodeFirst (suc i) buffer) i (plain noMeshShared)))
 
 -- The claim about the accepted commands of a run, of every kind, and the answer buffer as it stands on return: after each number of
 -- the commands, from none to all.

@@ -12,6 +12,7 @@ use Rattle.graph.specs.Groups.{component}
 use Rattle.graph.proofs.Truth.{true-or-false}
 use Rattle.naming.specs.Book.{Book, feed}
 use Rattle.naming.specs.State.{State, afterAddition}
+use Rattle.table.specs.Inside.Column
 use Rattle.table.specs.Inside.Layout.{vertexArea, bridgeBlockArea, edgeArea}
 use Rattle.table.specs.Inside.Merge.{nameIn}
 use Rattle.table.proofs.KindNames.{name-in-list, same-group}
@@ -32,7 +33,7 @@ module _ (new : EdgeToAdd) where
   ends-share = rw (kept a a-known, kept b b-known) (sym (same-group (valid .components) a b a-known b-known))
     where
       kept : (x : ℕ) → x < n → nameIn (endsStored new) (vertexArea limits) x ≡ nameIn t (vertexArea limits) x
-      kept x h = ends-frame new [] (4 ∷ []) refl .vertex-word 0 x (omega arith) (omega (arith, valid .vertices-fit)) refl
+      kept x h = ends-frame new [] (Column.ends ∷ []) refl .vertex-word Column.name x (omega arith) (omega (arith, valid .vertices-fit)) refl
 
   -- whichever way the table grows, it holds the network with the edge, and the changes are written down
   grows : Grows new (edgeGrown t limits m a b)

@@ -1,6 +1,6 @@
 -- One vertex more: the table stays valid, and its naming book is the one with the vertex entered.
 use mathlib.Core.Bool.{true, false}
-use mathlib.Core.List.{List, [], _∷_, _++_}
+use mathlib.Core.List.{List, [], _∷_, _++_, map}
 use mathlib.Core.Logic.{_⊎_, inl, inr, ⊎-elim}
 use mathlib.Core.Path.{_≡_, refl, sym, _∙_, ap}
 use Prim.Native.Nat.{ℕ, suc, _*_, _≤_, _<_}
@@ -20,18 +20,21 @@ use Rattle.naming.specs.Book.{Book, enterVertex, feed}
 use Rattle.naming.specs.State.{State, afterAddition}
 use Rattle.naming.proofs.Equivalent.{size-agree, size-others, size-positive}
 use Rattle.numbers.specs.declared.Limits.{Limits}
+use Rattle.table.specs.Inside.Column
 use Rattle.table.specs.Inside.Layout.{cell, put, vertexArea, bridgeBlockArea, edgeArea}
 use Rattle.table.specs.Inside.KindValid.{namesIn, KindValid}
-use Rattle.table.proofs.Cells.{HasColumns, length-put, cell-put-same, cell-put-other-column}
+use Rattle.table.proofs.Cells.{HasColumns, length-put, cell-put-same, cell-put-other-column, cell-put-elsewhere}
+use Rattle.table.proofs.MergeKept.{HasKind}
 use Rattle.table.proofs.KindNames.{name-known}
 use Rattle.forest.specs.Inside.Climb.{upOf, depthOf, aboveEdge}
 use Rattle.forest.specs.Inside.Tree.{newGroup, vertexTable}
 use Rattle.forest.specs.Inside.Valid.{networkOf, bookOf, HangsBelow, ForestValid, Valid}
 use Rattle.forest.specs.Promise.{Holds, stateOf, VertexAdded}
+use Rattle.forest.proofs.Columns.{among, within, groupColumns}
 use Rattle.forest.proofs.Beyond.{frame-beyond}
-use Rattle.forest.proofs.KindWords.{SameWords, names-same, kind-same, kind-agree, kind-new, names-new, cell-put-elsewhere}
+use Rattle.forest.proofs.KindWords.{SameWords, names-same, kind-same, kind-agree, kind-new, names-new}
 use Rattle.forest.proofs.Networks.{component-groups, bridge-block-groups, edge-count, vertex-count, ends-same, book-is}
-use Rattle.forest.proofs.Frames.{among, Frame, _then_, frame-vertex, frame-component, frame-bridge-block, same-components, same-bridge-blocks, same-blocks, same-above}
+use Rattle.forest.proofs.Frames.{Frame, _then_, frame-vertex, frame-component, frame-bridge-block, same-components, same-bridge-blocks, same-blocks, same-above}
 
 -- one vertex more changes no edge, and no vertex is on another block
 edge-vertex-more : (g : Network) (e : ℕ) → edge (addVertex g) e ≡ edge g e
@@ -53,37 +56,37 @@ module _ (limits : Limits) (n m : ℕ) (t : List ℕ) (valid : Valid limits n m 
   t₂ = newGroup t₁ (bridgeBlockArea limits) n
 
   t₃ : List ℕ
-  t₃ = put t₂ (vertexArea limits) 8 n 0
+  t₃ = put t₂ (vertexArea limits) Column.up n 0
 
   abbrev t′ : List ℕ
   t′ = vertexTable t limits n
 
-  component-step : (vs es : List ℕ) → among vs 0 ≡ true → among vs 1 ≡ true → among vs 2 ≡ true → Frame limits vs es t t₁
+  component-step : (vs es : List ℕ) → within groupColumns vs ≡ true → Frame limits vs es t t₁
   unfolding t₁
   component-step vs es = frame-component limits vs es t n room
 
-  bridge-block-step : (vs es : List ℕ) → among vs 4 ≡ true → among vs 5 ≡ true → among vs 6 ≡ true → Frame limits vs es t₁ t₂
+  bridge-block-step : (vs es : List ℕ) → within (map Column.ofBridgeBlocks groupColumns) vs ≡ true → Frame limits vs es t₁ t₂
   unfolding t₂
   bridge-block-step vs es = frame-bridge-block limits vs es t₁ n room
 
-  forest-step : (vs es : List ℕ) → among vs 8 ≡ true → among vs 9 ≡ true → Frame limits vs es t₂ t′
+  forest-step : (vs es : List ℕ) → among vs Column.up ≡ true → among vs Column.depth ≡ true → Frame limits vs es t₂ t′
   unfolding vertexTable t₁ t₂ t₃
   forest-step vs es p q =
-      frame-vertex limits vs es t₂ 8 n 0 (omega arith) room p then frame-vertex limits vs es t₃ 9 n 0 (omega arith) room q
+      frame-vertex limits vs es t₂ Column.up n 0 (omega arith) room p then frame-vertex limits vs es t₃ Column.depth n 0 (omega arith) room q
 
   abbrev columns : List ℕ
-  columns = 0 ∷ 1 ∷ 2 ∷ 4 ∷ 5 ∷ 6 ∷ 8 ∷ 9 ∷ []
+  columns = groupColumns ++ map Column.ofBridgeBlocks groupColumns ++ Column.up ∷ Column.depth ∷ []
 
   whole : Frame limits columns [] t t′
   whole =
-      component-step columns [] refl refl refl then bridge-block-step columns [] refl refl refl then forest-step columns [] refl refl
+      component-step columns [] refl then bridge-block-step columns [] refl then forest-step columns [] refl refl
 
   abbrev g : Network
   g = networkOf limits n m t
 
   network-more : networkOf limits (suc n) m t′ ≡ addVertex g
   unfolding networkOf addVertex
-  network-more = rw (ends-same limits m t t′ (λ s h. whole .edge-word 4 s (omega arith) (omega (arith, valid .edges-fit)) refl))
+  network-more = rw (ends-same limits m t t′ (λ s h. whole .edge-word Column.ends s (omega arith) (omega (arith, valid .edges-fit)) refl))
 
   -- the new vertex is a component by itself
   component-apart : (x : ℕ) → x < n → component (addVertex g) n x ≡ false
@@ -108,11 +111,9 @@ module _ (limits : Limits) (n m : ℕ) (t : List ℕ) (valid : Valid limits n m 
   after-components : SameWords t₁ t′ (vertexArea limits) (suc n)
   after-components =
       same-components
-      (bridge-block-step (4 ∷ 5 ∷ 6 ∷ 8 ∷ 9 ∷ []) [] refl refl refl then forest-step _ _ refl refl)
+      (bridge-block-step (map Column.ofBridgeBlocks groupColumns ++ Column.up ∷ Column.depth ∷ []) [] refl then forest-step _ _ refl refl)
       (suc n)
       room
-      refl
-      refl
       refl
 
   component-names : namesIn t₁ (vertexArea limits) (suc n) ≡ namesIn t (vertexArea limits) n ++ n ∷ []
@@ -127,13 +128,13 @@ module _ (limits : Limits) (n m : ℕ) (t : List ℕ) (valid : Valid limits n m 
 
   before-bridge-blocks : SameWords t t₁ (bridgeBlockArea limits) n
   before-bridge-blocks =
-      same-bridge-blocks (component-step (0 ∷ 1 ∷ 2 ∷ []) [] refl refl refl) n (valid .vertices-fit) refl refl refl
+      same-bridge-blocks (component-step groupColumns [] refl) n (valid .vertices-fit) refl
 
   after-bridge-blocks : SameWords t₂ t′ (bridgeBlockArea limits) (suc n)
-  after-bridge-blocks = same-bridge-blocks (forest-step (8 ∷ 9 ∷ []) [] refl refl) (suc n) room refl refl refl
+  after-bridge-blocks = same-bridge-blocks (forest-step (Column.up ∷ Column.depth ∷ []) [] refl refl) (suc n) room refl
 
-  has-bridge-blocks : HasColumns t₁ (bridgeBlockArea limits) 3
-  has-bridge-blocks = omega (arith, valid .long, component-step (0 ∷ 1 ∷ 2 ∷ []) [] refl refl refl .same-length)
+  has-bridge-blocks : HasKind t₁ (bridgeBlockArea limits)
+  has-bridge-blocks = omega (arith, valid .long, component-step groupColumns [] refl .same-length)
 
   bridge-block-names : namesIn t₂ (bridgeBlockArea limits) (suc n) ≡ namesIn t₁ (bridgeBlockArea limits) n ++ n ∷ []
   unfolding t₂
@@ -164,34 +165,34 @@ module _ (limits : Limits) (n m : ℕ) (t : List ℕ) (valid : Valid limits n m 
   blocks =
       kind-agree
       (λ x y h k. sym (block-vertex-more g x y))
-      (kind-same (same-blocks whole m (valid .edges-fit) refl refl refl) (valid .blocks))
+      (kind-same (same-blocks whole m (valid .edges-fit) refl) (valid .blocks))
 
-  groups-step : Frame limits (0 ∷ 1 ∷ 2 ∷ 4 ∷ 5 ∷ 6 ∷ []) [] t t₂
-  groups-step = component-step _ _ refl refl refl then bridge-block-step _ _ refl refl refl
+  groups-step : Frame limits (groupColumns ++ map Column.ofBridgeBlocks groupColumns) [] t t₂
+  groups-step = component-step _ _ refl then bridge-block-step _ _ refl
 
   -- the words of an old vertex stay
-  old-word : (c x : ℕ) → c < 24 → x < n → among (0 ∷ 1 ∷ 2 ∷ 4 ∷ 5 ∷ 6 ∷ []) c ≡ false
+  old-word : (c x : ℕ) → c < Column.perVertex → x < n → among (groupColumns ++ map Column.ofBridgeBlocks groupColumns) c ≡ false
       → cell t′ (vertexArea limits) c x ≡ cell t (vertexArea limits) c x
   unfolding vertexTable t₁ t₂ t₃
   old-word c x h l o =
-      cell-put-elsewhere t₃ (vertexArea limits) 9 n 0 c x room (omega arith) (λ e. omega arith)
-      ∙ cell-put-elsewhere t₂ (vertexArea limits) 8 n 0 c x room (omega arith) (λ e. omega arith)
+      cell-put-elsewhere t₃ (vertexArea limits) Column.depth n 0 c x room (omega arith) (λ e. omega arith)
+      ∙ cell-put-elsewhere t₂ (vertexArea limits) Column.up n 0 c x room (omega arith) (λ e. omega arith)
       ∙ groups-step .vertex-word c x h (omega arith) o
 
-  has : HasColumns t₂ (vertexArea limits) 24
+  has : HasColumns t₂ (vertexArea limits) Column.perVertex
   has = omega (arith, groups-step .same-length, valid .long)
 
   -- the new vertex is a root of depth 0
   new-up : upOf t′ limits n ≡ 0
   unfolding vertexTable t₁ t₂ t₃
   new-up =
-      cell-put-other-column t₃ (vertexArea limits) 9 n 0 8 n room room (λ e. omega arith)
-      ∙ cell-put-same t₂ (vertexArea limits) 24 8 n 0 has (omega arith) room
+      cell-put-other-column t₃ (vertexArea limits) Column.depth n 0 Column.up n room room (λ e. omega arith)
+      ∙ cell-put-same t₂ (vertexArea limits) Column.perVertex Column.up n 0 has (omega arith) room
 
   new-depth : depthOf t′ limits n ≡ 0
   unfolding vertexTable t₁ t₂ t₃
   new-depth =
-      cell-put-same t₃ (vertexArea limits) 24 9 n 0 (rw (length-put t₂ (vertexArea limits) 8 n 0) has) (omega arith) room
+      cell-put-same t₃ (vertexArea limits) Column.perVertex Column.depth n 0 (rw (length-put t₂ (vertexArea limits) Column.up n 0) has) (omega arith) room
 
   above : (e : ℕ) → e < m → aboveEdge t′ limits e ≡ aboveEdge t limits e
   above e h =
@@ -207,7 +208,7 @@ module _ (limits : Limits) (n m : ℕ) (t : List ℕ) (valid : Valid limits n m 
   up-old x e h u = go (below-or-last n x h)
     where
       go : (x < n) ⊎ (x ≡ n) → (x < n) × (upOf t limits x ≡ suc e)
-      go (inl l) = (l, sym (old-word 8 x (omega arith) l refl) ∙ u)
+      go (inl l) = (l, sym (old-word Column.up x (omega arith) l refl) ∙ u)
       go (inr q) = absurd (omega (arith, sym (ap (upOf t′ limits) q) ∙ u, new-up))
 
   top-old : (e : ℕ) → e < m → aboveEdge t limits e < n
@@ -217,7 +218,7 @@ module _ (limits : Limits) (n m : ℕ) (t : List ℕ) (valid : Valid limits n m 
   hangs e x l b =
       record {
         by = b .by;
-        is-up = old-word 8 x (omega arith) l refl ∙ b .is-up;
+        is-up = old-word Column.up x (omega arith) l refl ∙ b .is-up;
         in-block = block-vertex-more g e (b .by) ∙ b .in-block;
       }
 
@@ -245,12 +246,12 @@ module _ (limits : Limits) (n m : ℕ) (t : List ℕ) (valid : Valid limits n m 
       falls x e l u =
           let h = valid .forest .up-known x e l u in
           rw
-          (above e h, old-word 9 (aboveEdge t limits e) (omega arith) (top-old e h) refl, old-word 9 x (omega arith) l refl)
+          (above e h, old-word Column.depth (aboveEdge t limits e) (omega arith) (top-old e h) refl, old-word Column.depth x (omega arith) l refl)
           (valid .forest .depth-falls x e l u)
 
       bound : (x : ℕ) → (x < n) ⊎ (x ≡ n)
           → depthOf t′ limits x < size (suc n) (component (addVertex g)) x * size (suc n) (component (addVertex g)) x
-      bound x (inl l) = rw (old-word 9 x (omega arith) l refl, old-size x l) (valid .forest .depth-bound x l)
+      bound x (inl l) = rw (old-word Column.depth x (omega arith) l refl, old-size x l) (valid .forest .depth-bound x l)
       bound x (inr q) = rw (q, new-depth) (square-positive (size-positive (suc n) (component (addVertex g)) (component-groups (addVertex g)) n (omega arith)))
 
   book : bookOf limits (suc n) m t′ ≡ enterVertex (bookOf limits n m t)
@@ -263,7 +264,7 @@ module _ (limits : Limits) (n m : ℕ) (t : List ℕ) (valid : Valid limits n m 
       (names-same t₂ t′ (bridgeBlockArea limits) (suc n) after-bridge-blocks
       ∙ bridge-block-names
       ∙ ap (λ (l : List ℕ). l ++ n ∷ []) (names-same t t₁ (bridgeBlockArea limits) n before-bridge-blocks))
-      (names-same t t′ (edgeArea limits) m (same-blocks whole m (valid .edges-fit) refl refl refl))
+      (names-same t t′ (edgeArea limits) m (same-blocks whole m (valid .edges-fit) refl))
 
   valid-after : Valid limits (suc n) m t′
   valid-after =

@@ -6,6 +6,7 @@ use native.Mathlib.Omega.{arith}
 use lib.ListN.{length, getD, drop, length-drop}
 use lib.Seq.{ext-getD, getD-drop}
 use Rattle.numbers.specs.declared.Limits.{Limits}
+use Rattle.table.specs.Inside.Column
 use Rattle.forest.specs.Promise.{wordsNeeded, SameBeyond}
 use Rattle.forest.proofs.Frames.{Frame}
 
@@ -24,4 +25,4 @@ drop-same k old new e f =
 pub frame-beyond : {limits : Limits} {vs es old new : List ℕ} → Frame limits vs es old new → SameBeyond limits old new
 unfolding wordsNeeded
 frame-beyond {limits} {vs} {es} {old} {new} f =
-    record { as-long = f .same-length; beyond = drop-same (limits .vertices * 24 + limits .edges * 8) old new (f .same-length) (f .beyond) }
+    record { as-long = f .same-length; beyond = drop-same (limits .vertices * Column.perVertex + limits .edges * Column.perEdge) old new (f .same-length) (f .beyond) }

@@ -15,6 +15,7 @@ use Rattle.graph.specs.Block.{block}
 use Rattle.graph.specs.BlockPath.{BlockPath}
 use Rattle.graph.proofs.Truth.{true-or-false, ne-eqb}
 use Rattle.numbers.specs.declared.Limits.{Limits}
+use Rattle.table.specs.Inside.Column
 use Rattle.table.specs.Inside.Layout.{vertexArea}
 use Rattle.table.proofs.Cells.{HasColumns}
 use Rattle.table.proofs.KindNames.{same-group}
@@ -36,7 +37,7 @@ pub record Joins (limits : Limits) (t : List ℕ) (k at : ℕ) (t′ : List ℕ)
   pub stored : stepsOf t′ limits (at + k) ≡ stepsOf t limits at ++ turnedSteps t limits k
 
 -- one step joined, and then the rest
-join-more : (limits : Limits) (k : ℕ) (t : List ℕ) (at : ℕ) (t′ : List ℕ) → at + suc k < limits .vertices → HasColumns t (vertexArea limits) 24
+join-more : (limits : Limits) (k : ℕ) (t : List ℕ) (at : ℕ) (t′ : List ℕ) → at + suc k < limits .vertices → HasColumns t (vertexArea limits) Column.perVertex
     → Joins limits (leftStore t limits at (rightEdge t limits k) (rightVertex t limits k)) k (at + 1) t′ → Joins limits t (suc k) at t′
 unfolding turnedSteps
 join-more limits k t at t′ h long j =
@@ -60,7 +61,7 @@ join-more limits k t at t′ h long j =
     regroup = omega arith
 
 -- joining leaves the steps of the right side, turned round, behind the first steps of the path
-pub join-leaves : (limits : Limits) (k : ℕ) (t : List ℕ) (at : ℕ) → at + k < limits .vertices → HasColumns t (vertexArea limits) 24
+pub join-leaves : (limits : Limits) (k : ℕ) (t : List ℕ) (at : ℕ) → at + k < limits .vertices → HasColumns t (vertexArea limits) Column.perVertex
     → Joins limits t k at (joinFrom k t limits at)
 unfolding joinFrom joinOne turnedSteps
 join-leaves limits zero t at h long =
@@ -101,7 +102,7 @@ module _ (t₀ : List ℕ) (limits : Limits) (n m : ℕ) (g : Network) (w : Bloc
   named-after : (e f : ℕ) → e < m → f < m → block g e f ≡ eqb (blockOf t limits e) (blockOf t limits f)
   named-after e k h l =
       same-group (w .blocks) e k h l
-      ∙ ap₂ eqb (sym (f .edge-word 0 e (omega arith) (omega arith) refl)) (sym (f .edge-word 0 k (omega arith) (omega arith) refl))
+      ∙ ap₂ eqb (sym (f .edge-word Column.name e (omega arith) (omega arith) refl)) (sym (f .edge-word Column.name k (omega arith) (omega arith) refl))
 
   -- no step is dropped
   whole : (ps qs : List Step) → Rises t₀ limits n a ps v → Falls t₀ limits n v qs b → Fresh a (ps ++ qs) → Apart g ps qs

@@ -16,6 +16,7 @@ use Rattle.graph.specs.BlockPath.{BlockPath, blocksLead}
 use Rattle.graph.proofs.Truth.{eqb-eq}
 use Rattle.graph.proofs.Below.{below-or-last}
 use Rattle.numbers.specs.declared.Limits.{Limits}
+use Rattle.table.specs.Inside.Column
 use Rattle.table.specs.Inside.Layout.{vertexArea}
 use Rattle.table.proofs.Cells.{HasColumns}
 use Rattle.forest.specs.declared.climb.Route.{Route}
@@ -174,7 +175,7 @@ kept-bound t limits l r = go (lastSame t limits l r)
 
 -- the two sides of a climb, joined
 sides-climb : (limits : Limits) (n m : ℕ) (t : List ℕ) (g : Network) → BlockForest t limits n m g → n ≤ limits .vertices → m ≤ limits .edges
-    → HasColumns t (vertexArea limits) 24 → (a b v : ℕ) → a < n → (c : Climbed) → Sides t limits n a b v c
+    → HasColumns t (vertexArea limits) Column.perVertex → (a b v : ℕ) → a < n → (c : Climbed) → Sides t limits n a b v c
     → let kept = keptLeft (c .table) limits (c .trail) in
     Climbs limits n m t g a b (joinFrom (c .trail .right) (c .table) limits kept) (record { steps = kept + c .trail .right; top = c .trail .a })
 unfolding keptLeft sameLast
@@ -216,7 +217,7 @@ climb-law limits n m t w a b h l j = go (climb-exists t limits n m g f a b h l j
     f : BlockForest t limits n m g
     f = block-forest limits n m t w
 
-    long : HasColumns t (vertexArea limits) 24
+    long : HasColumns t (vertexArea limits) Column.perVertex
     long = omega (arith, w .long)
 
     go : ((v : ℕ) × Climb t limits n a b v) → Climbs limits n m t g a b (climbTable t limits a b) (climbRoute t limits a b)

@@ -8,18 +8,20 @@ use Rattle.graph.specs.Below.{tabulate}
 use Rattle.graph.specs.Network.{Network}
 use Rattle.graph.specs.Cycle.{Step}
 use Rattle.numbers.specs.declared.Limits.{Limits}
+use Rattle.table.specs.Inside.Column
 use Rattle.table.specs.Inside.Layout.{put, vertexArea}
 use Rattle.table.proofs.Cells.{HasColumns, cell-put-same}
 use Rattle.forest.specs.declared.climb.Trail.{Trail}
 use Rattle.forest.specs.Inside.Climb.{Climbed, pathVertex, reach, climbFrom, climbBoth}
 use Rattle.forest.specs.Inside.Route.{stepsOf}
+use Rattle.forest.proofs.Columns.{scratch}
 use Rattle.forest.proofs.Frames.{frame-vertex, _then_}
 use Rattle.forest.proofs.Roots.{BlockForest}
 use Rattle.forest.proofs.ClimbLists.{Each, each-map, each-append, Fresh, fresh-short}
 use Rattle.forest.proofs.ClimbWays.{Climb, Rises, Falls, upSteps, downSteps, up-rises, down-falls, rises-cost, falls-cost, climb-fresh}
 use Rattle.forest.proofs.ClimbPath.{Known, rises-known, falls-known, rises-top}
 use Rattle.forest.proofs.ClimbStore.{turnedSteps}
-use Rattle.forest.proofs.ClimbTable.{scratch, Scratched, depth-kept, columns-kept, Leaves, climb-leaves}
+use Rattle.forest.proofs.ClimbTable.{Scratched, depth-kept, columns-kept, Leaves, climb-leaves}
 
 -- The two sides of a climb as they stand in the table, before they are joined.
 pub record Sides (t : List ℕ) (limits : Limits) (n : ℕ) (a b v : ℕ) (c : Climbed) : Type 0 where
@@ -34,7 +36,7 @@ pub record Sides (t : List ℕ) (limits : Limits) (n : ℕ) (a b v : ℕ) (c : C
 
 module _ (t : List ℕ) (limits : Limits) (n m : ℕ) (g : Network) (w : BlockForest t limits n m g)
     (fits : n ≤ limits .vertices) (edges-fit : m ≤ limits .edges) (small : limits .vertices < 65536)
-    (long : HasColumns t (vertexArea limits) 24) (a b : ℕ) (a-known : a < n) (b-known : b < n) where
+    (long : HasColumns t (vertexArea limits) Column.perVertex) (a b : ℕ) (a-known : a < n) (b-known : b < n) where
   -- a climb has fewer steps than there are vertices
   climb-short : {v : ℕ} (c : Climb t limits n a b v) → length (upSteps t limits n c) + length (downSteps t limits n c) < n
   climb-short {v} c =
@@ -58,7 +60,7 @@ module _ (t : List ℕ) (limits : Limits) (n m : ℕ) (g : Network) (w : BlockFo
   climb-sides {v} c =
       record {
         frame = first then l .frame;
-        start = l .start ∙ cell-put-same t (vertexArea limits) 24 10 0 a long (omega arith) (omega arith);
+        start = l .start ∙ cell-put-same t (vertexArea limits) Column.perVertex Column.pathVertex 0 a long (omega arith) (omega arith);
         at-top = l .at-top;
         top-known = rises-top t limits n m g w a (upSteps t limits n c) v a-known (up-rises t limits n c);
         few = omega (arith, l .left-count, l .right-count, climb-short c);
@@ -68,7 +70,7 @@ module _ (t : List ℕ) (limits : Limits) (n m : ℕ) (g : Network) (w : BlockFo
       }
     where
       t₁ : List ℕ
-      t₁ = put t (vertexArea limits) 10 0 a
+      t₁ = put t (vertexArea limits) Column.pathVertex 0 a
 
       r₀ : Trail
       r₀ = record { a = record { 0 = a }; b = record { 0 = b }; left = 0; right = 0 }
@@ -80,7 +82,7 @@ module _ (t : List ℕ) (limits : Limits) (n m : ℕ) (g : Network) (w : BlockFo
       downs = downSteps t limits n c
 
       first : Scratched limits t t₁
-      first = frame-vertex limits scratch [] t 10 0 a (omega arith) (omega arith) refl
+      first = frame-vertex limits scratch [] t Column.pathVertex 0 a (omega arith) (omega arith) refl
 
       enough : length ups + length downs ≤ reach t₁ limits a b
       enough =

@@ -9,6 +9,7 @@ use Rattle.graph.specs.Below.{tabulate}
 use Rattle.graph.specs.Cycle.{Step}
 use Rattle.naming.proofs.Listed.{tabulate-same}
 use Rattle.numbers.specs.declared.Limits.{Limits}
+use Rattle.table.specs.Inside.Column
 use Rattle.table.specs.Inside.Layout.{cell, put, vertexArea}
 use Rattle.table.proofs.Cells.{HasColumns, length-put, cell-put-same, cell-put-other-column, cell-put-other-item}
 use Rattle.forest.specs.Inside.Climb.{pathVertex, pathEdge, rightVertex, rightEdge}
@@ -43,11 +44,11 @@ turned-same t t′ limits (suc k) f h =
 
 -- A step stored behind the first `at` steps of the path.
 abbrev pub leftStore : List ℕ → Limits → ℕ → ℕ → ℕ → List ℕ
-leftStore t limits at e v = put (put t (vertexArea limits) 11 at e) (vertexArea limits) 10 (at + 1) v
+leftStore t limits at e v = put (put t (vertexArea limits) Column.pathEdge at e) (vertexArea limits) Column.pathVertex (at + 1) v
 
 -- A step stored behind the first `at` steps of the right side.
 abbrev pub rightStore : List ℕ → Limits → ℕ → ℕ → ℕ → List ℕ
-rightStore t limits at e y = put (put t (vertexArea limits) 13 at e) (vertexArea limits) 12 at y
+rightStore t limits at e y = put (put t (vertexArea limits) Column.rightEdge at e) (vertexArea limits) Column.rightVertex at y
 
 -- two stores, one column apart, read in a third column
 other-columns : (t : List ℕ) (limits : Limits) (c x e d y v k i : ℕ) → x < limits .vertices → y < limits .vertices → i < limits .vertices
@@ -58,12 +59,12 @@ other-columns t limits c x e d y v k i h l j p q =
     ∙ cell-put-other-column t (vertexArea limits) c x e k i h j p
 
 -- two stores in different columns, read in the first, at the item stored and at another
-first-column : (t : List ℕ) (limits : Limits) (c x e d y v : ℕ) → HasColumns t (vertexArea limits) 24 → c < 24
+first-column : (t : List ℕ) (limits : Limits) (c x e d y v : ℕ) → HasColumns t (vertexArea limits) Column.perVertex → c < Column.perVertex
     → x < limits .vertices → y < limits .vertices → d ≢ c
     → cell (put (put t (vertexArea limits) c x e) (vertexArea limits) d y v) (vertexArea limits) c x ≡ e
 first-column t limits c x e d y v long k h l q =
     cell-put-other-column (put t (vertexArea limits) c x e) (vertexArea limits) d y v c x l h q
-    ∙ cell-put-same t (vertexArea limits) 24 c x e long k h
+    ∙ cell-put-same t (vertexArea limits) Column.perVertex c x e long k h
 
 first-column-other : (t : List ℕ) (limits : Limits) (c x e d y v i : ℕ) → y < limits .vertices → i < limits .vertices → d ≢ c → x ≢ i
     → cell (put (put t (vertexArea limits) c x e) (vertexArea limits) d y v) (vertexArea limits) c i ≡ cell t (vertexArea limits) c i
@@ -72,10 +73,10 @@ first-column-other t limits c x e d y v i l j q z =
     ∙ cell-put-other-item t (vertexArea limits) c x e i z
 
 -- and in the second
-second-column : (t : List ℕ) (limits : Limits) (c x e d y v : ℕ) → HasColumns t (vertexArea limits) 24 → d < 24 → y < limits .vertices
+second-column : (t : List ℕ) (limits : Limits) (c x e d y v : ℕ) → HasColumns t (vertexArea limits) Column.perVertex → d < Column.perVertex → y < limits .vertices
     → cell (put (put t (vertexArea limits) c x e) (vertexArea limits) d y v) (vertexArea limits) d y ≡ v
 second-column t limits c x e d y v long k l =
-    cell-put-same (put t (vertexArea limits) c x e) (vertexArea limits) 24 d y v (rw (length-put t (vertexArea limits) c x e) long) k l
+    cell-put-same (put t (vertexArea limits) c x e) (vertexArea limits) Column.perVertex d y v (rw (length-put t (vertexArea limits) c x e) long) k l
 
 second-column-other : (t : List ℕ) (limits : Limits) (c x e d y v i : ℕ) → x < limits .vertices → i < limits .vertices → c ≢ d → y ≢ i
     → cell (put (put t (vertexArea limits) c x e) (vertexArea limits) d y v) (vertexArea limits) d i ≡ cell t (vertexArea limits) d i
@@ -83,7 +84,7 @@ second-column-other t limits c x e d y v i h j p z =
     cell-put-other-item (put t (vertexArea limits) c x e) (vertexArea limits) d y v i z
     ∙ cell-put-other-column t (vertexArea limits) c x e d i h j p
 
-module _ (t : List ℕ) (limits : Limits) (at e v : ℕ) (long : HasColumns t (vertexArea limits) 24) where
+module _ (t : List ℕ) (limits : Limits) (at e v : ℕ) (long : HasColumns t (vertexArea limits) Column.perVertex) where
   -- the path has one step more
   pub left-store-steps : at + 1 < limits .vertices
       → stepsOf (leftStore t limits at e v) limits (at + 1) ≡ stepsOf t limits at ++ record { along = e; to = v } ∷ []
@@ -99,27 +100,27 @@ module _ (t : List ℕ) (limits : Limits) (at e v : ℕ) (long : HasColumns t (v
       before : stepsOf t′ limits at ≡ stepsOf t limits at
       before =
           steps-same t t′ limits at
-          (λ i l. first-column-other t limits 11 at e 10 (at + 1) v i h (omega arith) (λ z. omega arith) (λ z. omega arith))
-          (λ i l. second-column-other t limits 11 at e 10 (at + 1) v (suc i) (omega arith) (omega arith) (λ z. omega arith) (λ z. omega arith))
+          (λ i l. first-column-other t limits Column.pathEdge at e Column.pathVertex (at + 1) v i h (omega arith) (λ z. omega arith) (λ z. omega arith))
+          (λ i l. second-column-other t limits Column.pathEdge at e Column.pathVertex (at + 1) v (suc i) (omega arith) (omega arith) (λ z. omega arith) (λ z. omega arith))
 
       edge : pathEdge t′ limits at ≡ e
-      edge = first-column t limits 11 at e 10 (at + 1) v long (omega arith) (omega arith) h (λ z. omega arith)
+      edge = first-column t limits Column.pathEdge at e Column.pathVertex (at + 1) v long (omega arith) (omega arith) h (λ z. omega arith)
 
       vertex : pathVertex t′ limits (suc at) ≡ v
-      vertex = ap (pathVertex t′ limits) (sym (add-one at)) ∙ second-column t limits 11 at e 10 (at + 1) v long (omega arith) h
+      vertex = ap (pathVertex t′ limits) (sym (add-one at)) ∙ second-column t limits Column.pathEdge at e Column.pathVertex (at + 1) v long (omega arith) h
 
   -- its first vertex stays
   pub left-store-start : at + 1 < limits .vertices → pathVertex (leftStore t limits at e v) limits 0 ≡ pathVertex t limits 0
   left-store-start h =
-      second-column-other t limits 11 at e 10 (at + 1) v 0 (omega arith) (omega arith) (λ z. omega arith) (λ z. omega arith)
+      second-column-other t limits Column.pathEdge at e Column.pathVertex (at + 1) v 0 (omega arith) (omega arith) (λ z. omega arith) (λ z. omega arith)
 
   -- the right side stays
   pub left-store-turned : (k : ℕ) → at + 1 < limits .vertices → k ≤ limits .vertices
       → turnedSteps (leftStore t limits at e v) limits k ≡ turnedSteps t limits k
   left-store-turned k h l =
       turned-same t (leftStore t limits at e v) limits k
-      (λ i j. other-columns t limits 11 at e 10 (at + 1) v 13 i (omega arith) h (omega arith) (λ z. omega arith) (λ z. omega arith))
-      (λ i j. other-columns t limits 11 at e 10 (at + 1) v 12 i (omega arith) h (omega arith) (λ z. omega arith) (λ z. omega arith))
+      (λ i j. other-columns t limits Column.pathEdge at e Column.pathVertex (at + 1) v Column.rightEdge i (omega arith) h (omega arith) (λ z. omega arith) (λ z. omega arith))
+      (λ i j. other-columns t limits Column.pathEdge at e Column.pathVertex (at + 1) v Column.rightVertex i (omega arith) h (omega arith) (λ z. omega arith) (λ z. omega arith))
 
   -- the right side has one step more
   pub right-store-turned : at < limits .vertices
@@ -133,22 +134,22 @@ module _ (t : List ℕ) (limits : Limits) (at e v : ℕ) (long : HasColumns t (v
       before : turnedSteps t′ limits at ≡ turnedSteps t limits at
       before =
           turned-same t t′ limits at
-          (λ i l. first-column-other t limits 13 at e 12 at v i h (omega arith) (λ z. omega arith) (λ z. omega arith))
-          (λ i l. second-column-other t limits 13 at e 12 at v i h (omega arith) (λ z. omega arith) (λ z. omega arith))
+          (λ i l. first-column-other t limits Column.rightEdge at e Column.rightVertex at v i h (omega arith) (λ z. omega arith) (λ z. omega arith))
+          (λ i l. second-column-other t limits Column.rightEdge at e Column.rightVertex at v i h (omega arith) (λ z. omega arith) (λ z. omega arith))
 
       edge : rightEdge t′ limits at ≡ e
-      edge = first-column t limits 13 at e 12 at v long (omega arith) h h (λ z. omega arith)
+      edge = first-column t limits Column.rightEdge at e Column.rightVertex at v long (omega arith) h h (λ z. omega arith)
 
       vertex : rightVertex t′ limits at ≡ v
-      vertex = second-column t limits 13 at e 12 at v long (omega arith) h
+      vertex = second-column t limits Column.rightEdge at e Column.rightVertex at v long (omega arith) h
 
   -- the path stays
   pub right-store-steps : (k : ℕ) → at < limits .vertices → k < limits .vertices → stepsOf (rightStore t limits at e v) limits k ≡ stepsOf t limits k
   right-store-steps k h l =
       steps-same t (rightStore t limits at e v) limits k
-      (λ i j. other-columns t limits 13 at e 12 at v 11 i h h (omega arith) (λ z. omega arith) (λ z. omega arith))
-      (λ i j. other-columns t limits 13 at e 12 at v 10 (suc i) h h (omega arith) (λ z. omega arith) (λ z. omega arith))
+      (λ i j. other-columns t limits Column.rightEdge at e Column.rightVertex at v Column.pathEdge i h h (omega arith) (λ z. omega arith) (λ z. omega arith))
+      (λ i j. other-columns t limits Column.rightEdge at e Column.rightVertex at v Column.pathVertex (suc i) h h (omega arith) (λ z. omega arith) (λ z. omega arith))
 
   -- and its first vertex
   pub right-store-start : at < limits .vertices → pathVertex (rightStore t limits at e v) limits 0 ≡ pathVertex t limits 0
-  right-store-start h = other-columns t limits 13 at e 12 at v 10 0 h h (omega arith) (λ z. omega arith) (λ z. omega arith)
+  right-store-start h = other-columns t limits Column.rightEdge at e Column.rightVertex at v Column.pathVertex 0 h h (omega arith) (λ z. omega arith) (λ z. omega arith)

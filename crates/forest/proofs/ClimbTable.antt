@@ -12,12 +12,14 @@ use Rattle.graph.specs.Network.{Network}
 use Rattle.graph.specs.Cycle.{Step}
 use Rattle.graph.proofs.Truth.{ne-eqb, lt-ltb, ge-ltb}
 use Rattle.numbers.specs.declared.Limits.{Limits}
+use Rattle.table.specs.Inside.Column
 use Rattle.table.specs.Inside.Layout.{vertexArea}
 use Rattle.table.proofs.Cells.{HasColumns}
 use Rattle.table.proofs.KindNames.{name-known}
 use Rattle.forest.specs.declared.climb.Trail.{Trail}
 use Rattle.forest.specs.Inside.Climb.{upOf, depthOf, aboveEdge, pathVertex, rightDeeper, climbing, recordTable, recordTrail, Climbed, climbFrom}
 use Rattle.forest.specs.Inside.Route.{stepsOf}
+use Rattle.forest.proofs.Columns.{scratch}
 use Rattle.forest.proofs.Frames.{Frame, frame-none, frame-vertex, _then_, same-above}
 use Rattle.forest.proofs.Roots.{BlockForest}
 use Rattle.forest.proofs.ClimbWays.{Climb, met, left, right, Hung, upSteps, downSteps, hung-above, hung-edge}
@@ -25,38 +27,34 @@ use Rattle.forest.proofs.ClimbStore.{turnedSteps, leftStore, rightStore
 use Rattle.forest.proofs.ClimbStore.{right-store-turned, right-store-steps, right-store-start}
 use Rattle.forest.proofs.ClimbSteps.{climb-met}
 
--- The columns of the path and of the right side.
-abbrev pub scratch : List ℕ
-scratch = 10 ∷ 11 ∷ 12 ∷ 13 ∷ []
-
 -- The second table differs from the first at most in those columns.
 abbrev pub Scratched : Limits → List ℕ → List ℕ → Type 0
 Scratched limits t t′ = Frame limits scratch [] t t′
 
 -- ways up stay
 pub up-kept : (limits : Limits) (t t′ : List ℕ) → Scratched limits t t′ → (x : ℕ) → x < limits .vertices → upOf t′ limits x ≡ upOf t limits x
-up-kept limits t t′ f x h = f .vertex-word 8 x (omega arith) h refl
+up-kept limits t t′ f x h = f .vertex-word Column.up x (omega arith) h refl
 
 -- depths stay
 pub depth-kept : (limits : Limits) (t t′ : List ℕ) → Scratched limits t t′ → (x : ℕ) → x < limits .vertices
     → depthOf t′ limits x ≡ depthOf t limits x
-depth-kept limits t t′ f x h = f .vertex-word 9 x (omega arith) h refl
+depth-kept limits t t′ f x h = f .vertex-word Column.depth x (omega arith) h refl
 
 -- a table as long as one with all columns of the vertices has them too
-pub columns-kept : (limits : Limits) (t t′ : List ℕ) → Scratched limits t t′ → HasColumns t (vertexArea limits) 24
-    → HasColumns t′ (vertexArea limits) 24
+pub columns-kept : (limits : Limits) (t t′ : List ℕ) → Scratched limits t t′ → HasColumns t (vertexArea limits) Column.perVertex
+    → HasColumns t′ (vertexArea limits) Column.perVertex
 columns-kept limits t t′ f h = rw (f .same-length) h
 
 -- a step stored on the left
 pub left-scratched : (limits : Limits) (t : List ℕ) (at e v : ℕ) → at + 1 < limits .vertices → Scratched limits t (leftStore t limits at e v)
 left-scratched limits t at e v h =
-    frame-vertex limits scratch [] t 11 at e (omega arith) (omega arith) refl
-    then frame-vertex limits scratch [] _ 10 (at + 1) v (omega arith) h refl
+    frame-vertex limits scratch [] t Column.pathEdge at e (omega arith) (omega arith) refl
+    then frame-vertex limits scratch [] _ Column.pathVertex (at + 1) v (omega arith) h refl
 
 -- a step stored on the right
 pub right-scratched : (limits : Limits) (t : List ℕ) (at e y : ℕ) → at < limits .vertices → Scratched limits t (rightStore t limits at e y)
 right-scratched limits t at e y h =
-    frame-vertex limits scratch [] t 13 at e (omega arith) h refl then frame-vertex limits scratch [] _ 12 at y (omega arith) h refl
+    frame-vertex limits scratch [] t Column.rightEdge at e (omega arith) h refl then frame-vertex limits scratch [] _ Column.rightVertex at y (omega arith) h refl
 
 -- a step of the left side
 climb-left : (k : ℕ) (t : List ℕ) (limits : Limits) (r : Trail) (e v : ℕ) → r .a .0 ≢ r .b .0
@@ -98,7 +96,7 @@ leaves-none limits t r =
       downs-stored = refl;
     }
 
-module _ (limits : Limits) (t : List ℕ) (r : Trail) (ups downs : List Step) (v e u : ℕ) (c : Climbed) (long : HasColumns t (vertexArea limits) 24) where
+module _ (limits : Limits) (t : List ℕ) (r : Trail) (ups downs : List Step) (v e u : ℕ) (c : Climbed) (long : HasColumns t (vertexArea limits) Column.perVertex) where
   -- a step of the left side, and then the rest
   leaves-left : r .left + 1 < limits .vertices → r .right ≤ limits .vertices
       → Leaves limits (leftStore t limits (r .left) e u) (record { a = record { 0 = u }; b = r .b; left = r .left + 1; right = r .right }) ups downs v c
@@ -150,7 +148,7 @@ module _ (t₀ : List ℕ) (limits : Limits) (n m : ℕ) (g : Network) (w : Bloc
       → length (upSteps t₀ limits n c) + length (downSteps t₀ limits n c) ≤ k
       → r .left + length (upSteps t₀ limits n c) < limits .vertices
       → r .right + length (downSteps t₀ limits n c) ≤ limits .vertices
-      → HasColumns t (vertexArea limits) 24
+      → HasColumns t (vertexArea limits) Column.perVertex
       → Leaves limits t r (upSteps t₀ limits n c) (downSteps t₀ limits n c) v (climbFrom k t limits r)
   unfolding upSteps downSteps
   climb-leaves met k t r f a b h l enough lroom rroom long =

@@ -5,17 +5,19 @@ use mathlib.Core.Path.{_≡_, refl, sym, _∙_, ap}
 use Prim.Native.Nat.{ℕ, suc}
 use native.Mathlib.Nat.{le-refl}
 use native.Mathlib.Omega.{arith}
-use Rattle.graph.specs.Network.{Network, edgeCount}
+use Rattle.graph.specs.Network.{Network, edgeCount, edgeBetween}
 use Rattle.graph.specs.Groups.{component, bridgeBlock}
 use Rattle.graph.specs.Block.{block}
 use Rattle.graph.proofs.EdgeMore.{component-edge-within}
 use Rattle.naming.specs.Rename.{rename}
 use Rattle.naming.specs.Book.{enterEdge}
+use Rattle.table.specs.Inside.Column
 use Rattle.table.specs.Inside.Layout.{vertexArea, bridgeBlockArea, edgeArea}
 use Rattle.table.specs.Inside.KindValid.{namesIn, KindValid}
 use Rattle.table.proofs.Cells.{cell-bridge-block}
 use Rattle.forest.specs.Inside.Tree.{Grown, condenseGrown}
 use Rattle.forest.specs.Inside.Valid.{networkOf, bookOf, ForestValid}
+use Rattle.forest.proofs.Columns.{bridgeBlockColumns, blockColumns, scratch}
 use Rattle.forest.proofs.KindWords.{SameWords, names-same, kind-same, kind-agree}
 use Rattle.forest.proofs.Networks.{edge-count, book-is}
 use Rattle.forest.proofs.NamesStay.{rename-stays}
@@ -41,7 +43,7 @@ module _ (new : EdgeToAdd) (within : Within new) where
   abbrev t′ : List ℕ
   t′ = grown .table
 
-  all : Frame limits (4 ∷ 5 ∷ 6 ∷ 7 ∷ 10 ∷ 11 ∷ 12 ∷ 13 ∷ []) (0 ∷ 1 ∷ 2 ∷ 3 ∷ 4 ∷ 5 ∷ []) t t′
+  all : Frame limits (bridgeBlockColumns ++ scratch) (blockColumns ++ Column.ends ∷ Column.top ∷ []) t t′
   unfolding condenseGrown
   all = whole new within
 
@@ -52,13 +54,15 @@ module _ (new : EdgeToAdd) (within : Within new) where
 
   -- components
   component-words : SameWords t t′ (vertexArea limits) n
-  component-words = same-components all n (valid .vertices-fit) refl refl refl
+  component-words = same-components all n (valid .vertices-fit) refl
 
   components : KindValid t′ (vertexArea limits) n (component g′)
+  unfolding edgeBetween
   components =
       kind-agree (λ x y h k. sym (component-edge-within g (edgeOf new) within x y)) (kind-same component-words (valid .components))
 
   component-names : namesIn t′ (vertexArea limits) n ≡ rename (component g) (component g′) (namesIn t (vertexArea limits) n)
+  unfolding edgeBetween
   component-names =
       names-same t t′ (vertexArea limits) n component-words
       ∙ sym (rename-stays (component g) (component g′) (namesIn t (vertexArea limits) n)
@@ -69,14 +73,14 @@ module _ (new : EdgeToAdd) (within : Within new) where
   unfolding condenseGrown
   bridge-blocks =
       kind-same
-      (same-bridge-blocks (behind-bridge-blocks new within) n (valid .vertices-fit) refl refl refl)
+      (same-bridge-blocks (behind-bridge-blocks new within) n (valid .vertices-fit) refl)
       (bridge-blocks-law new within .valid)
 
   bridge-block-names : namesIn t′ (bridgeBlockArea limits) n ≡ rename (bridgeBlock g) (bridgeBlock g′) (namesIn t (bridgeBlockArea limits) n)
   unfolding condenseGrown
   bridge-block-names =
       names-same _ t′ (bridgeBlockArea limits) n
-      (same-bridge-blocks (behind-bridge-blocks new within) n (valid .vertices-fit) refl refl refl)
+      (same-bridge-blocks (behind-bridge-blocks new within) n (valid .vertices-fit) refl)
       ∙ bridge-blocks-law new within .names
       ∙ ap (rename (bridgeBlock g) (bridgeBlock g′))
       (names-same t _ (bridgeBlockArea limits) n (bridge-block-words new within))
@@ -85,20 +89,20 @@ module _ (new : EdgeToAdd) (within : Within new) where
   unfolding condenseGrown
   bridge-blocks-changed =
       changes-around (bridgeBlockArea limits) n n (grown .bridgeBlocks) t _ _ t′ (le-refl n) (bridge-blocks-law new within .changed)
-      (λ x h. bridge-block-words new within 0 x (omega arith) h)
-      (λ x h. same-bridge-blocks (behind-bridge-blocks new within) n (valid .vertices-fit) refl refl refl 0 x (omega arith) h)
-      (λ i h. cell-bridge-block limits t′ 3 i
-      ∙ behind-bridge-blocks new within .vertex-word 7 i (omega arith) (omega (arith, bridge-blocks-law new within .few, valid .vertices-fit)) refl
-      ∙ sym (cell-bridge-block limits _ 3 i))
+      (λ x h. bridge-block-words new within Column.name x refl h)
+      (λ x h. same-bridge-blocks (behind-bridge-blocks new within) n (valid .vertices-fit) refl Column.name x refl h)
+      (λ i h. cell-bridge-block limits t′ Column.changed i
+      ∙ behind-bridge-blocks new within .vertex-word (Column.ofBridgeBlocks Column.changed) i (omega arith) (omega (arith, bridge-blocks-law new within .few, valid .vertices-fit)) refl
+      ∙ sym (cell-bridge-block limits _ Column.changed i))
 
   -- blocks
   blocks-changed : ChangesListed (edgeArea limits) m (suc m) (grown .blocks) t t′
   unfolding condenseGrown
   blocks-changed =
       changes-around (edgeArea limits) m (suc m) (grown .blocks) t _ _ t′ (omega arith) (blocks-law new within .changed)
-      (λ s h. block-words new within 0 s (omega arith) h)
+      (λ s h. block-words new within Column.name s refl h)
       (old-name new within)
-      (λ i h. enter-step new within .edge-word 3 i (omega arith) (omega (arith, blocks-law new within .few, new .room)) refl)
+      (λ i h. enter-step new within .edge-word Column.changed i (omega arith) (omega (arith, blocks-law new within .few, new .room)) refl)
 
   block-names : namesIn t′ (edgeArea limits) (suc m) ≡ rename (block g) (block g′) (namesIn t (edgeArea limits) m ++ edgeCount g ∷ [])
   unfolding condenseGrown
@@ -121,7 +125,7 @@ module _ (new : EdgeToAdd) (within : Within new) where
       record {
         valid-after = valid-with-edge new network-more (all .same-length) components bridge-blocks blocks forest;
         book-after = book-is network-more component-names bridge-block-names block-names;
-        components = no-names-changed (vertexArea limits) n n t t′ (le-refl n) (λ x h. component-words 0 x (omega arith) h);
+        components = no-names-changed (vertexArea limits) n n t t′ (le-refl n) (λ x h. component-words Column.name x refl h);
         bridge-blocks = bridge-blocks-changed;
         blocks = blocks-changed;
         block-name = sym (new-name new within);

@@ -19,6 +19,7 @@ use Rattle.naming.proofs.Merge.{inMerged, Merges}
 use Rattle.table.specs.declared.words.Area.{Area}
 use Rattle.numbers.specs.declared.Limits.{Limits}
 use Rattle.table.specs.declared.merge.Listing.{Listing}
+use Rattle.table.specs.Inside.Column
 use Rattle.table.specs.Inside.Layout.{place, edgeArea}
 use Rattle.table.specs.Inside.Merge.{nameIn, itemOf, bestListed, mergeListed}
 use Rattle.table.specs.Inside.KindValid.{namesIn, KindValid}
@@ -71,7 +72,7 @@ module _ {new : EdgeToAdd} {t : List ℕ} {k : ℕ} (p : PathWritten new t k) (v
   abbrev t₄ : List ℕ
   t₄ = mergeListed t (edgeArea limits) (pathEdges limits k) .table
 
-  columns : HasColumns t (edgeArea limits) 8
+  columns : HasColumns t (edgeArea limits) Column.perEdge
   columns = omega (arith, p .as-long, new .valid .long)
 
   small : m < 65536
@@ -148,7 +149,7 @@ module _ {new : EdgeToAdd} {t : List ℕ} {k : ℕ} (p : PathWritten new t k) (v
     abbrev renamed : List ℕ
     renamed = rename (block g) (block g′) (namesIn t area m ++ m ∷ [])
 
-    has : HasColumns t₄ area 8
+    has : HasColumns t₄ area Column.perEdge
     has = rw (blocks-merged .kept .same-length) columns
 
     in-new : (x : ℕ) (c : Bool) → inMerged (block g) (m ∷ edgesOf t limits k) x ≡ c → inMerged (block g) (m ∷ itemOf t l 0 ∷ laterItems t l) x ≡ c

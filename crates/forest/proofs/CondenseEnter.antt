@@ -1,6 +1,6 @@
 -- The new edge put into a block: the words that change, and that the words of the kind stay valid with one item more.
 use mathlib.Core.Bool.{true, false}
-use mathlib.Core.List.{List, [], _∷_}
+use mathlib.Core.List.{List, [], _∷_, _++_}
 use mathlib.Core.Logic.{_⊎_, inl, inr}
 use mathlib.Core.Path.{_≡_, refl, sym, _∙_}
 use Prim.Native.Nat.{ℕ, suc, _+_, _*_, _/_, _%_, _^_, _≤_, _<_}
@@ -17,6 +17,7 @@ use Rattle.naming.proofs.Count.{count-last-in}
 use Rattle.naming.proofs.Equivalent.{Equivalent, group-swap, size-same, size-others, size-at-most}
 use Rattle.table.specs.declared.words.Area.{Area}
 use Rattle.numbers.specs.declared.Limits.{Limits}
+use Rattle.table.specs.Inside.Column
 use Rattle.table.specs.Inside.Layout.{put, edgeArea}
 use Rattle.table.specs.Inside.Merge.{nameIn, sizeIn, rangeIn, leastOf, greatestOf}
 use Rattle.table.specs.Inside.KindValid.{namesIn, KindValid}
@@ -24,6 +25,7 @@ use Rattle.table.proofs.Cells.{HasColumns, length-put, cell-put-same, cell-put-
 use Rattle.table.proofs.KindNames.{name-known}
 use Rattle.forest.specs.Inside.Climb.{topOf}
 use Rattle.forest.specs.Inside.Tree.{enterBlock}
+use Rattle.forest.proofs.Columns.{groupColumns}
 use Rattle.forest.proofs.Frames.{Frame, _then_, frame-edge}
 
 -- an item more in a group makes it larger by one
@@ -31,7 +33,7 @@ size-one-more : (n : ℕ) (groups : Grouping) (x : ℕ) → groups x n ≡ true 
 unfolding size
 size-one-more n groups x e = count-last-in n (groups x) e
 
-module _ (t : List ℕ) (limits : Limits) (m w v : ℕ) (has : HasColumns t (edgeArea limits) 8) (room : m < limits .edges) (known : w < m) where
+module _ (t : List ℕ) (limits : Limits) (m w v : ℕ) (has : HasColumns t (edgeArea limits) Column.perEdge) (room : m < limits .edges) (known : w < m) where
   abbrev area : Area
   area = edgeArea limits
 
@@ -46,15 +48,15 @@ module _ (t : List ℕ) (limits : Limits) (m w v : ℕ) (has : HasColumns t (edg
   wider = leastOf (rangeIn t (edgeArea limits) w) * 65536 + m % 65536
 
   t₁ : List ℕ
-  t₁ = put t area 0 m w
+  t₁ = put t area Column.name m w
 
   t₂ : List ℕ
-  t₂ = put t₁ area 1 w larger
+  t₂ = put t₁ area Column.size w larger
 
   t₃ : List ℕ
-  t₃ = put t₂ area 2 w wider
+  t₃ = put t₂ area Column.range w wider
 
-  entered : enterBlock t limits m w v ≡ put t₃ area 5 w v
+  entered : enterBlock t limits m w v ≡ put t₃ area Column.top w v
   unfolding enterBlock t₁ t₂ t₃
   entered = refl
 
@@ -64,86 +66,86 @@ module _ (t : List ℕ) (limits : Limits) (m w v : ℕ) (has : HasColumns t (edg
   same-length : (length t₁ ≡ length t) × (length t₂ ≡ length t) × (length t₃ ≡ length t)
   unfolding t₁ t₂ t₃
   same-length = (
-    length-put t area 0 m w,
-    length-put t₁ area 1 w larger ∙ length-put t area 0 m w,
-    length-put t₂ area 2 w wider ∙ length-put t₁ area 1 w larger ∙ length-put t area 0 m w,
+    length-put t area Column.name m w,
+    length-put t₁ area Column.size w larger ∙ length-put t area Column.name m w,
+    length-put t₂ area Column.range w wider ∙ length-put t₁ area Column.size w larger ∙ length-put t area Column.name m w,
   )
 
   -- the columns in which words change
-  pub frame-enter : Frame limits [] (0 ∷ 1 ∷ 2 ∷ 5 ∷ []) t (enterBlock t limits m w v)
+  pub frame-enter : Frame limits [] (groupColumns ++ Column.top ∷ []) t (enterBlock t limits m w v)
   unfolding t₁ t₂ t₃
   frame-enter =
       rw entered
-      (frame-edge limits [] _ t 0 m w (omega arith) room refl
-      then frame-edge limits [] _ t₁ 1 w larger (omega arith) wide refl
-      then frame-edge limits [] _ t₂ 2 w wider (omega arith) wide refl
-      then frame-edge limits [] _ t₃ 5 w v (omega arith) wide refl)
+      (frame-edge limits [] _ t Column.name m w (omega arith) room refl
+      then frame-edge limits [] _ t₁ Column.size w larger (omega arith) wide refl
+      then frame-edge limits [] _ t₂ Column.range w wider (omega arith) wide refl
+      then frame-edge limits [] _ t₃ Column.top w v (omega arith) wide refl)
 
   name-before : (x : ℕ) → x < limits .edges → nameIn t′ area x ≡ nameIn t₁ area x
   unfolding t₂ t₃
   name-before x h =
       rw entered
-      (cell-put-other-column t₃ area 5 w v 0 x wide h (λ e. omega arith)
-      ∙ cell-put-other-column t₂ area 2 w wider 0 x wide h (λ e. omega arith)
-      ∙ cell-put-other-column t₁ area 1 w larger 0 x wide h (λ e. omega arith))
+      (cell-put-other-column t₃ area Column.top w v Column.name x wide h (λ e. omega arith)
+      ∙ cell-put-other-column t₂ area Column.range w wider Column.name x wide h (λ e. omega arith)
+      ∙ cell-put-other-column t₁ area Column.size w larger Column.name x wide h (λ e. omega arith))
 
   -- the new edge has the block's name
   pub enter-name : nameIn (enterBlock t limits m w v) (edgeArea limits) m ≡ w
   unfolding t₁
-  enter-name = name-before m room ∙ cell-put-same t area 8 0 m w has (omega arith) room
+  enter-name = name-before m room ∙ cell-put-same t area Column.perEdge Column.name m w has (omega arith) room
 
   -- every other edge keeps its name
   pub enter-name-old : (x : ℕ) → x < m → nameIn (enterBlock t limits m w v) (edgeArea limits) x ≡ nameIn t (edgeArea limits) x
   unfolding t₁
-  enter-name-old x h = name-before x (omega arith) ∙ cell-put-other-item t area 0 m w x (λ e. omega arith)
+  enter-name-old x h = name-before x (omega arith) ∙ cell-put-other-item t area Column.name m w x (λ e. omega arith)
 
   size-before : (x : ℕ) → x < limits .edges → sizeIn t′ area x ≡ sizeIn t₂ area x
   unfolding t₃
   size-before x h =
       rw entered
-      (cell-put-other-column t₃ area 5 w v 1 x wide h (λ e. omega arith)
-      ∙ cell-put-other-column t₂ area 2 w wider 1 x wide h (λ e. omega arith))
+      (cell-put-other-column t₃ area Column.top w v Column.size x wide h (λ e. omega arith)
+      ∙ cell-put-other-column t₂ area Column.range w wider Column.size x wide h (λ e. omega arith))
 
   size-is : sizeIn t′ area w ≡ larger
   unfolding t₂
-  size-is = size-before w wide ∙ cell-put-same t₁ area 8 1 w larger (rw (same-length .0) has) (omega arith) wide
+  size-is = size-before w wide ∙ cell-put-same t₁ area Column.perEdge Column.size w larger (rw (same-length .0) has) (omega arith) wide
 
   size-old : (x : ℕ) → x < limits .edges → (w ≡ x → ⊥) → sizeIn t′ area x ≡ sizeIn t area x
   unfolding t₁ t₂
   size-old x h d =
       size-before x h
-      ∙ cell-put-other-item t₁ area 1 w larger x d
-      ∙ cell-put-other-column t area 0 m w 1 x room h (λ e. omega arith)
+      ∙ cell-put-other-item t₁ area Column.size w larger x d
+      ∙ cell-put-other-column t area Column.name m w Column.size x room h (λ e. omega arith)
 
   range-is : rangeIn t′ area w ≡ wider
   unfolding t₃
   range-is =
       rw entered
-      (cell-put-other-column t₃ area 5 w v 2 w wide wide (λ e. omega arith)
-      ∙ cell-put-same t₂ area 8 2 w wider (rw (same-length .1) has) (omega arith) wide)
+      (cell-put-other-column t₃ area Column.top w v Column.range w wide wide (λ e. omega arith)
+      ∙ cell-put-same t₂ area Column.perEdge Column.range w wider (rw (same-length .1) has) (omega arith) wide)
 
   range-old : (x : ℕ) → x < limits .edges → (w ≡ x → ⊥) → rangeIn t′ area x ≡ rangeIn t area x
   unfolding t₁ t₂ t₃
   range-old x h d =
       rw entered
-      (cell-put-other-column t₃ area 5 w v 2 x wide h (λ e. omega arith)
-      ∙ cell-put-other-item t₂ area 2 w wider x d
-      ∙ cell-put-other-column t₁ area 1 w larger 2 x wide h (λ e. omega arith)
-      ∙ cell-put-other-column t area 0 m w 2 x room h (λ e. omega arith))
+      (cell-put-other-column t₃ area Column.top w v Column.range x wide h (λ e. omega arith)
+      ∙ cell-put-other-item t₂ area Column.range w wider x d
+      ∙ cell-put-other-column t₁ area Column.size w larger Column.range x wide h (λ e. omega arith)
+      ∙ cell-put-other-column t area Column.name m w Column.range x room h (λ e. omega arith))
 
   -- the block hangs below the given vertex
   pub enter-top : topOf (enterBlock t limits m w v) limits w ≡ v
-  enter-top = rw entered (cell-put-same t₃ area 8 5 w v (rw (same-length .2) has) (omega arith) wide)
+  enter-top = rw entered (cell-put-same t₃ area Column.perEdge Column.top w v (rw (same-length .2) has) (omega arith) wide)
 
   -- every other block hangs where it hung
   pub enter-top-old : (x : ℕ) → x < limits .edges → (w ≡ x → ⊥) → topOf (enterBlock t limits m w v) limits x ≡ topOf t limits x
   unfolding t₁ t₂ t₃
   enter-top-old x h d =
       rw entered
-      (cell-put-other-item t₃ area 5 w v x d
-      ∙ cell-put-other-column t₂ area 2 w wider 5 x wide h (λ e. omega arith)
-      ∙ cell-put-other-column t₁ area 1 w larger 5 x wide h (λ e. omega arith)
-      ∙ cell-put-other-column t area 0 m w 5 x room h (λ e. omega arith))
+      (cell-put-other-item t₃ area Column.top w v x d
+      ∙ cell-put-other-column t₂ area Column.range w wider Column.top x wide h (λ e. omega arith)
+      ∙ cell-put-other-column t₁ area Column.size w larger Column.top x wide h (λ e. omega arith)
+      ∙ cell-put-other-column t area Column.name m w Column.top x room h (λ e. omega arith))
 
   module _ (small : m < 65536) (groups : Grouping) (e : Equivalent groups) (valid : KindValid t (edgeArea limits) m groups)
       (self : nameIn t (edgeArea limits) w ≡ w) (joins : (x : ℕ) → x < m → groups m x ≡ eqb (nameIn t (edgeArea limits) x) w)

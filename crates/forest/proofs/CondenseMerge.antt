@@ -17,8 +17,7 @@ use Rattle.table.specs.declared.words.Area.{Area}
 use Rattle.table.specs.declared.merge.Listing.{Listing}
 use Rattle.table.specs.Inside.Merge.{itemOf, itemsFrom, bestListed, mergeListed}
 use Rattle.table.specs.Inside.KindValid.{KindValid}
-use Rattle.table.proofs.Cells.{HasColumns}
-use Rattle.table.proofs.MergeKept.{ListedOutside}
+use Rattle.table.proofs.MergeKept.{HasKind, ListedOutside}
 use Rattle.table.proofs.MergeLaw.{MergedTo, merge-law, naming-merged}
 use Rattle.forest.proofs.Values.{items-tabulate}
 
@@ -39,7 +38,7 @@ items-first t l h =
 pub items-are : (t : List ℕ) (l : Listing) → 0 < l .count → itemsFrom t l 0 (l .count) ≡ itemOf t l 0 ∷ laterItems t l
 items-are t l h = items-tabulate t l (l .count) ∙ items-first t l h
 
-module _ (t : List ℕ) (area : Area) (n : ℕ) (columns : HasColumns t area 4) (fits : n ≤ area .size) (small : n < 65536)
+module _ (t : List ℕ) (area : Area) (n : ℕ) (has : HasKind t area) (fits : n ≤ area .size) (small : n < 65536)
     (before after : Grouping) (e : Equivalent before) (e′ : Equivalent after) (valid : KindValid t area n before)
     (l : Listing) (outside : ListedOutside area l) (some : 0 < l .count)
     (below : (z : ℕ) → List·Memᴰ z (listedItems t l) → z < n) (merges : Merges n before after (listedItems t l)) where
@@ -49,7 +48,7 @@ module _ (t : List ℕ) (area : Area) (n : ℕ) (columns : HasColumns t area 4) 
       subst
       (λ (is : List ℕ). MergedTo t area n before after is (bestListed t area l) (mergeListed t area l .table) (mergeListed t area l .count))
       (sym (items-first t l some))
-      (merge-law t area n columns fits small before after e e′ valid l outside (itemOf t l 0) (laterItems t l) (items-are t l some)
+      (merge-law t area n has fits small before after e e′ valid l outside (itemOf t l 0) (laterItems t l) (items-are t l some)
       (λ z m. below z (rw (items-first t l some) m)) (rw (items-first t l some) at merges))
 
 -- A new item, the next, was alone in its group and joins the merged groups.

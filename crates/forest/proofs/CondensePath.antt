@@ -1,29 +1,29 @@
 -- The path that is written down: which groups one edge more between its ends makes one.
 use mathlib.Core.Bool.{Bool, false, _&&_, _||_}
 use mathlib.Core.List.{List, _∷_, map}
-use mathlib.Core.Path.{_≡_, refl, sym, _∙_, ap, ap₂, subst}
+use mathlib.Core.Path.{_≡_, sym, _∙_, ap, ap₂, subst}
 use Prim.Native.Nat.{ℕ, suc, _≤_, _<_}
 use native.Mathlib.Omega.{arith}
 use lib.Dec.{eqb}
 use lib.ListN.{length}
 use Rattle.graph.specs.Below.{tabulate}
-use Rattle.graph.specs.Network.{Network}
+use Rattle.graph.specs.Network.{Network, edgeBetween}
 use Rattle.graph.specs.Groups.{bridgeBlock}
 use Rattle.graph.specs.Cycle.{Step}
 use Rattle.graph.specs.Block.{block}
 use Rattle.graph.specs.BlockPath.{BlockPath}
 use Rattle.graph.proofs.Truth.{eqb-swap}
 use Rattle.graph.proofs.EdgeMoreBlocks.{onPath, joinsPath, block-edge-within}
-use Rattle.graph.proofs.EdgeMoreBridgeBlocks.{onBridgeBlocks}
-use Rattle.graph.proofs.BaseRule.{bridge-block-edge-within-never}
+use Rattle.graph.proofs.EdgeMoreBridgeBlocks.{onBridgeBlocks, bridge-block-edge-within}
 use Rattle.naming.proofs.Listed.{tabulate-first, map-tabulate}
 use Rattle.naming.proofs.Merge.{inMerged}
 use Rattle.numbers.specs.declared.Limits.{Limits}
+use Rattle.table.specs.Inside.Column
 use Rattle.forest.specs.Inside.Climb.{pathVertex, pathEdge}
 use Rattle.forest.specs.Inside.Route.{stepAt, stepsOf}
-use Rattle.forest.specs.Inside.Valid.{networkOf}
-use Rattle.forest.proofs.Networks.{edge-count}
-use Rattle.forest.proofs.Frames.{among, Frame}
+use Rattle.forest.proofs.Columns.{among}
+use Rattle.forest.proofs.Networks.{edge-count, network-rule, new-edge-no-mate}
+use Rattle.forest.proofs.Frames.{Frame}
 use Rattle.forest.proofs.EdgeToAdd.{EdgeToAdd, edgeOf, before, after, proper-after, number-alone, number-apart}
 use Rattle.forest.proofs.Values.{in-merged-steps}
 use Rattle.forest.proofs.ClimbStore.{steps-same}
@@ -49,7 +49,7 @@ pub record PathWritten (new : EdgeToAdd) (t : List ℕ) (k : ℕ) : Type 0 where
 
 -- it stays written where its columns stay
 pub path-kept : {new : EdgeToAdd} {vs es t t′ : List ℕ} {k : ℕ} → PathWritten new t k → Frame (new .limits) vs es t t′
-    → among vs 10 ≡ false → among vs 11 ≡ false → PathWritten new t′ k
+    → among vs Column.pathVertex ≡ false → among vs Column.pathEdge ≡ false → PathWritten new t′ k
 path-kept {new} {vs} {es} {t} {t′} {k} w f p q =
     record {
       as-long = f .same-length ∙ w .as-long;
@@ -65,10 +65,10 @@ path-kept {new} {vs} {es} {t} {t′} {k} w f p q =
     room = omega (arith, w .few, new .valid .vertices-fit)
 
     vertex : (i : ℕ) → i ≤ k → pathVertex t′ (new .limits) i ≡ pathVertex t (new .limits) i
-    vertex i h = f .vertex-word 10 i (omega arith) (omega (arith, room)) p
+    vertex i h = f .vertex-word Column.pathVertex i (omega arith) (omega (arith, room)) p
 
     edge : (i : ℕ) → i < k → pathEdge t′ (new .limits) i ≡ pathEdge t (new .limits) i
-    edge i h = f .vertex-word 11 i (omega arith) (omega (arith, room)) q
+    edge i h = f .vertex-word Column.pathEdge i (omega arith) (omega (arith, room)) q
 
 module _ {new : EdgeToAdd} {t : List ℕ} {k : ℕ} (w : PathWritten new t k) where
   open EdgeToAdd new using (limits, n, m, valid, a, b)
@@ -105,9 +105,9 @@ module _ {new : EdgeToAdd} {t : List ℕ} {k : ℕ} (w : PathWritten new t k) wh
       → bridgeBlock (after new) x y
       ≡ (bridgeBlock (before new) x y
       || (inMerged (bridgeBlock (before new)) (verticesOf t limits (suc k)) x && inMerged (bridgeBlock (before new)) (verticesOf t limits (suc k)) y))
-  unfolding networkOf
+  unfolding edgeBetween
   bridge-blocks-merge x y =
-      bridge-block-edge-within-never g (edgeOf new) (valid .proper) refl (w .path) x y
+      bridge-block-edge-within g (edgeOf new) (valid .proper) (network-rule limits n m (new .t)) (new-edge-no-mate limits n m (new .t) (edgeOf new)) (w .path) x y
       ∙ ap₂ (λ c d. bridgeBlock g x y || (c && d)) (on-bridge-blocks-merged x) (on-bridge-blocks-merged y)
 
   joins-merged : (s : ℕ) → joinsPath g steps s ≡ inMerged (block g) (m ∷ edgesOf t limits k) s
@@ -120,6 +120,7 @@ module _ {new : EdgeToAdd} {t : List ℕ} {k : ℕ} (w : PathWritten new t k) wh
       → block (after new) s u
       ≡ (block (before new) s u
       || (inMerged (block (before new)) (m ∷ edgesOf t limits k) s && inMerged (block (before new)) (m ∷ edgesOf t limits k) u))
+  unfolding edgeBetween
   blocks-merge s u =
       block-edge-within g (edgeOf new) (valid .proper) (proper-after new) (w .path) s u
       ∙ ap₂ (λ c d. block g s u || (c && d)) (joins-merged s) (joins-merged u)

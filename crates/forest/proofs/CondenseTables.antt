@@ -11,6 +11,7 @@ use Rattle.graph.proofs.Truth.{not-both}
 use Rattle.naming.specs.Rename.{rename}
 use Rattle.naming.proofs.Listed.{tabulate-same}
 use Rattle.naming.proofs.Merge.{inMerged}
+use Rattle.table.specs.Inside.Column
 use Rattle.table.specs.Inside.Layout.{bridgeBlockArea, edgeArea}
 use Rattle.table.specs.Inside.Merge.{Renamed, nameIn, bestListed, mergeListed}
 use Rattle.table.specs.Inside.KindValid.{namesIn, KindValid}
@@ -21,9 +22,10 @@ use Rattle.forest.specs.declared.climb.Route.{Route}
 use Rattle.forest.specs.Inside.Climb.{topOf, aboveEdge, climbTable, climbRoute}
 use Rattle.forest.specs.Inside.Tree.{pathVertices, pathEdges, enterBlock}
 use Rattle.forest.specs.Inside.Valid.{networkOf, ForestValid, Valid}
+use Rattle.forest.proofs.Columns.{groupColumns, bridgeBlockColumns, blockColumns, scratch}
 use Rattle.forest.proofs.KindWords.{SameWords, names-same, kind-same}
 use Rattle.forest.proofs.Networks.{network-same, block-groups}
-use Rattle.forest.proofs.Frames.{among, Frame, _then_, same-bridge-blocks, same-blocks, frame-more}
+use Rattle.forest.proofs.Frames.{Frame, _then_, same-bridge-blocks, same-blocks, frame-more}
 use Rattle.forest.proofs.EdgeToAdd.{EdgeToAdd, before, after, Within, endsStored, ends-frame, ends-old}
 use Rattle.forest.proofs.ClimbLaw.{Climbs, climb-law}
 use Rattle.forest.proofs.ValidFrame.{valid-kept}
@@ -90,7 +92,7 @@ module _ (new : EdgeToAdd) (within : Within new) where
       (climb-law limits n m t₁ valid₁ a b a-known b-known (rw same-network within))
 
   -- up to the path no name changes
-  to-path : Frame limits (10 ∷ 11 ∷ 12 ∷ 13 ∷ []) (4 ∷ []) t t₂
+  to-path : Frame limits scratch (Column.ends ∷ []) t t₂
   to-path = ends-frame new _ _ refl then frame-more (climbs .frame) refl refl
 
   written₂ : PathWritten new t₂ k
@@ -107,25 +109,25 @@ module _ (new : EdgeToAdd) (within : Within new) where
 
   -- no word of a bridge-block changes before the bridge-blocks are merged
   pub bridge-block-words : SameWords t t₂ (bridgeBlockArea limits) n
-  bridge-block-words = same-bridge-blocks to-path n (valid .vertices-fit) refl refl refl
+  bridge-block-words = same-bridge-blocks to-path n (valid .vertices-fit) refl
 
   -- the bridge-blocks of the path's vertices merged
   pub bridge-blocks-law : MergedTo t₂ (bridgeBlockArea limits) n (bridgeBlock g) (bridgeBlock g′) (verticesOf t₂ limits (suc k))
       (bestListed t₂ (bridgeBlockArea limits) (pathVertices limits (k + 1))) t₃ (renamed-vertices .count)
   bridge-blocks-law = bridge-blocks-merged written₂ (kind-same bridge-block-words (valid .bridge-blocks))
 
-  bridge-blocks-step : Frame limits (4 ∷ 5 ∷ 6 ∷ 7 ∷ []) [] t₂ t₃
+  bridge-blocks-step : Frame limits bridgeBlockColumns [] t₂ t₃
   bridge-blocks-step = frame-merge-bridge-blocks limits (bridge-blocks-law .kept)
 
-  ends-to-bridge-blocks : Frame limits (4 ∷ 5 ∷ 6 ∷ 7 ∷ 10 ∷ 11 ∷ 12 ∷ 13 ∷ []) [] t₁ t₃
+  ends-to-bridge-blocks : Frame limits (bridgeBlockColumns ++ scratch) [] t₁ t₃
   ends-to-bridge-blocks = frame-more (climbs .frame) refl refl then frame-more bridge-blocks-step refl refl
 
-  to-bridge-blocks : Frame limits (4 ∷ 5 ∷ 6 ∷ 7 ∷ 10 ∷ 11 ∷ 12 ∷ 13 ∷ []) (4 ∷ []) t t₃
+  to-bridge-blocks : Frame limits (bridgeBlockColumns ++ scratch) (Column.ends ∷ []) t t₃
   to-bridge-blocks = ends-frame new _ _ refl then frame-more ends-to-bridge-blocks refl refl
 
   -- no word of a block changes before the blocks are merged
   pub block-words : SameWords t t₃ (edgeArea limits) m
-  block-words = same-blocks to-bridge-blocks m (valid .edges-fit) refl refl refl
+  block-words = same-blocks to-bridge-blocks m (valid .edges-fit) refl
 
   valid₃ : KindValid t₃ (edgeArea limits) m (block g)
   valid₃ = kind-same block-words (valid .blocks)
@@ -133,21 +135,21 @@ module _ (new : EdgeToAdd) (within : Within new) where
   written₃ : PathWritten new t₃ k
   written₃ = path-kept written₂ bridge-blocks-step refl refl
 
-  columns₃ : HasColumns t₃ (edgeArea limits) 8
+  columns₃ : HasColumns t₃ (edgeArea limits) Column.perEdge
   columns₃ = omega (arith, to-bridge-blocks .same-length, valid .long)
 
   -- the blocks of the path's edges merged
   pub blocks-law : MergedTo t₃ (edgeArea limits) m (block g) (block g′) (edgesOf t₃ limits k) w t₄ (blocks .count)
   blocks-law = blocks-merged written₃ valid₃
 
-  blocks-step : Frame limits [] (0 ∷ 1 ∷ 2 ∷ 3 ∷ []) t₃ t₄
+  blocks-step : Frame limits [] blockColumns t₃ t₄
   blocks-step = frame-merge-blocks limits (blocks-law .kept)
 
-  columns₄ : HasColumns t₄ (edgeArea limits) 8
+  columns₄ : HasColumns t₄ (edgeArea limits) Column.perEdge
   columns₄ = rw (blocks-step .same-length) columns₃
 
   -- the new edge entered
-  pub enter-step : Frame limits [] (0 ∷ 1 ∷ 2 ∷ 5 ∷ []) t₄ t₅
+  pub enter-step : Frame limits [] (groupColumns ++ Column.top ∷ []) t₄ t₅
   enter-step = frame-enter t₄ limits m w v columns₄ room (blocks-law .known)
 
   -- the new edge has the winning name
@@ -169,15 +171,15 @@ module _ (new : EdgeToAdd) (within : Within new) where
   valid-with-new = blocks-valid written₃ valid₃ v
 
   -- what changes after the bridge-blocks are merged
-  pub behind-bridge-blocks : Frame limits [] (0 ∷ 1 ∷ 2 ∷ 3 ∷ 5 ∷ []) t₃ t₅
+  pub behind-bridge-blocks : Frame limits [] (blockColumns ++ Column.top ∷ []) t₃ t₅
   behind-bridge-blocks = frame-more blocks-step refl refl then frame-more enter-step refl refl
 
   -- what changes after the ends are stored
-  pub behind-ends : Frame limits (4 ∷ 5 ∷ 6 ∷ 7 ∷ 10 ∷ 11 ∷ 12 ∷ 13 ∷ []) (0 ∷ 1 ∷ 2 ∷ 3 ∷ 5 ∷ []) t₁ t₅
+  pub behind-ends : Frame limits (bridgeBlockColumns ++ scratch) (blockColumns ++ Column.top ∷ []) t₁ t₅
   behind-ends = frame-more ends-to-bridge-blocks refl refl then frame-more behind-bridge-blocks refl refl
 
   -- all that changes
-  pub whole : Frame limits (4 ∷ 5 ∷ 6 ∷ 7 ∷ 10 ∷ 11 ∷ 12 ∷ 13 ∷ []) (0 ∷ 1 ∷ 2 ∷ 3 ∷ 4 ∷ 5 ∷ []) t t₅
+  pub whole : Frame limits (bridgeBlockColumns ++ scratch) (blockColumns ++ Column.ends ∷ Column.top ∷ []) t t₅
   whole = ends-frame new _ _ refl then frame-more behind-ends refl refl
 
   -- the edges in blocks of the path
@@ -187,7 +189,7 @@ module _ (new : EdgeToAdd) (within : Within new) where
   edges-same : edgesOf t₃ limits k ≡ edgesOf t₂ limits k
   edges-same =
       tabulate-same k _ _
-      (λ i h. bridge-blocks-step .vertex-word 11 i (omega arith) (omega (arith, written₂ .few, valid .vertices-fit)) refl)
+      (λ i h. bridge-blocks-step .vertex-word Column.pathEdge i (omega arith) (omega (arith, written₂ .few, valid .vertices-fit)) refl)
 
   top : PathTop t₁ limits n m g on a b v
   top =
@@ -197,21 +199,21 @@ module _ (new : EdgeToAdd) (within : Within new) where
   top-is : topOf t₅ limits w ≡ v
   top-is = enter-top t₄ limits m w v columns₄ room (blocks-law .known)
 
-  to-blocks : Frame limits (4 ∷ 5 ∷ 6 ∷ 7 ∷ 10 ∷ 11 ∷ 12 ∷ 13 ∷ []) (0 ∷ 1 ∷ 2 ∷ 3 ∷ []) t₁ t₄
+  to-blocks : Frame limits (bridgeBlockColumns ++ scratch) blockColumns t₁ t₄
   to-blocks = frame-more ends-to-bridge-blocks refl refl then frame-more blocks-step refl refl
 
   lifted : Lifted t₁ t₅ limits n m on v
   unfolding aboveEdge
   lifted =
       record {
-        up-same = λ x h. behind-ends .vertex-word 8 x (omega arith) (omega (arith, valid .vertices-fit)) refl;
-        depth-same = λ x h. behind-ends .vertex-word 9 x (omega arith) (omega (arith, valid .vertices-fit)) refl;
+        up-same = λ x h. behind-ends .vertex-word Column.up x (omega arith) (omega (arith, valid .vertices-fit)) refl;
+        depth-same = λ x h. behind-ends .vertex-word Column.depth x (omega arith) (omega (arith, valid .vertices-fit)) refl;
         above-new = ap (topOf t₅ limits) new-name ∙ top-is;
         above-on = λ x h o. ap (topOf t₅ limits) (old-name x h ∙ blocks-law .taken x h o) ∙ top-is;
         above-off = λ x h o.
             ap (topOf t₅ limits) (old-name x h ∙ blocks-law .stays x h o)
             ∙ enter-top-old t₄ limits m w v columns₄ room (blocks-law .known) (nameIn t₃ (edgeArea limits) x) (wide x h) (other x h o)
-            ∙ to-blocks .edge-word 5 (nameIn t₃ (edgeArea limits) x) (omega arith) (wide x h) refl
+            ∙ to-blocks .edge-word Column.top (nameIn t₃ (edgeArea limits) x) (omega arith) (wide x h) refl
             ∙ ap (topOf t₁ limits) (same-name x h);
       }
     where
@@ -226,7 +228,7 @@ module _ (new : EdgeToAdd) (within : Within new) where
           o
 
       same-name : (x : ℕ) → x < m → nameIn t₃ (edgeArea limits) x ≡ nameIn t₁ (edgeArea limits) x
-      same-name x h = ends-to-bridge-blocks .edge-word 0 x (omega arith) (omega arith) refl
+      same-name x h = ends-to-bridge-blocks .edge-word Column.name x (omega arith) (omega arith) refl
 
   -- the block forest is valid
   pub forest-after : ForestValid t₅ limits n (suc m) g′

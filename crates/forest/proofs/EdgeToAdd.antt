@@ -2,13 +2,13 @@
 -- to hold behind it.
 use mathlib.Core.Bool.{true, false}
 use mathlib.Core.List.{List}
-use mathlib.Core.Path.{_≡_, _∙_, ap, subst}
+use mathlib.Core.Path.{_≡_, _∙_, ap, ap₂, subst}
 use Prim.Native.Nat.{ℕ, suc, _+_, _*_, _/_, _%_, _<_}
 use native.Mathlib.Omega.{arith}
 use lib.ListN.{length}
 use lib.Dec.{eqb}
 use Rattle.graph.specs.Below.{tabulate}
-use Rattle.graph.specs.Network.{Network, Edge, Proper, addEdge}
+use Rattle.graph.specs.Network.{Network, Edge, edgeBetween, Proper, addEdge}
 use Rattle.graph.specs.Groups.{component, bridgeBlock}
 use Rattle.graph.specs.Block.{block}
 use Rattle.graph.proofs.Truth.{ne-eqb}
@@ -16,6 +16,7 @@ use Rattle.graph.proofs.VertexMore.{proper-edge-more}
 use Rattle.graph.proofs.Grows.{block-next}
 use Rattle.naming.specs.Book.{enterEdge}
 use Rattle.numbers.specs.declared.Limits.{Limits}
+use Rattle.table.specs.Inside.Column
 use Rattle.table.specs.Inside.Layout.{cell, put, vertexArea, bridgeBlockArea, edgeArea}
 use Rattle.table.specs.Inside.Merge.{nameIn}
 use Rattle.table.specs.Inside.KindValid.{KindValid}
@@ -24,8 +25,9 @@ use Rattle.table.proofs.Halves.{high-half, low-half}
 use Rattle.forest.specs.Inside.Tree.{Grown, endsTable}
 use Rattle.forest.specs.Inside.Valid.{endsOf, networkOf, bookOf, ForestValid, Valid}
 use Rattle.forest.specs.Promise.{SameBeyond}
+use Rattle.forest.proofs.Columns.{among}
 use Rattle.forest.proofs.Networks.{network-same, ends-same, vertex-count, edge-count}
-use Rattle.forest.proofs.Frames.{among, Frame, frame-edge}
+use Rattle.forest.proofs.Frames.{Frame, frame-edge}
 use Rattle.forest.proofs.Changes.{ChangesListed}
 
 -- A valid table of n vertices and m edges that has room for one edge more, and the ends of that edge: two different vertices of the table.
@@ -47,7 +49,7 @@ module _ (new : EdgeToAdd) where
 
   -- The edge; the network without it, and with it.
   abbrev pub edgeOf : Edge
-  edgeOf = record { left = a; right = b }
+  edgeOf = edgeBetween a b
 
   abbrev pub before : Network
   before = networkOf limits n m t
@@ -81,6 +83,7 @@ module _ (new : EdgeToAdd) where
 
   -- the ends of the edges are known and different, those of the new one too
   pub proper-after : Proper after
+  unfolding edgeBetween
   proper-after =
       proper-edge-more before edgeOf (valid .proper)
       (rw (vertex-count limits n m t) a-known)
@@ -95,19 +98,19 @@ module _ (new : EdgeToAdd) where
   number-apart s h = number-alone s ∙ ne-eqb m s (λ q. omega arith)
 
   -- the ends are stored in their own column
-  pub ends-frame : (vs es : List ℕ) → among es 4 ≡ true → Frame limits vs es t endsStored
+  pub ends-frame : (vs es : List ℕ) → among es Column.ends ≡ true → Frame limits vs es t endsStored
   unfolding endsTable
-  ends-frame vs es q = frame-edge limits vs es t 4 m _ (omega arith) room q
+  ends-frame vs es q = frame-edge limits vs es t Column.ends m _ (omega arith) room q
 
   -- those of the old edges stay
-  pub ends-old : (s : ℕ) → s < m → cell endsStored (edgeArea limits) 4 s ≡ cell t (edgeArea limits) 4 s
+  pub ends-old : (s : ℕ) → s < m → cell endsStored (edgeArea limits) Column.ends s ≡ cell t (edgeArea limits) Column.ends s
   unfolding endsTable
-  ends-old s h = cell-put-other-item t (edgeArea limits) 4 m _ s (λ q. omega arith)
+  ends-old s h = cell-put-other-item t (edgeArea limits) Column.ends m _ s (λ q. omega arith)
 
   -- those of the new edge are read as they were stored
   ends-new : endsOf endsStored limits m ≡ edgeOf
   unfolding endsOf endsTable
-  ends-new = both (ap (λ k. k / 65536) stored ∙ high-half a b a-small b-small) (ap (λ k. k % 65536) stored ∙ low-half a b a-small b-small)
+  ends-new = ap₂ edgeBetween (ap (λ k. k / 65536) stored ∙ high-half a b a-small b-small) (ap (λ k. k % 65536) stored ∙ low-half a b a-small b-small)
     where
       a-small : a < 65536
       a-small = omega (arith, valid .vertices-fit, valid .small-vertices)
@@ -115,20 +118,17 @@ module _ (new : EdgeToAdd) where
       b-small : b < 65536
       b-small = omega (arith, valid .vertices-fit, valid .small-vertices)
 
-      stored : cell (put t (edgeArea limits) 4 m (a % 65536 * 65536 + b % 65536)) (edgeArea limits) 4 m ≡ a % 65536 * 65536 + b % 65536
-      stored = cell-put-same t (edgeArea limits) 8 4 m (a % 65536 * 65536 + b % 65536) (omega (arith, valid .long)) (omega arith) room
-
-      both : {e f : Edge} → e .left ≡ f .left → e .right ≡ f .right → e ≡ f
-      both p q = λ i. record { left = p i; right = q i }
+      stored : cell (put t (edgeArea limits) Column.ends m (a % 65536 * 65536 + b % 65536)) (edgeArea limits) Column.ends m ≡ a % 65536 * 65536 + b % 65536
+      stored = cell-put-same t (edgeArea limits) Column.perEdge Column.ends m (a % 65536 * 65536 + b % 65536) (omega (arith, valid .long)) (omega arith) room
 
   network-stored : networkOf limits n (suc m) endsStored ≡ after
   unfolding networkOf addEdge tabulate
   network-stored = rw (ends-new, ends-same limits m t endsStored ends-old)
 
   -- so a table that keeps the stored ends holds the network with the edge
-  pub network-after : {vs es t′ : List ℕ} → Frame limits vs es endsStored t′ → among es 4 ≡ false → networkOf limits n (suc m) t′ ≡ after
+  pub network-after : {vs es t′ : List ℕ} → Frame limits vs es endsStored t′ → among es Column.ends ≡ false → networkOf limits n (suc m) t′ ≡ after
   network-after {vs} {es} {t′} f q =
-      network-same limits n (suc m) endsStored t′ (λ s h. f .edge-word 4 s (omega arith) (omega (arith, room)) q) ∙ network-stored
+      network-same limits n (suc m) endsStored t′ (λ s h. f .edge-word Column.ends s (omega arith) (omega (arith, room)) q) ∙ network-stored
 
   -- it is valid if the names, sizes and forest that it holds are
   pub valid-with-edge : {t′ : List ℕ} → networkOf limits n (suc m) t′ ≡ after → length t′ ≡ length t

@@ -2,13 +2,11 @@
 use mathlib.Core.Bool.{true, false}
 use mathlib.Core.List.{List, [], _∷_, _++_}
 use mathlib.Core.Logic.{_⊎_, inl, inr}
-use mathlib.Core.Path.{_≡_, sym, _∙_, ap, subst}
+use mathlib.Core.Path.{_≡_, refl, sym, _∙_, ap}
 use Prim.Native.Nat.{ℕ, suc, _+_, _*_, _%_, _≤_, _<_}
 use native.Mathlib.Nat.{le-refl}
 use native.Mathlib.Omega.{arith}
-use lib.Dec.{eqb}
 use Rattle.graph.specs.Below.{tabulate}
-use Rattle.graph.proofs.Truth.{true-or-false, eqb-eq, eqb-ne}
 use Rattle.graph.proofs.Below.{below-or-last}
 use Rattle.graph.specs.Network.{Network}
 use Rattle.graph.specs.Block.{block}
@@ -19,18 +17,21 @@ use Rattle.naming.proofs.Rename.{AgreeBelow}
 use Rattle.naming.proofs.Naming.{naming-agree, naming-new-item}
 use Rattle.numbers.specs.declared.Limits.{Limits}
 use Rattle.table.specs.declared.words.Area.{Area}
+use Rattle.table.specs.Inside.Column
 use Rattle.table.specs.Inside.Layout.{cell, put, edgeArea}
 use Rattle.table.specs.Inside.Merge.{nameIn, sizeIn, rangeIn, leastOf, greatestOf}
 use Rattle.table.specs.Inside.KindValid.{namesIn, KindValid}
 use Rattle.table.proofs.Halves.{high-half, low-half}
-use Rattle.table.proofs.Cells.{HasColumns, length-put, cell-put-same, cell-put-other-column, cell-put-other-item}
+use Rattle.table.proofs.Cells.{length-put, cell-put-same, cell-put-other-column, cell-put-elsewhere}
+use Rattle.table.proofs.MergeKept.{HasKind, kept-put, kept-columns}
 use Rattle.table.proofs.KindNames.{name-known, one-name}
 use Rattle.forest.specs.Inside.Tree.{newGroup}
 use Rattle.forest.specs.Inside.Climb.{aboveEdge, topOf}
+use Rattle.forest.proofs.Columns.{among, groupColumns}
 
 -- Two tables agree on the names, sizes and ranges of the items below n.
 abbrev pub SameWords : List ℕ → List ℕ → Area → ℕ → Type 0
-SameWords t t′ area n = (c x : ℕ) → c < 3 → x < n → cell t′ area c x ≡ cell t area c x
+SameWords t t′ area n = (c x : ℕ) → among groupColumns c ≡ true → x < n → cell t′ area c x ≡ cell t area c x
 
 -- the edges of one block have one vertex above it
 pub one-above : (t : List ℕ) (limits : Limits) (m : ℕ) (g : Network) → KindValid t (edgeArea limits) m (block g)
@@ -41,7 +42,7 @@ one-above t limits m g valid e f h k b = ap (topOf t limits) (one-name valid e f
 -- tables that agree on the words of a kind have the same list of names
 pub names-same : (t t′ : List ℕ) (area : Area) (n : ℕ) → SameWords t t′ area n → namesIn t′ area n ≡ namesIn t area n
 unfolding namesIn
-names-same t t′ area n f = tabulate-same n (nameIn t′ area) (nameIn t area) (λ x h. f 0 x (omega arith) h)
+names-same t t′ area n f = tabulate-same n (nameIn t′ area) (nameIn t area) (λ x h. f Column.name x refl h)
 
 -- the names, sizes and ranges of the items below n are all that matters
 pub kind-same : {t t′ : List ℕ} {area : Area} {n : ℕ} {groups : Grouping} → SameWords t t′ area n
@@ -50,14 +51,14 @@ pub kind-same : {t t′ : List ℕ} {area : Area} {n : ℕ} {groups : Grouping} 
 kind-same {t} {t′} {area} {n} {groups} f k =
     record {
       named = rw (names-same t t′ area n f) (k .named);
-      sized = λ x h. at-name 1 x (omega arith) h ∙ k .sized x h;
-      from-least = λ x h. rw (at-name 2 x (omega arith) h) (k .from-least x h);
-      to-greatest = λ x h. rw (at-name 2 x (omega arith) h) (k .to-greatest x h);
-      range-known = λ x h. rw (at-name 2 x (omega arith) h) (k .range-known x h);
+      sized = λ x h. at-name Column.size x refl h ∙ k .sized x h;
+      from-least = λ x h. rw (at-name Column.range x refl h) (k .from-least x h);
+      to-greatest = λ x h. rw (at-name Column.range x refl h) (k .to-greatest x h);
+      range-known = λ x h. rw (at-name Column.range x refl h) (k .range-known x h);
     }
   where
-    at-name : (c x : ℕ) → c < 3 → x < n → cell t′ area c (nameIn t′ area x) ≡ cell t area c (nameIn t area x)
-    at-name c x l h = ap (cell t′ area c) (f 0 x (omega arith) h) ∙ f c (nameIn t area x) l (name-known k x h)
+    at-name : (c x : ℕ) → among groupColumns c ≡ true → x < n → cell t′ area c (nameIn t′ area x) ≡ cell t area c (nameIn t area x)
+    at-name c x l h = ap (cell t′ area c) (f Column.name x refl h) ∙ f c (nameIn t area x) l (name-known k x h)
 
 -- the groups of the items below n are all that matters
 pub kind-agree : {t : List ℕ} {area : Area} {n : ℕ} {groups groups′ : Grouping} → AgreeBelow n groups groups′
@@ -72,69 +73,56 @@ kind-agree {t} {area} {n} {groups} {groups′} agree k =
       range-known = k .range-known;
     }
 
--- a store leaves the words of other items
-pub cell-put-elsewhere : (t : List ℕ) (area : Area) (c x v c′ x′ : ℕ) → x < area .size → x′ < area .size → (x ≡ x′ → ⊥)
-    → cell (put t area c x v) area c′ x′ ≡ cell t area c′ x′
-cell-put-elsewhere t area c x v c′ x′ h l d = go (true-or-false (eqb c c′))
-  where
-    go : (eqb c c′ ≡ true) ⊎ (eqb c c′ ≡ false) → cell (put t area c x v) area c′ x′ ≡ cell t area c′ x′
-    go (inl e) =
-        subst
-        (λ (k : ℕ). cell (put t area c x v) area k x′ ≡ cell t area k x′)
-        (eqb-eq c c′ e)
-        (cell-put-other-item t area c x v x′ d)
-    go (inr e) = cell-put-other-column t area c x v c′ x′ h l (eqb-ne c c′ e)
-
 -- a new group leaves the words of other items
 pub new-group-other : (t : List ℕ) (area : Area) (n c x : ℕ) → n < area .size → x < area .size → (n ≡ x → ⊥)
     → cell (newGroup t area n) area c x ≡ cell t area c x
 unfolding newGroup
 new-group-other t area n c x h l d =
-    cell-put-elsewhere _ area 2 n _ c x h l d
-    ∙ cell-put-elsewhere _ area 1 n 1 c x h l d
-    ∙ cell-put-elsewhere t area 0 n n c x h l d
+    cell-put-elsewhere _ area Column.range n _ c x h l d
+    ∙ cell-put-elsewhere _ area Column.size n 1 c x h l d
+    ∙ cell-put-elsewhere t area Column.name n n c x h l d
 
-module _ (t : List ℕ) (area : Area) (n : ℕ) (has : HasColumns t area 3) (h : n < area .size) where
+module _ (t : List ℕ) (area : Area) (n : ℕ) (has : HasKind t area) (h : n < area .size) where
   t₁ : List ℕ
-  t₁ = put t area 0 n n
+  t₁ = put t area Column.name n n
 
-  has₁ : HasColumns t₁ area 3
+  has₁ : HasKind t₁ area
   unfolding t₁
-  has₁ = rw (length-put t area 0 n n) has
+  has₁ = kept-columns (kept-put area t Column.name n n (omega (arith, has .has-size)) h) has
 
   -- the name of the item of a new group is its number
-  pub new-group-name : cell (newGroup t area n) area 0 n ≡ n
+  pub new-group-name : cell (newGroup t area n) area Column.name n ≡ n
   unfolding newGroup
   new-group-name =
-      cell-put-other-column _ area 2 n _ 0 n h h (λ e. omega arith)
-      ∙ cell-put-other-column _ area 1 n 1 0 n h h (λ e. omega arith)
-      ∙ cell-put-same t area 3 0 n n has (omega arith) h
+      cell-put-other-column _ area Column.range n _ Column.name n h h (λ e. omega arith)
+      ∙ cell-put-other-column _ area Column.size n 1 Column.name n h h (λ e. omega arith)
+      ∙ cell-put-same t area (area .columns) Column.name n n (has .columns) (omega (arith, has .has-size)) h
 
   -- its size is 1
-  pub new-group-size : cell (newGroup t area n) area 1 n ≡ 1
+  pub new-group-size : cell (newGroup t area n) area Column.size n ≡ 1
   unfolding newGroup t₁ has₁
   new-group-size =
-      cell-put-other-column _ area 2 n _ 1 n h h (λ e. omega arith) ∙ cell-put-same t₁ area 3 1 n 1 has₁ (omega arith) h
+      cell-put-other-column _ area Column.range n _ Column.size n h h (λ e. omega arith) ∙ cell-put-same t₁ area (area .columns) Column.size n 1 (has₁ .columns) (omega (arith, has .has-size)) h
 
   -- its range holds it alone
-  pub new-group-range : cell (newGroup t area n) area 2 n ≡ n % 65536 * 65536 + n % 65536
+  pub new-group-range : cell (newGroup t area n) area Column.range n ≡ n % 65536 * 65536 + n % 65536
   unfolding newGroup t₁ has₁
   new-group-range =
-      cell-put-same (put t₁ area 1 n 1) area 3 2 n (n % 65536 * 65536 + n % 65536) (rw (length-put t₁ area 1 n 1) has₁) (omega arith) h
+      cell-put-same (put t₁ area Column.size n 1) area (area .columns) Column.range n (n % 65536 * 65536 + n % 65536) (rw (length-put t₁ area Column.size n 1) (has₁ .columns)) (omega (arith, has .has-size)) h
 
   module _ (small : n < 65536) where
     -- its least item is that item
-    pub new-group-least : leastOf (cell (newGroup t area n) area 2 n) ≡ n
+    pub new-group-least : leastOf (cell (newGroup t area n) area Column.range n) ≡ n
     unfolding leastOf
     new-group-least = rw new-group-range (high-half n n small small)
 
     -- and so is its greatest
-    pub new-group-greatest : greatestOf (cell (newGroup t area n) area 2 n) ≡ n
+    pub new-group-greatest : greatestOf (cell (newGroup t area n) area Column.range n) ≡ n
     unfolding greatestOf
     new-group-greatest = rw new-group-range (low-half n n small small)
 
 -- with a new group the list of names is longer by its number
-pub names-new : (t : List ℕ) (area : Area) (n : ℕ) → HasColumns t area 3 → n < area .size
+pub names-new : (t : List ℕ) (area : Area) (n : ℕ) → HasKind t area → n < area .size
     → namesIn (newGroup t area n) area (suc n) ≡ namesIn t area n ++ n ∷ []
 unfolding namesIn tabulate
 names-new t area n has h =
@@ -144,12 +132,12 @@ names-new t area n has h =
           n
           (nameIn (newGroup t area n) area)
           (nameIn t area)
-          (λ x l. new-group-other t area n 0 x h (omega arith) (λ e. omega arith)),
+          (λ x l. new-group-other t area n Column.name x h (omega arith) (λ e. omega arith)),
     )
 
 -- a new item, alone in its group, as the next of a kind
 pub kind-new : {t : List ℕ} {area : Area} {n : ℕ} {groups groups′ : Grouping}
-    → HasColumns t area 3
+    → HasKind t area
     → n < area .size
     → n < 65536
     → AgreeBelow n groups groups′
@@ -173,28 +161,28 @@ kind-new {t} {area} {n} {groups} {groups′} has h small agree alone e k =
     old c x l = new-group-other t area n c x h (omega arith) (λ q. omega arith)
 
     old-at : (c x : ℕ) → x < n → cell t′ area c (nameIn t′ area x) ≡ cell t area c (nameIn t area x)
-    old-at c x l = ap (cell t′ area c) (old 0 x l) ∙ old c (nameIn t area x) (name-known k x l)
+    old-at c x l = ap (cell t′ area c) (old Column.name x l) ∙ old c (nameIn t area x) (name-known k x l)
 
     new-at : (c : ℕ) → cell t′ area c (nameIn t′ area n) ≡ cell t′ area c n
     new-at c = ap (cell t′ area c) (new-group-name t area n has h)
 
     sized : (x : ℕ) → (x < n) ⊎ (x ≡ n) → sizeIn t′ area (nameIn t′ area x) ≡ size (suc n) groups′ x
     sized x (inl l) =
-        old-at 1 x l
+        old-at Column.size x l
         ∙ k .sized x l
         ∙ size-agree n groups groups′ x (λ y m. agree x y l m)
         ∙ sym (size-others n groups′ x (group-swap groups′ e x n ∙ alone x l))
     sized x (inr q) =
-        rw q (new-at 1 ∙ new-group-size t area n has h ∙ sym (size-alone n groups′ e alone))
+        rw q (new-at Column.size ∙ new-group-size t area n has h ∙ sym (size-alone n groups′ e alone))
 
     least : (x : ℕ) → (x < n) ⊎ (x ≡ n) → leastOf (rangeIn t′ area (nameIn t′ area x)) ≤ x
-    least x (inl l) = rw (old-at 2 x l) (k .from-least x l)
-    least x (inr q) = rw (q, new-at 2, new-group-least t area n has h small) (le-refl n)
+    least x (inl l) = rw (old-at Column.range x l) (k .from-least x l)
+    least x (inr q) = rw (q, new-at Column.range, new-group-least t area n has h small) (le-refl n)
 
     greatest : (x : ℕ) → (x < n) ⊎ (x ≡ n) → x ≤ greatestOf (rangeIn t′ area (nameIn t′ area x))
-    greatest x (inl l) = rw (old-at 2 x l) (k .to-greatest x l)
-    greatest x (inr q) = rw (q, new-at 2, new-group-greatest t area n has h small) (le-refl n)
+    greatest x (inl l) = rw (old-at Column.range x l) (k .to-greatest x l)
+    greatest x (inr q) = rw (q, new-at Column.range, new-group-greatest t area n has h small) (le-refl n)
 
     known : (x : ℕ) → (x < n) ⊎ (x ≡ n) → greatestOf (rangeIn t′ area (nameIn t′ area x)) < suc n
-    known x (inl l) = rw (old-at 2 x l) (omega (arith, k .range-known x l))
-    known x (inr q) = rw (q, new-at 2, new-group-greatest t area n has h small) (le-refl (suc n))
+    known x (inl l) = rw (old-at Column.range x l) (omega (arith, k .range-known x l))
+    known x (inr q) = rw (q, new-at Column.range, new-group-greatest t area n has h small) (le-refl (suc n))

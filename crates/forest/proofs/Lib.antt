@@ -24,6 +24,7 @@ pub mod CondenseTables
 pub mod CondenseTop
 pub mod EdgeToAdd
 pub mod EmptyTable
+pub mod Columns
 pub mod Frames
 pub mod KindWords
 pub mod Link

@@ -5,7 +5,7 @@ use mathlib.Core.Path.{_≡_, refl, sym, _∙_, ap}
 use Prim.Native.Nat.{ℕ, suc, _<_}
 use native.Mathlib.Nat.{le-refl}
 use native.Mathlib.Omega.{arith}
-use Rattle.graph.specs.Network.{Network, Edge, edgeCount}
+use Rattle.graph.specs.Network.{Network, Edge, edgeCount, edgeBetween}
 use Rattle.graph.specs.Groups.{component, bridgeBlock}
 use Rattle.graph.specs.Block.{block}
 use Rattle.graph.proofs.EdgeMore.{block-edge-between}
@@ -13,16 +13,18 @@ use Rattle.graph.proofs.EdgeMoreBridges.{bridge-block-between}
 use Rattle.naming.specs.Rename.{nameOf, rename}
 use Rattle.naming.specs.Book.{enterEdge}
 use Rattle.naming.proofs.Naming.{nameOf-old, nameOf-new}
+use Rattle.table.specs.Inside.Column
 use Rattle.table.specs.Inside.Layout.{vertexArea, bridgeBlockArea, edgeArea}
 use Rattle.table.specs.Inside.Merge.{nameIn}
 use Rattle.table.specs.Inside.KindValid.{namesIn, KindValid}
 use Rattle.table.proofs.KindNames.{name-in-list}
 use Rattle.forest.specs.Inside.Tree.{Grown, linkGrown}
 use Rattle.forest.specs.Inside.Valid.{networkOf, bookOf, ForestValid}
+use Rattle.forest.proofs.Columns.{among, within, groupColumns, componentColumns}
 use Rattle.forest.proofs.KindWords.{SameWords, names-same, kind-same, kind-agree}
 use Rattle.forest.proofs.Networks.{network-rule, edge-count, book-is}
 use Rattle.forest.proofs.NamesStay.{rename-stays}
-use Rattle.forest.proofs.Frames.{among, Frame, _then_, same-components, same-bridge-blocks}
+use Rattle.forest.proofs.Frames.{Frame, _then_, same-components, same-bridge-blocks}
 use Rattle.forest.proofs.EdgeToAdd.{EdgeToAdd, edgeOf, before, after, Apart, endsStored, Grows, ends-frame, network-after, valid-with-edge}
 use Rattle.forest.proofs.Beyond.{frame-beyond}
 use Rattle.forest.proofs.Changes.{ChangesListed, changes-around, no-names-changed}
@@ -58,25 +60,25 @@ module _ (new : EdgeToAdd) (apart : Apart new) where
   t′ = grown .table
 
   -- what the hanging stores, and all that is stored
-  hang-step : (vs es : List ℕ) → among vs 8 ≡ true → among vs 9 ≡ true
-      → among es 0 ≡ true → among es 1 ≡ true → among es 2 ≡ true → among es 5 ≡ true
+  hang-step : (vs es : List ℕ) → among vs Column.up ≡ true → among vs Column.depth ≡ true
+      → within groupColumns es ≡ true → among es Column.top ≡ true
       → Frame limits vs es t₃ t′
   unfolding linkGrown
   hang-step = linked-frame (linking new apart)
 
   abbrev vertexColumns : List ℕ
-  vertexColumns = 0 ∷ 1 ∷ 2 ∷ 3 ∷ 8 ∷ 9 ∷ 10 ∷ []
+  vertexColumns = componentColumns ++ Column.up ∷ Column.depth ∷ Column.pathVertex ∷ []
 
-  from-ends : Frame limits vertexColumns (0 ∷ 1 ∷ 2 ∷ 5 ∷ []) t₁ t′
+  from-ends : Frame limits vertexColumns (groupColumns ++ Column.top ∷ []) t₁ t′
   from-ends =
-      merged-frame new _ _ refl refl refl refl refl
-      then hang-step _ _ refl refl refl refl refl refl
+      merged-frame new _ _ refl refl
+      then hang-step _ _ refl refl refl refl
 
-  whole : Frame limits vertexColumns (0 ∷ 1 ∷ 2 ∷ 4 ∷ 5 ∷ []) t t′
+  whole : Frame limits vertexColumns (groupColumns ++ Column.ends ∷ Column.top ∷ []) t t′
   whole =
       ends-frame new _ _ refl
-      then merged-frame new _ _ refl refl refl refl refl
-      then hang-step _ _ refl refl refl refl refl refl
+      then merged-frame new _ _ refl refl
+      then hang-step _ _ refl refl refl refl
 
   -- the network has one edge more
   network-more : networkOf limits n (suc m) t′ ≡ g′
@@ -84,10 +86,10 @@ module _ (new : EdgeToAdd) (apart : Apart new) where
 
   -- components
   after-merge : SameWords t₃ t′ (vertexArea limits) n
-  after-merge = same-components (hang-step (8 ∷ 9 ∷ []) (0 ∷ 1 ∷ 2 ∷ 5 ∷ []) refl refl refl refl refl refl) n (valid .vertices-fit) refl refl refl
+  after-merge = same-components (hang-step (Column.up ∷ Column.depth ∷ []) (groupColumns ++ Column.top ∷ []) refl refl refl refl) n (valid .vertices-fit) refl
 
   words-before : SameWords t t₂ (vertexArea limits) n
-  words-before = same-components (before-merge new) n (valid .vertices-fit) refl refl refl
+  words-before = same-components (before-merge new) n (valid .vertices-fit) refl
 
   components : KindValid t′ (vertexArea limits) n (component g′)
   components = kind-same after-merge (law new .valid)
@@ -102,16 +104,17 @@ module _ (new : EdgeToAdd) (apart : Apart new) where
   unfolding linkGrown
   components-changed =
       changes-around (vertexArea limits) n n (grown .components) t t₂ t₃ t′ (le-refl n) (law new .changed)
-      (λ x h. words-before 0 x (omega arith) h)
-      (λ x h. after-merge 0 x (omega arith) h)
-      (λ i h. hang-step (8 ∷ 9 ∷ []) (0 ∷ 1 ∷ 2 ∷ 5 ∷ []) refl refl refl refl refl refl
-      .vertex-word 3 i (omega arith) (omega (arith, law new .few, valid .vertices-fit)) refl)
+      (λ x h. words-before Column.name x refl h)
+      (λ x h. after-merge Column.name x refl h)
+      (λ i h. hang-step (Column.up ∷ Column.depth ∷ []) (groupColumns ++ Column.top ∷ []) refl refl refl refl
+      .vertex-word Column.changed i (omega arith) (omega (arith, law new .few, valid .vertices-fit)) refl)
 
   -- bridge-blocks
   same-bridge-block-words : SameWords t t′ (bridgeBlockArea limits) n
-  same-bridge-block-words = same-bridge-blocks whole n (valid .vertices-fit) refl refl refl
+  same-bridge-block-words = same-bridge-blocks whole n (valid .vertices-fit) refl
 
   bridge-blocks-agree : (x y : ℕ) → bridgeBlock g x y ≡ bridgeBlock g′ x y
+  unfolding edgeBetween
   bridge-blocks-agree x y = sym (bridge-block-between g e (network-rule limits n m t) apart x y)
 
   bridge-blocks-named : KindValid t′ (bridgeBlockArea limits) n (bridgeBlock g′)
@@ -132,6 +135,7 @@ module _ (new : EdgeToAdd) (apart : Apart new) where
   names-more = linked-block-names (linking new apart)
 
   block-names : namesIn t′ (edgeArea limits) (suc m) ≡ rename (block g) (block g′) (namesIn t (edgeArea limits) m ++ edgeCount g ∷ [])
+  unfolding edgeBetween
   block-names =
       names-more
       ∙ ap (λ (k : ℕ). namesIn t (edgeArea limits) m ++ k ∷ []) (sym (edge-count limits n m t))
@@ -168,7 +172,7 @@ module _ (new : EdgeToAdd) (apart : Apart new) where
         book-after = book-is network-more component-names bridge-block-names block-names;
         components = components-changed;
         bridge-blocks =
-            no-names-changed (bridgeBlockArea limits) n n t t′ (le-refl n) (λ x h. same-bridge-block-words 0 x (omega arith) h);
+            no-names-changed (bridgeBlockArea limits) n n t t′ (le-refl n) (λ x h. same-bridge-block-words Column.name x refl h);
         blocks = no-names-changed (edgeArea limits) m (suc m) t t′ (omega arith) old-block;
         block-name = sym new-block;
         same-beyond = frame-beyond whole;

@@ -6,7 +6,7 @@ use mathlib.Core.Path.{_≡_, refl, sym, _∙_, ap, subst}
 use Prim.Native.Nat.{ℕ, zero, suc, _+_, _*_, _%_, _^_, _<_}
 use native.Mathlib.Nat.{mod-eq-of-lt, le-refl}
 use native.Mathlib.Omega.{arith}
-use Rattle.graph.specs.Network.{Network, Edge, addEdge, edge, edgeCount, touches}
+use Rattle.graph.specs.Network.{Network, Edge, addEdge, edge, edgeCount, touches, edgeBetween}
 use Rattle.graph.specs.Groups.{component}
 use Rattle.graph.specs.Block.{block, onBlock}
 use Rattle.graph.proofs.Truth.{true-or-false, not-both}
@@ -20,14 +20,16 @@ use Rattle.graph.proofs.EdgeMore.{block-edge-between}
 use Rattle.graph.proofs.Grows.{on-block-grows}
 use Rattle.naming.specs.Rename.{size}
 use Rattle.naming.proofs.Equivalent.{group-same}
+use Rattle.table.specs.Inside.Column
 use Rattle.table.specs.Inside.Layout.{edgeArea}
 use Rattle.table.specs.Inside.KindValid.{namesIn, KindValid}
 use Rattle.forest.specs.Inside.Climb.{upOf, depthOf, aboveEdge}
 use Rattle.forest.specs.Inside.Tree.{turnFrom, hangTable}
 use Rattle.forest.specs.Inside.Valid.{networkOf, HangsBelow, ForestValid}
+use Rattle.forest.proofs.Columns.{among, within, groupColumns}
 use Rattle.forest.proofs.KindWords.{SameWords, names-same, kind-same, one-above}
 use Rattle.forest.proofs.Networks.{component-groups, edge-count}
-use Rattle.forest.proofs.Frames.{among, Frame, _then_, same-blocks}
+use Rattle.forest.proofs.Frames.{Frame, _then_, same-blocks}
 use Rattle.forest.proofs.EdgeToAdd.{EdgeToAdd, edgeOf, before, after, proper-after}
 use Rattle.forest.proofs.Turn.{ForestBut, Dangling}
 use Rattle.forest.proofs.TurnSteps.{Way}
@@ -94,7 +96,7 @@ module _ {new : EdgeToAdd} {t₃ : List ℕ} {count u v : ℕ} (k : Linking new 
   old-up x s h q = sym (up-kept k x h) ∙ q
 
   covers-old : (s y : ℕ) → s < m → touches (edge g s) y ≡ true → (y ≡ aboveEdge t₄ limits s) ⊎ HangsBelow t₄ limits g′ s y
-  unfolding networkOf
+  unfolding edgeBetween networkOf
   covers-old s y h q =
       ⊎-elim
       (λ i. inl (i ∙ sym (above-kept k s h)))
@@ -192,8 +194,8 @@ module _ {new : EdgeToAdd} {t₃ : List ℕ} {count u v : ℕ} (k : Linking new 
         (way j (aboveEdge t limits s) (old .top-known s known) (alike x s h up ∙ c) (omega (arith, old .depth-falls x s h up))),
   )
 
-  frame₄ : Frame limits (9 ∷ []) (0 ∷ 1 ∷ 2 ∷ 5 ∷ []) t₃ t₄
-  frame₄ = hung-frame k _ _ refl refl refl refl refl
+  frame₄ : Frame limits (Column.depth ∷ []) (groupColumns ++ Column.top ∷ []) t₃ t₄
+  frame₄ = hung-frame k _ _ refl refl refl
 
   -- with u's way up turned round, u's component hangs below v
   after-turn : Turned limits n (suc m) g′ t₄ (turnFrom (suc (depthOf t limits u)) t₄ limits u (suc m) (suc (depthOf t limits v)))
@@ -222,8 +224,8 @@ module _ {new : EdgeToAdd} {t₃ : List ℕ} {count u v : ℕ} (k : Linking new 
   unfolding hangTable hung grouped raised
   hang-is =
       rw (
-        word₃ k 9 u (omega arith) (k .loser-known) refl,
-        word₃ k 9 v (omega arith) (k .winner-known) refl,
+        word₃ k Column.depth u (omega arith) (k .loser-known) refl,
+        word₃ k Column.depth v (omega arith) (k .winner-known) refl,
         start-is,
         mod-eq-of-lt by-fits,
       )
@@ -234,7 +236,7 @@ module _ {new : EdgeToAdd} {t₃ : List ℕ} {count u v : ℕ} (k : Linking new 
       start-is : (depthOf t limits v + 1) % 2 ^ 32 ≡ suc (depthOf t limits v)
       start-is = omega (arith, by-fits)
 
-  frame₅ : (vs es : List ℕ) → among vs 8 ≡ true → among vs 9 ≡ true → among es 5 ≡ true → Frame limits vs es t₄ (hangTable t₃ limits m u v count)
+  frame₅ : (vs es : List ℕ) → among vs Column.up ≡ true → among vs Column.depth ≡ true → among es Column.top ≡ true → Frame limits vs es t₄ (hangTable t₃ limits m u v count)
   frame₅ = rw hang-is (after-turn .frame)
 
   -- the forest is valid with the new edge
@@ -242,13 +244,13 @@ module _ {new : EdgeToAdd} {t₃ : List ℕ} {count u v : ℕ} (k : Linking new 
   linked-forest = rw hang-is (after-turn .forest)
 
   -- only ways up, depths, and the words of the new block and of the vertices above blocks are stored
-  pub linked-frame : (vs es : List ℕ) → among vs 8 ≡ true → among vs 9 ≡ true
-      → among es 0 ≡ true → among es 1 ≡ true → among es 2 ≡ true → among es 5 ≡ true
+  pub linked-frame : (vs es : List ℕ) → among vs Column.up ≡ true → among vs Column.depth ≡ true
+      → within groupColumns es ≡ true → among es Column.top ≡ true
       → Frame limits vs es t₃ (hangTable t₃ limits m u v count)
-  linked-frame vs es p q r s i o = hung-frame k vs es q r s i o then frame₅ vs es p q o
+  linked-frame vs es p q r o = hung-frame k vs es q r o then frame₅ vs es p q o
 
   same-after : SameWords t₄ (hangTable t₃ limits m u v count) (edgeArea limits) (suc m)
-  same-after = same-blocks (frame₅ (8 ∷ 9 ∷ []) (5 ∷ []) refl refl refl) (suc m) room refl refl refl
+  same-after = same-blocks (frame₅ (Column.up ∷ Column.depth ∷ []) (Column.top ∷ []) refl refl refl) (suc m) room refl
 
   -- the words of blocks are valid with the new one
   pub linked-blocks : KindValid (hangTable t₃ limits m u v count) (edgeArea limits) (suc m) (block (after new))

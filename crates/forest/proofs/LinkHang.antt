@@ -8,20 +8,22 @@ use native.Mathlib.Nat.{mod-eq-of-lt}
 use native.Mathlib.Omega.{arith}
 use lib.ListN.{length}
 use Rattle.graph.specs.Below.{listed, tabulate}
-use Rattle.graph.specs.Network.{Network, Edge, addEdge, touches}
+use Rattle.graph.specs.Network.{Network, Edge, addEdge, touches, edgeBetween}
 use Rattle.graph.specs.Groups.{component}
 use Rattle.graph.specs.Block.{block}
 use Rattle.graph.proofs.EdgeMore.{block-edge-between}
 use Rattle.naming.specs.Rename.{size}
+use Rattle.table.specs.Inside.Column
 use Rattle.table.specs.Inside.Layout.{cell, put, vertexArea, edgeArea}
 use Rattle.table.specs.Inside.KindValid.{namesIn, KindValid}
-use Rattle.table.proofs.Cells.{HasColumns, cell-put-same, cell-put-other-column}
+use Rattle.table.proofs.Cells.{HasColumns, cell-put-same, cell-put-other-column, cell-put-elsewhere}
 use Rattle.table.proofs.KindNames.{name-known}
 use Rattle.forest.specs.Inside.Climb.{upOf, depthOf, blockOf, aboveEdge}
 use Rattle.forest.specs.Inside.Tree.{newGroup, raiseFrom}
-use Rattle.forest.proofs.KindWords.{SameWords, names-same, kind-same, kind-new, names-new, new-group-name, new-group-other, cell-put-elsewhere}
+use Rattle.forest.proofs.Columns.{among, within, groupColumns, componentColumns}
+use Rattle.forest.proofs.KindWords.{SameWords, names-same, kind-same, kind-new, names-new, new-group-name, new-group-other}
 use Rattle.forest.proofs.Networks.{block-groups}
-use Rattle.forest.proofs.Frames.{among, Frame, _then_, frame-edge, frame-block, same-blocks}
+use Rattle.forest.proofs.Frames.{Frame, _then_, frame-edge, frame-block, same-blocks}
 use Rattle.forest.proofs.EdgeToAdd.{EdgeToAdd, edgeOf, before, after, Apart, number-apart}
 use Rattle.forest.proofs.Raise.{raised-frame, raised-depth}
 use Rattle.forest.proofs.LinkDepth.{raised-below, kept-below, after-fits}
@@ -30,8 +32,8 @@ use Rattle.forest.proofs.LinkDepth.{raised-below, kept-below, after-fit
 -- vertices of u's component written down as changed.
 pub record Linking (new : EdgeToAdd) (t₃ : List ℕ) (count u v : ℕ) : Type 0 where
   pub apart : Apart new
-  pub frame : Frame (new .limits) (0 ∷ 1 ∷ 2 ∷ 3 ∷ 10 ∷ []) (4 ∷ []) (new .t) t₃
-  pub changed : tabulate count (cell t₃ (vertexArea (new .limits)) 3) ≡ listed (new .n) (component (before new) u)
+  pub frame : Frame (new .limits) (componentColumns ++ Column.pathVertex ∷ []) (Column.ends ∷ []) (new .t) t₃
+  pub changed : tabulate count (cell t₃ (vertexArea (new .limits)) Column.changed) ≡ listed (new .n) (component (before new) u)
   pub at-loser : touches (edgeOf new) u ≡ true
   pub at-winner : touches (edgeOf new) v ≡ true
   pub ends : (y : ℕ) → touches (edgeOf new) y ≡ true → (y ≡ u) ⊎ (y ≡ v)
@@ -77,7 +79,7 @@ module _ {new : EdgeToAdd} {t₃ : List ℕ} {count u v : ℕ} (k : Linking new 
   raised-fits x h q = omega (arith, raised-bound x h q, fits x)
 
   -- the words that the table t₃ has from t
-  pub word₃ : (c x : ℕ) → c < 24 → x < n → among (0 ∷ 1 ∷ 2 ∷ 3 ∷ 10 ∷ []) c ≡ false → cell t₃ (vertexArea limits) c x ≡ cell t (vertexArea limits) c x
+  pub word₃ : (c x : ℕ) → c < Column.perVertex → x < n → among (componentColumns ++ Column.pathVertex ∷ []) c ≡ false → cell t₃ (vertexArea limits) c x ≡ cell t (vertexArea limits) c x
   word₃ c x h l o = k .frame .vertex-word c x h (omega (arith, valid .vertices-fit)) o
 
   -- The table with the depths raised.
@@ -90,39 +92,39 @@ module _ {new : EdgeToAdd} {t₃ : List ℕ} {count u v : ℕ} (k : Linking new 
 
   -- And then with that block below v.
   unfoldable pub hung : List ℕ
-  hung = put grouped (edgeArea limits) 5 m v
+  hung = put grouped (edgeArea limits) Column.top m v
 
-  long₃ : limits .vertices * 24 + limits .edges * 8 ≤ length t₃
+  long₃ : limits .vertices * Column.perVertex + limits .edges * Column.perEdge ≤ length t₃
   long₃ = omega (arith, k .frame .same-length, valid .long)
 
-  raise-step : (vs es : List ℕ) → among vs 9 ≡ true → Frame limits vs es t₃ raised
+  raise-step : (vs es : List ℕ) → among vs Column.depth ≡ true → Frame limits vs es t₃ raised
   unfolding raised
   raise-step = raised-frame limits by count n t₃ (component g u) (omega (arith, long₃)) (valid .vertices-fit) (k .changed)
 
-  group-step : (vs es : List ℕ) → among es 0 ≡ true → among es 1 ≡ true → among es 2 ≡ true → Frame limits vs es raised grouped
+  group-step : (vs es : List ℕ) → within groupColumns es ≡ true → Frame limits vs es raised grouped
   unfolding grouped
   group-step vs es = frame-block limits vs es raised m room
 
-  top-step : (vs es : List ℕ) → among es 5 ≡ true → Frame limits vs es grouped hung
+  top-step : (vs es : List ℕ) → among es Column.top ≡ true → Frame limits vs es grouped hung
   unfolding hung
-  top-step vs es = frame-edge limits vs es grouped 5 m v (omega arith) room
+  top-step vs es = frame-edge limits vs es grouped Column.top m v (omega arith) room
 
   -- what is stored so far
-  pub hung-frame : (vs es : List ℕ) → among vs 9 ≡ true → among es 0 ≡ true → among es 1 ≡ true → among es 2 ≡ true → among es 5 ≡ true
+  pub hung-frame : (vs es : List ℕ) → among vs Column.depth ≡ true → within groupColumns es ≡ true → among es Column.top ≡ true
       → Frame limits vs es t₃ hung
-  hung-frame vs es p q r s o = raise-step vs es p then group-step vs es q r s then top-step vs es o
+  hung-frame vs es p q o = raise-step vs es p then group-step vs es q then top-step vs es o
 
   -- the depths
   raised-by : (x : ℕ) → x < n → depthOf raised limits x ≡ cond (component g u x) ((depthOf t limits x + by) % 2 ^ 32) (depthOf t limits x)
   unfolding raised
   raised-by x h =
       raised-depth limits by count n t₃ (component g u) (omega (arith, long₃)) (valid .vertices-fit) (k .changed) x h
-      ∙ ap (λ j. cond (component g u x) ((j + by) % 2 ^ 32) j) (word₃ 9 x (omega arith) h refl)
+      ∙ ap (λ j. cond (component g u x) ((j + by) % 2 ^ 32) j) (word₃ Column.depth x (omega arith) h refl)
 
   hung-depth : (x : ℕ) → x < n → depthOf hung limits x ≡ depthOf raised limits x
   hung-depth x h =
-      (group-step [] (0 ∷ 1 ∷ 2 ∷ 5 ∷ []) refl refl refl then top-step _ _ refl)
-      .vertex-word 9 x (omega arith) (omega (arith, valid .vertices-fit)) refl
+      (group-step [] (groupColumns ++ Column.top ∷ []) refl then top-step _ _ refl)
+      .vertex-word Column.depth x (omega arith) (omega (arith, valid .vertices-fit)) refl
 
   -- of u's component they are raised
   pub depth-raised : (x : ℕ) → x < n → component g u x ≡ true → depthOf hung limits x ≡ depthOf t limits x + by
@@ -140,19 +142,19 @@ module _ {new : EdgeToAdd} {t₃ : List ℕ} {count u v : ℕ} (k : Linking new 
   -- the ways up stay
   pub up-kept : (x : ℕ) → x < n → upOf hung limits x ≡ upOf t limits x
   up-kept x h =
-      hung-frame (9 ∷ []) (0 ∷ 1 ∷ 2 ∷ 5 ∷ []) refl refl refl refl refl .vertex-word 8 x (omega arith) (omega (arith, valid .vertices-fit)) refl
-      ∙ word₃ 8 x (omega arith) h refl
+      hung-frame (Column.depth ∷ []) (groupColumns ++ Column.top ∷ []) refl refl refl .vertex-word Column.up x (omega arith) (omega (arith, valid .vertices-fit)) refl
+      ∙ word₃ Column.up x (omega arith) h refl
 
-  has-blocks : HasColumns raised (edgeArea limits) 8
-  has-blocks = omega (arith, long₃, raise-step (9 ∷ []) [] refl .same-length)
+  has-blocks : HasColumns raised (edgeArea limits) Column.perEdge
+  has-blocks = omega (arith, long₃, raise-step (Column.depth ∷ []) [] refl .same-length)
 
   -- an old edge's block and the vertex above it stay
-  old-edge : (c s : ℕ) → c < 8 → s < m → among (4 ∷ []) c ≡ false → cell hung (edgeArea limits) c s ≡ cell t (edgeArea limits) c s
+  old-edge : (c s : ℕ) → c < Column.perEdge → s < m → among (Column.ends ∷ []) c ≡ false → cell hung (edgeArea limits) c s ≡ cell t (edgeArea limits) c s
   unfolding hung grouped
   old-edge c s h l o =
-      cell-put-elsewhere grouped (edgeArea limits) 5 m v c s room l′ (λ q. omega arith)
+      cell-put-elsewhere grouped (edgeArea limits) Column.top m v c s room l′ (λ q. omega arith)
       ∙ new-group-other raised (edgeArea limits) m c s room l′ (λ q. omega arith)
-      ∙ raise-step (9 ∷ []) [] refl .edge-word c s h l′ refl
+      ∙ raise-step (Column.depth ∷ []) [] refl .edge-word c s h l′ refl
       ∙ k .frame .edge-word c s h l′ o
     where
       l′ : s < limits .edges
@@ -162,42 +164,43 @@ module _ {new : EdgeToAdd} {t₃ : List ℕ} {count u v : ℕ} (k : Linking new 
   pub above-kept : (s : ℕ) → s < m → aboveEdge hung limits s ≡ aboveEdge t limits s
   unfolding aboveEdge
   above-kept s h =
-      ap (cell hung (edgeArea limits) 5) (old-edge 0 s (omega arith) h refl)
-      ∙ old-edge 5 (blockOf t limits s) (omega arith) (name-known (valid .blocks) s h) refl
+      ap (cell hung (edgeArea limits) Column.top) (old-edge Column.name s (omega arith) h refl)
+      ∙ old-edge Column.top (blockOf t limits s) (omega arith) (name-known (valid .blocks) s h) refl
 
   -- the new edge is a block below v
   pub above-new : aboveEdge hung limits m ≡ v
   unfolding aboveEdge hung grouped
   above-new =
       ap
-      (cell hung (edgeArea limits) 5)
-      (cell-put-other-column grouped (edgeArea limits) 5 m v 0 m room room (λ q. omega arith)
+      (cell hung (edgeArea limits) Column.top)
+      (cell-put-other-column grouped (edgeArea limits) Column.top m v Column.name m room room (λ q. omega arith)
       ∙ new-group-name raised (edgeArea limits) m (omega (arith, has-blocks)) room)
       ∙ cell-put-same
       grouped
       (edgeArea limits)
-      8
-      5
+      Column.perEdge
+      Column.top
       m
       v
-      (omega (arith, has-blocks, group-step [] (0 ∷ 1 ∷ 2 ∷ []) refl refl refl .same-length))
+      (omega (arith, has-blocks, group-step [] groupColumns refl .same-length))
       (omega arith)
       room
 
   same-before : SameWords t raised (edgeArea limits) m
   same-before c s h l =
-      same-blocks (raise-step (9 ∷ []) [] refl) m (valid .edges-fit) refl refl refl c s h l
-      ∙ same-blocks (k .frame) m (valid .edges-fit) refl refl refl c s h l
+      same-blocks (raise-step (Column.depth ∷ []) [] refl) m (valid .edges-fit) refl c s h l
+      ∙ same-blocks (k .frame) m (valid .edges-fit) refl c s h l
 
   same-after : SameWords grouped hung (edgeArea limits) (suc m)
-  same-after = same-blocks (top-step [] (5 ∷ []) refl) (suc m) room refl refl refl
+  same-after = same-blocks (top-step [] (Column.top ∷ []) refl) (suc m) room refl
 
   -- the new edge is a block alone
   pub new-alone : (s : ℕ) → s < m → block (addEdge g e) m s ≡ false
+  unfolding edgeBetween
   new-alone s h = block-edge-between g e (k .apart) m s ∙ number-apart new s h
 
   new-block : KindValid grouped (edgeArea limits) (suc m) (block (addEdge g e))
-  unfolding grouped
+  unfolding edgeBetween grouped
   new-block =
       kind-new
       (omega (arith, has-blocks))

@@ -6,23 +6,25 @@ use mathlib.Core.Path.{_≡_, refl, sym, _∙_, ap₂}
 use Prim.Native.Nat.{ℕ, _≤_, _<_}
 use native.Mathlib.Omega.{arith}
 use lib.Dec.{leb, ltb}
-use Rattle.graph.specs.Network.{Network, addEdge}
+use Rattle.graph.specs.Network.{Network, edgeBetween, addEdge}
 use Rattle.graph.specs.Groups.{component}
 use Rattle.graph.proofs.Truth.{bool-ext, or-left, or-right, or-cases, and-left, and-right, and-both, ltb-lt, ltb-ge}
 use Rattle.graph.proofs.Mates.{component-sym, component-trans}
 use Rattle.graph.proofs.EdgeMore.{component-edge-more}
 use Rattle.naming.proofs.Merge.{inMerged, Merges}
 use Rattle.table.specs.declared.words.Area.{Area}
+use Rattle.table.specs.Inside.Column
 use Rattle.table.specs.Inside.Layout.{place, put, vertexArea}
 use Rattle.table.specs.Inside.Merge.{Renamed, sizeIn, itemOf, itemsFrom, betterName, bestListed, mergeListed}
 use Rattle.table.proofs.Cells.{HasColumns, length-put, cell-put-same, cell-put-other-item}
 use Rattle.table.proofs.MergeKept.{ListedOutside}
 use Rattle.table.proofs.MergeLaw.{MergedTo, merge-law}
 use Rattle.forest.specs.Inside.Tree.{pathVertices, listEnds}
+use Rattle.forest.proofs.Columns.{among}
 use Rattle.forest.proofs.KindWords.{kind-same}
 use Rattle.forest.proofs.Networks.{component-groups}
 use Rattle.forest.proofs.EdgeToAdd.{EdgeToAdd, before, after, endsStored, ends-frame}
-use Rattle.forest.proofs.Frames.{among, Frame, _then_, frame-vertex, same-components}
+use Rattle.forest.proofs.Frames.{Frame, _then_, frame-vertex, same-components}
 
 -- Item x is in the group of a or of b.
 abbrev pub inEither : Network → ℕ → ℕ → ℕ → Bool
@@ -34,10 +36,10 @@ either-cases g a b x q = ⊎-elim inl (λ k. inr (sym (or-false (component g b x
 
 -- the two components that one edge more makes one
 pub component-merges : (n : ℕ) (g : Network) (a b : ℕ)
-    → Merges n (component g) (component (addEdge g (record { left = a; right = b }))) (a ∷ b ∷ [])
-unfolding inMerged
+    → Merges n (component g) (component (addEdge g (edgeBetween a b))) (a ∷ b ∷ [])
+unfolding edgeBetween inMerged
 component-merges n g a b x y h k =
-    component-edge-more g (record { left = a; right = b }) x y
+    component-edge-more g (edgeBetween a b) x y
     ∙ bool-ext
     (C x y || (C x a && C b y) || (C x b && C a y))
     (C x y || (inEither g a b x && inEither g a b y))
@@ -120,38 +122,38 @@ module _ (new : EdgeToAdd) where
   two = omega (arith, valid .vertices-fit, differ)
 
   -- writing the two vertices down
-  pub listed-frame : (vs es : List ℕ) → among vs 10 ≡ true → Frame limits vs es t₁ endsListed
+  pub listed-frame : (vs es : List ℕ) → among vs Column.pathVertex ≡ true → Frame limits vs es t₁ endsListed
   unfolding listEnds
   listed-frame vs es q =
-      frame-vertex limits vs es t₁ 10 0 a (omega arith) (omega (arith, two)) q
-      then frame-vertex limits vs es _ 10 1 b (omega arith) (omega (arith, two)) q
+      frame-vertex limits vs es t₁ Column.pathVertex 0 a (omega arith) (omega (arith, two)) q
+      then frame-vertex limits vs es _ Column.pathVertex 1 b (omega arith) (omega (arith, two)) q
 
   -- both leave the words of groups and of the forest
-  pub before-merge : Frame limits (10 ∷ []) (4 ∷ []) t endsListed
+  pub before-merge : Frame limits (Column.pathVertex ∷ []) (Column.ends ∷ []) t endsListed
   before-merge = ends-frame new _ _ refl then listed-frame _ _ refl
 
-  long₁ : HasColumns t₁ (vertexArea limits) 24
-  long₁ = omega (arith, ends-frame new [] (4 ∷ []) refl .same-length, valid .long)
+  long₁ : HasColumns t₁ (vertexArea limits) Column.perVertex
+  long₁ = omega (arith, ends-frame new [] (Column.ends ∷ []) refl .same-length, valid .long)
 
   -- the first vertex written down
   pub first-item : itemOf endsListed (pathVertices limits 2) 0 ≡ a
   unfolding pathVertices listEnds
   first-item =
-      cell-put-other-item _ (vertexArea limits) 10 1 b 0 (λ q. omega arith)
-      ∙ cell-put-same t₁ (vertexArea limits) 24 10 0 a long₁ (omega arith) (omega (arith, two))
+      cell-put-other-item _ (vertexArea limits) Column.pathVertex 1 b 0 (λ q. omega arith)
+      ∙ cell-put-same t₁ (vertexArea limits) Column.perVertex Column.pathVertex 0 a long₁ (omega arith) (omega (arith, two))
 
   -- the second
   pub second-item : itemOf endsListed (pathVertices limits 2) 1 ≡ b
   unfolding pathVertices listEnds
   second-item =
       cell-put-same
-      (put t₁ (vertexArea limits) 10 0 a)
+      (put t₁ (vertexArea limits) Column.pathVertex 0 a)
       (vertexArea limits)
-      24
-      10
+      Column.perVertex
+      Column.pathVertex
       1
       b
-      (rw (length-put t₁ (vertexArea limits) 10 0 a) long₁)
+      (rw (length-put t₁ (vertexArea limits) Column.pathVertex 0 a) long₁)
       (omega arith)
       (omega (arith, two))
 
@@ -185,7 +187,7 @@ module _ (new : EdgeToAdd) where
       _
       (component-groups g)
       (component-groups _)
-      (kind-same (same-components before-merge n (valid .vertices-fit) refl refl refl) (valid .components))
+      (kind-same (same-components before-merge n (valid .vertices-fit) refl) (valid .components))
       (pathVertices limits 2)
       outside
       a

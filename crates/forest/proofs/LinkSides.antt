@@ -14,10 +14,12 @@ use Rattle.graph.proofs.Below.{listed-same}
 use Rattle.graph.proofs.Mates.{component-sym, component-trans, component-swap}
 use Rattle.naming.specs.Rename.{size}
 use Rattle.naming.proofs.Merge.{inMerged}
+use Rattle.table.specs.Inside.Column
 use Rattle.table.specs.Inside.Layout.{cell, vertexArea}
 use Rattle.table.specs.Inside.Merge.{nameIn, sizeIn, itemsFrom, betterName, bestOver, bestListed}
 use Rattle.table.proofs.KindNames.{name-known, same-group}
 use Rattle.forest.specs.Inside.Tree.{pathVertices}
+use Rattle.forest.proofs.KindWords.{SameWords}
 use Rattle.forest.proofs.Frames.{same-components}
 use Rattle.forest.proofs.EdgeToAdd.{EdgeToAdd, before, Apart, endsStored, ends-frame}
 use Rattle.forest.proofs.LinkMerge.{inEither, better-cases, endsListed, merge, keptName, before-merge, first-item, second-item, law}
@@ -52,19 +54,19 @@ module _ (new : EdgeToAdd) where
   abbrev name : ℕ → ℕ
   name x = nameIn t (vertexArea limits) x
 
-  word₂ : (c x : ℕ) → c < 3 → x < n → cell t₂ (vertexArea limits) c x ≡ cell t (vertexArea limits) c x
-  word₂ = same-components (before-merge new) n (valid .vertices-fit) refl refl refl
+  word₂ : SameWords t t₂ (vertexArea limits) n
+  word₂ = same-components (before-merge new) n (valid .vertices-fit) refl
 
   size-of : (x : ℕ) → x < n → sizeIn t₂ (vertexArea limits) (name x) ≡ size n (component g) x
-  size-of x h = word₂ 1 (name x) (omega arith) (name-known (valid .components) x h) ∙ valid .components .sized x h
+  size-of x h = word₂ Column.size (name x) refl (name-known (valid .components) x h) ∙ valid .components .sized x h
 
   best-is : w ≡ betterName t₂ (vertexArea limits) (name a) (name b)
   unfolding bestListed bestOver itemsFrom pathVertices
   best-is =
       ap₂
       (betterName t₂ (vertexArea limits))
-      (ap (nameIn t₂ (vertexArea limits)) (first-item new) ∙ word₂ 0 a (omega arith) a-known)
-      (ap (nameIn t₂ (vertexArea limits)) (second-item new) ∙ word₂ 0 b (omega arith) b-known)
+      (ap (nameIn t₂ (vertexArea limits)) (first-item new) ∙ word₂ Column.name a refl a-known)
+      (ap (nameIn t₂ (vertexArea limits)) (second-item new) ∙ word₂ Column.name b refl b-known)
 
   -- The end that loses its component's name, and the one that keeps it.
   abbrev pub loser : ℕ
@@ -78,7 +80,7 @@ module _ (new : EdgeToAdd) where
   sides apart = go (better-cases t₂ (vertexArea limits) (name a) (name b))
     where
       name₁ : nameIn t₁ (vertexArea limits) a ≡ name a
-      name₁ = ends-frame new [] (4 ∷ []) refl .vertex-word 0 a (omega arith) (omega (arith, valid .vertices-fit)) refl
+      name₁ = ends-frame new [] (Column.ends ∷ []) refl .vertex-word Column.name a (omega arith) (omega (arith, valid .vertices-fit)) refl
 
       go : ((betterName t₂ (vertexArea limits) (name a) (name b) ≡ name a) × (sizeIn t₂ (vertexArea limits) (name b) ≤ sizeIn t₂ (vertexArea limits) (name a)))
           ⊎ ((betterName t₂ (vertexArea limits) (name a) (name b) ≡ name b) × (sizeIn t₂ (vertexArea limits) (name a) ≤ sizeIn t₂ (vertexArea limits) (name b)))
@@ -130,7 +132,7 @@ module _ (new : EdgeToAdd) where
         go : (inMerged (component g) (a ∷ b ∷ []) x ≡ true) ⊎ (inMerged (component g) (a ∷ b ∷ []) x ≡ false)
             → not (eqb (nameIn t₂ (vertexArea limits) x) (nameIn t₃ (vertexArea limits) x)) ≡ component g u x
         go (inl q) =
-            ap₂ (λ i j. not (eqb i j)) (word₂ 0 x (omega arith) h) (law new .taken x h q ∙ sym (s .winner))
+            ap₂ (λ i j. not (eqb i j)) (word₂ Column.name x refl h) (law new .taken x h q ∙ sym (s .winner))
             ∙ ap not (sym (same-group (valid .components) x v h (s .winner-known)))
             ∙ side (or-cases (component g u x) (component g v x) (sym (either-side x) ∙ q))
         go (inr q) =
@@ -139,5 +141,5 @@ module _ (new : EdgeToAdd) where
             ∙ sym (or-neither-left (component g u x) (component g v x) (sym (either-side x) ∙ q))
 
     -- they are written down
-    pub changed-are : tabulate (merge new .count) (cell (merge new .table) (vertexArea limits) 3) ≡ listed n (component (before new) u)
+    pub changed-are : tabulate (merge new .count) (cell (merge new .table) (vertexArea limits) Column.changed) ≡ listed n (component (before new) u)
     changed-are = law new .changed ∙ listed-same n _ _ changes

@@ -4,12 +4,14 @@ use mathlib.Core.List.{List}
 use mathlib.Core.Logic.{_⊎_, inl, inr}
 use mathlib.Core.Path.{_≡_, refl, sym, _∙_}
 use Prim.Native.Nat.{ℕ}
-use Rattle.graph.specs.Network.{Network, Edge, touches}
+use Rattle.graph.specs.Network.{Network, Edge, touches, edgeBetween}
 use Rattle.graph.specs.Groups.{component}
 use Rattle.graph.proofs.Truth.{or-left, or-right, and-both}
 use Rattle.graph.proofs.Mates.{component-refl}
 use Rattle.graph.proofs.Ends.{touches-left, touches-right, touches-ends}
-use Rattle.forest.proofs.Frames.{among, Frame, _then_, frame-merge}
+use Rattle.table.specs.Inside.Column
+use Rattle.forest.proofs.Columns.{among, within, componentColumns}
+use Rattle.forest.proofs.Frames.{Frame, _then_, frame-merge}
 use Rattle.forest.proofs.EdgeToAdd.{EdgeToAdd, edgeOf, before, Apart, endsStored, ends-frame}
 use Rattle.forest.proofs.LinkMerge.{component-merges, endsListed, merge, listed-frame, law}
 use Rattle.forest.proofs.LinkSides.{Sides, loser, winner, either-side, sides, changed-are}
@@ -25,21 +27,22 @@ module _ (new : EdgeToAdd) where
   e = edgeOf new
 
   -- what is stored before the hanging
-  pub merged-frame : (vs es : List ℕ) → among vs 0 ≡ true → among vs 1 ≡ true → among vs 2 ≡ true → among vs 3 ≡ true → among vs 10 ≡ true
+  pub merged-frame : (vs es : List ℕ) → within componentColumns vs ≡ true → among vs Column.pathVertex ≡ true
       → Frame limits vs es (endsStored new) (merge new .table)
-  merged-frame vs es p q r s i =
+  merged-frame vs es p i =
       listed-frame new vs es i
-      then frame-merge limits vs es (endsListed new) (merge new .table) (law new .kept) p q r s
+      then frame-merge limits vs es (endsListed new) (merge new .table) (law new .kept) p
 
   -- all that the hanging asks for
   pub linking : Apart new → Linking new (merge new .table) (merge new .count) (loser new) (winner new)
+  unfolding edgeBetween
   linking apart = go (loser new) (winner new) (sides new apart)
     where
       go : (u v : ℕ) → Sides new u v → Linking new (merge new .table) (merge new .count) u v
       go u v s =
           record {
             apart = apart;
-            frame = ends-frame new _ _ refl then merged-frame _ _ refl refl refl refl refl;
+            frame = ends-frame new _ _ refl then merged-frame _ _ refl refl;
             changed = changed-are new s;
             at-loser = at-loser (s .ends);
             at-winner = at-winner (s .ends);

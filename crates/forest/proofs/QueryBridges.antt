@@ -8,14 +8,15 @@ use native.Mathlib.Numerals.{add-one}
 use native.Mathlib.Omega.{arith}
 use lib.Dec.{eqb}
 use Rattle.graph.specs.Below.{tabulate}
-use Rattle.graph.specs.Network.{Network, never}
+use Rattle.graph.specs.Network.{Network}
 use Rattle.graph.specs.Groups.{component, bridgeBlock}
 use Rattle.graph.specs.Cycle.{Step}
 use Rattle.graph.specs.Between.{bridgesBetween}
 use Rattle.graph.proofs.Truth.{true-or-false, or-neither-right}
-use Rattle.graph.proofs.BaseRule.{partingEdges, bridges-of-block-path-never}
+use Rattle.graph.proofs.PathEdges.{partingEdges, bridges-of-parting-edges}
 use Rattle.naming.proofs.Listed.{tabulate-same, tabulate-first}
 use Rattle.numbers.specs.declared.Limits.{Limits}
+use Rattle.table.specs.Inside.Column
 use Rattle.table.specs.Inside.Layout.{cell, put, vertexArea, bridgeBlockArea}
 use Rattle.table.proofs.Cells.{HasColumns, cell-put-same, cell-put-other-item, cell-bridge-block}
 use Rattle.forest.specs.declared.Shape.{Shape}
@@ -24,6 +25,7 @@ use Rattle.forest.specs.Inside.Route.{stepAt, stepsOf}
 use Rattle.forest.specs.Inside.Valid.{Valid, networkOf, bookOf}
 use Rattle.forest.specs.Inside.Queries.{Found, bridgesWritten, bridgeBlocksDiffer, findTable, findCount, findFrom, bridgesFound}
 use Rattle.forest.specs.Promise.{Holds, stateOf, networkIn, bridgeAt, ListWritten}
+use Rattle.forest.proofs.Networks.{network-rule, each-least}
 use Rattle.forest.proofs.Frames.{Frame, frame-none, _then_, frame-vertex}
 use Rattle.forest.proofs.ClimbTable.{Scratched}
 use Rattle.forest.proofs.ClimbLaw.{Climbs, climb-law}
@@ -32,16 +34,16 @@ use Rattle.forest.proofs.QueryNames.{bridge-blocks-differ}
 
 -- The second table differs from the first at most where bridges are written down.
 abbrev Noted : Limits → List ℕ → List ℕ → Type 0
-Noted limits t t′ = Frame limits (13 ∷ []) [] t t′
+Noted limits t t′ = Frame limits (Column.rightEdge ∷ []) [] t t′
 
 -- a bridge written down behind others
-bridges-more : (t : List ℕ) (limits : Limits) (count e : ℕ) → HasColumns t (vertexArea limits) 24 → count < limits .vertices
-    → bridgesWritten limits (suc count) (put t (vertexArea limits) 13 count e) ≡ bridgesWritten limits count t ++ e ∷ []
+bridges-more : (t : List ℕ) (limits : Limits) (count e : ℕ) → HasColumns t (vertexArea limits) Column.perVertex → count < limits .vertices
+    → bridgesWritten limits (suc count) (put t (vertexArea limits) Column.rightEdge count e) ≡ bridgesWritten limits count t ++ e ∷ []
 unfolding bridgesWritten tabulate
 bridges-more t limits count e has h =
     ap₂ (λ (l : List ℕ) (x : ℕ). l ++ x ∷ [])
-    (tabulate-same count _ _ (λ i l. cell-put-other-item t (vertexArea limits) 13 count e i (λ z. omega arith)))
-    (cell-put-same t (vertexArea limits) 24 13 count e has (omega arith) h)
+    (tabulate-same count _ _ (λ i l. cell-put-other-item t (vertexArea limits) Column.rightEdge count e i (λ z. omega arith)))
+    (cell-put-same t (vertexArea limits) Column.perVertex Column.rightEdge count e has (omega arith) h)
 
 module _ (t : List ℕ) (limits : Limits) where
   -- The edges of the k steps from step i on whose two vertices have different bridge-block names.
@@ -56,7 +58,7 @@ record Finds (t : List ℕ) (limits : Limits) (i k count : ℕ) (u : List ℕ) (
   frame : Noted limits t (found .table)
   written : bridgesWritten limits (found .count) (found .table) ≡ bridgesWritten limits count u ++ parted t limits i k
 
-module _ (t : List ℕ) (limits : Limits) (steps : ℕ) (few : steps < limits .vertices) (has : HasColumns t (vertexArea limits) 24)
+module _ (t : List ℕ) (limits : Limits) (steps : ℕ) (few : steps < limits .vertices) (has : HasColumns t (vertexArea limits) Column.perVertex)
     (known : (i : ℕ) → i ≤ steps → pathVertex t limits i < limits .vertices) where
   -- whether bridge-block names differ does not change on the way
   bridge-blocks-kept : (u : List ℕ) → Noted limits t u → (i : ℕ) → i < steps
@@ -66,12 +68,12 @@ module _ (t : List ℕ) (limits : Limits) (steps : ℕ) (few : steps < limits .v
   bridge-blocks-kept u f i h = rw add-one (ap₂ (λ (v w : ℕ). not (eqb v w)) (name i (omega arith)) (name (suc i) h))
     where
       name : (j : ℕ) → j ≤ steps
-          → cell u (bridgeBlockArea limits) 0 (pathVertex u limits j) ≡ cell t (bridgeBlockArea limits) 0 (pathVertex t limits j)
+          → cell u (bridgeBlockArea limits) Column.name (pathVertex u limits j) ≡ cell t (bridgeBlockArea limits) Column.name (pathVertex t limits j)
       name j l =
-          ap (cell u (bridgeBlockArea limits) 0) (f .vertex-word 10 j (omega arith) (omega arith) refl)
-          ∙ cell-bridge-block limits u 0 (pathVertex t limits j)
-          ∙ f .vertex-word 4 (pathVertex t limits j) (omega arith) (known j l) refl
-          ∙ sym (cell-bridge-block limits t 0 (pathVertex t limits j))
+          ap (cell u (bridgeBlockArea limits) Column.name) (f .vertex-word Column.pathVertex j (omega arith) (omega arith) refl)
+          ∙ cell-bridge-block limits u Column.name (pathVertex t limits j)
+          ∙ f .vertex-word (Column.ofBridgeBlocks Column.name) (pathVertex t limits j) (omega arith) (known j l) refl
+          ∙ sym (cell-bridge-block limits t Column.name (pathVertex t limits j))
 
   -- the k steps from step i on, followed with the table u and a count at hand
   find-from : (k i count : ℕ) (u : List ℕ) → count ≤ i → i + k ≤ steps → Noted limits t u
@@ -87,13 +89,13 @@ module _ (t : List ℕ) (limits : Limits) (steps : ℕ) (few : steps < limits .v
       y = pathVertex t limits (suc i)
 
       edge : pathEdge u limits i ≡ pathEdge t limits i
-      edge = f .vertex-word 11 i (omega arith) (omega arith) refl
+      edge = f .vertex-word Column.pathEdge i (omega arith) (omega arith) refl
 
       u₁ : List ℕ
-      u₁ = put u (vertexArea limits) 13 count (pathEdge t limits i)
+      u₁ = put u (vertexArea limits) Column.rightEdge count (pathEdge t limits i)
 
       noted : Noted limits u u₁
-      noted = frame-vertex limits (13 ∷ []) [] u 13 count (pathEdge t limits i) (omega arith) (omega arith) refl
+      noted = frame-vertex limits (Column.rightEdge ∷ []) [] u Column.rightEdge count (pathEdge t limits i) (omega arith) (omega arith) refl
 
       more : bridgesWritten limits (suc count) u₁ ≡ bridgesWritten limits count u ++ pathEdge t limits i ∷ []
       more = bridges-more u limits count (pathEdge t limits i) (rw (f .same-length) has) (omega arith)
@@ -144,11 +146,6 @@ parted-edges {limits} {n} {m} {t} valid steps known (suc k) i step h f =
     later : (j : ℕ) → j < k → step (suc j) ≡ stepAt t limits (suc i + j)
     later j l = f (suc j) (omega arith) ∙ ap (stepAt t limits) (omega arith)
 
--- no edge of a table's network has another mate
-network-never : (limits : Limits) (n m : ℕ) (t : List ℕ) → networkOf limits n m t .rule ≡ never
-unfolding networkOf
-network-never limits n m t = refl
-
 -- bridges are written down in a column of the path
 noted-scratched : (limits : Limits) (t t′ : List ℕ) → Noted limits t t′ → Scratched limits t t′
 noted-scratched limits t t′ f =
@@ -156,7 +153,7 @@ noted-scratched limits t t′ f =
       same-length = f .same-length;
       vertex-word = λ c x h l o.
           f .vertex-word c x h l
-          (or-neither-right (eqb c 12) _ (or-neither-right (eqb c 11) _ (or-neither-right (eqb c 10) _ o)));
+          (or-neither-right (eqb c Column.rightVertex) _ (or-neither-right (eqb c Column.pathEdge) _ (or-neither-right (eqb c Column.pathVertex) _ o)));
       edge-word = f .edge-word;
       beyond = f .beyond;
     }
@@ -197,7 +194,7 @@ bridges-written shape t holds a b h l joined =
         (λ i j. omega (arith, c .vertices-known i j, holds .vertices-fit)) k 0 0 t₁ (omega arith) (omega arith) frame-none
 
     between : bridgesBetween g a b ≡ partingEdges g a (stepsOf t₁ limits k)
-    between = bridges-of-block-path-never g (holds .proper) (network-never limits n m t) (c .path)
+    between = bridges-of-parting-edges g (holds .proper) (network-rule limits n m t) (each-least limits n m t) (c .path)
 
     edges : bridgesWritten limits 0 t₁ ++ parted t₁ limits 0 k ≡ partingEdges g a (stepsOf t₁ limits k)
     edges =

@@ -3,7 +3,7 @@ use mathlib.Core.Bool.{not}
 use mathlib.Core.List.{List}
 use mathlib.Core.Path.{_≡_, sym, _∙_, ap}
 use Prim.Native.Nat.{ℕ, _<_}
-use Rattle.graph.specs.Network.{Network, Edge, edge, edgeCount}
+use Rattle.graph.specs.Network.{Network, Edge, edgeBetween, edge, edgeCount}
 use Rattle.graph.specs.Groups.{bridge, bridgeBlock}
 use Rattle.graph.proofs.BridgeBlock.{bridge-parts-bridge-blocks}
 use Rattle.naming.specs.Rename.{size, nameOf}
@@ -45,7 +45,7 @@ group-size shape t holds G.BridgeBlocks x h = holds .bridge-blocks .sized x h
 -- edge s of a table's network has the ends that the table has for it
 pub network-edge : (limits : Limits) (n m : ℕ) (t : List ℕ) (s : ℕ) → s < m → edge (networkOf limits n m t) s ≡ endsOf t limits s
 unfolding edge networkOf
-network-edge limits n m t s h = getD-tabulate m (endsOf t limits) (record { left = 0; right = 0 }) s h
+network-edge limits n m t s h = getD-tabulate m (endsOf t limits) (edgeBetween 0 0) s h
 
 module _ {limits : Limits} {n m : ℕ} {t : List ℕ} (valid : Valid limits n m t) where
   abbrev g : Network
@@ -58,7 +58,7 @@ module _ {limits : Limits} {n m : ℕ} {t : List ℕ} (valid : Valid limits n m 
 
   -- an edge is a bridge exactly if the bridge-block names of its ends differ
   pub bridge-in : (s : ℕ) → s < m → bridgeIn t limits s ≡ bridge g s
-  unfolding bridgeIn endsOf networkOf
+  unfolding edgeBetween bridgeIn endsOf networkOf
   bridge-in s h =
       ap (λ (e : Edge). bridgeBlocksDiffer t limits (e .left) (e .right)) (sym (network-edge limits n m t s h))
       ∙ bridge-blocks-differ (edge g s .left) (edge g s .right) (valid .proper .left-known s known) (valid .proper .right-known s known)

@@ -7,6 +7,7 @@ use native.Mathlib.Numerals.{add-one}
 use native.Mathlib.Omega.{arith}
 use lib.Dec.{eqb}
 use Rattle.numbers.specs.declared.Limits.{Limits}
+use Rattle.table.specs.Inside.Column
 use Rattle.table.specs.Inside.Layout.{cell, put, vertexArea}
 use Rattle.forest.specs.declared.tree.Turning.{Turning}
 use Rattle.forest.specs.declared.climb.Trail.{Trail}
@@ -18,8 +19,8 @@ use Rattle.forest.proofs.ClimbSteps.{recorded-steps, kept-most, reach-m
 -- the next changed vertex is raised, and then the rest
 pub raise-step : (t : List ℕ) (limits : Limits) (by i n : ℕ) → i < n
     → raiseFrom (n - i) t limits by i
-    ≡ (let x = cell t (vertexArea limits) 3 i in
-    raiseFrom (n - (i + 1)) (put t (vertexArea limits) 9 x ((depthOf t limits x + by) % 2 ^ 32)) limits by (i + 1))
+    ≡ (let x = cell t (vertexArea limits) Column.changed i in
+    raiseFrom (n - (i + 1)) (put t (vertexArea limits) Column.depth x ((depthOf t limits x + by) % 2 ^ 32)) limits by (i + 1))
 unfolding raiseFrom
 raise-step t limits by i n h = let e : n - i ≡ suc (n - (i + 1)) = omega arith in rw (e, add-one i)
 
@@ -88,7 +89,7 @@ climbed-most (suc k) t limits r =
 pub route-most : (t : List ℕ) (limits : Limits) (a b : ℕ) → climbRoute t limits a b .steps ≤ 2147483648
 unfolding climbRoute climbBoth
 route-most t limits a b =
-    let t₁ = put t (vertexArea limits) 10 0 a in
+    let t₁ = put t (vertexArea limits) Column.pathVertex 0 a in
     let k = reach t₁ limits a b in
     let r : Trail = record { a = record { 0 = a }; b = record { 0 = b }; left = 0; right = 0 } in
     let c = climbFrom k t₁ limits r in

@@ -11,15 +11,17 @@ use Rattle.graph.specs.Network.{Network}
 use Rattle.graph.specs.Block.{block}
 use Rattle.graph.proofs.Truth.{not-both}
 use Rattle.numbers.specs.declared.Limits.{Limits}
+use Rattle.table.specs.Inside.Column
 use Rattle.table.specs.Inside.Layout.{cell, put, vertexArea, edgeArea}
 use Rattle.table.specs.Inside.KindValid.{KindValid}
-use Rattle.table.proofs.Cells.{length-put, cell-put-same, cell-put-other-column, cell-put-other-item, cell-vertex-after-edge}
+use Rattle.table.proofs.Cells.{length-put, cell-put-same, cell-put-other-column, cell-put-other-item, cell-vertex-after-edge, cell-put-elsewhere}
 use Rattle.table.proofs.KindNames.{name-known, one-name, one-group}
 use Rattle.forest.specs.Inside.Climb.{upOf, depthOf, blockOf, aboveEdge}
 use Rattle.forest.specs.Inside.Tree.{turnFrom, hungVertex, hungBlock}
 use Rattle.forest.specs.Inside.Valid.{ForestValid}
-use Rattle.forest.proofs.KindWords.{kind-same, cell-put-elsewhere}
-use Rattle.forest.proofs.Frames.{among, Frame, _then_, frame-vertex, frame-edge, same-blocks, same-above}
+use Rattle.forest.proofs.Columns.{among}
+use Rattle.forest.proofs.KindWords.{kind-same}
+use Rattle.forest.proofs.Frames.{Frame, _then_, frame-vertex, frame-edge, same-blocks, same-above}
 use Rattle.forest.proofs.Turn.{Dangling, HungAnew, hangs}
 use Rattle.forest.proofs.TurnSteps.{Way, way-deep, turn-ends, turn-goes-on, way-goes-on}
 
@@ -39,10 +41,10 @@ turn-step k t limits x up depth r u = rw (u, sub-one (suc r), eqb·suc-zero r)
 -- What turning leaves: a valid forest, and all other words as they were.
 pub record Turned (limits : Limits) (n m : ℕ) (g : Network) (t t′ : List ℕ) : Type 0 where
   pub forest : ForestValid t′ limits n m g
-  pub frame : (vs es : List ℕ) → among vs 8 ≡ true → among vs 9 ≡ true → among es 5 ≡ true → Frame limits vs es t t′
+  pub frame : (vs es : List ℕ) → among vs Column.up ≡ true → among vs Column.depth ≡ true → among es Column.top ≡ true → Frame limits vs es t t′
 
 module _ (limits : Limits) (n m : ℕ) (g : Network) (vertices-fit : n ≤ limits .vertices) (edges-fit : m ≤ limits .edges) where
-  module _ (t : List ℕ) (long : limits .vertices * 24 + limits .edges * 8 ≤ length t) (blocks : KindValid t (edgeArea limits) m (block g))
+  module _ (t : List ℕ) (long : limits .vertices * Column.perVertex + limits .edges * Column.perEdge ≤ length t) (blocks : KindValid t (edgeArea limits) m (block g))
       (x s d : ℕ) (h : x < n) where
     abbrev t₁ : List ℕ
     t₁ = hungVertex t limits x (suc s) d
@@ -50,48 +52,48 @@ module _ (limits : Limits) (n m : ℕ) (g : Network) (vertices-fit : n ≤ limit
     fits : x < limits .vertices
     fits = omega arith
 
-    frame₁ : (vs es : List ℕ) → among vs 8 ≡ true → among vs 9 ≡ true → Frame limits vs es t t₁
+    frame₁ : (vs es : List ℕ) → among vs Column.up ≡ true → among vs Column.depth ≡ true → Frame limits vs es t t₁
     unfolding hungVertex
     frame₁ vs es p q =
-        frame-vertex limits vs es t 8 x (suc s) (omega arith) fits p then frame-vertex limits vs es _ 9 x d (omega arith) fits q
+        frame-vertex limits vs es t Column.up x (suc s) (omega arith) fits p then frame-vertex limits vs es _ Column.depth x d (omega arith) fits q
 
     above₁ : (e : ℕ) → e < m → aboveEdge t₁ limits e ≡ aboveEdge t limits e
-    above₁ e l = same-above (frame₁ (8 ∷ 9 ∷ []) [] refl refl) e (omega arith) (omega (arith, name-known blocks e l)) refl refl
+    above₁ e l = same-above (frame₁ (Column.up ∷ Column.depth ∷ []) [] refl refl) e (omega arith) (omega (arith, name-known blocks e l)) refl refl
 
     up-here₁ : upOf t₁ limits x ≡ suc s
     unfolding hungVertex
     up-here₁ =
-        cell-put-other-column _ (vertexArea limits) 9 x d 8 x fits fits (λ e. omega arith)
-        ∙ cell-put-same t (vertexArea limits) 24 8 x (suc s) (omega arith) (omega arith) fits
+        cell-put-other-column _ (vertexArea limits) Column.depth x d Column.up x fits fits (λ e. omega arith)
+        ∙ cell-put-same t (vertexArea limits) Column.perVertex Column.up x (suc s) (omega arith) (omega arith) fits
 
     depth-here₁ : depthOf t₁ limits x ≡ d
     unfolding hungVertex
     depth-here₁ =
         cell-put-same
-        (put t (vertexArea limits) 8 x (suc s))
+        (put t (vertexArea limits) Column.up x (suc s))
         (vertexArea limits)
-        24
-        9
+        Column.perVertex
+        Column.depth
         x
         d
-        (omega (arith, length-put t (vertexArea limits) 8 x (suc s)))
+        (omega (arith, length-put t (vertexArea limits) Column.up x (suc s)))
         (omega arith)
         fits
 
     else₁ : (c y : ℕ) → y < n → (x ≡ y → ⊥) → cell t₁ (vertexArea limits) c y ≡ cell t (vertexArea limits) c y
     unfolding hungVertex
     else₁ c y l q =
-        cell-put-elsewhere _ (vertexArea limits) 9 x d c y fits (omega arith) q
-        ∙ cell-put-elsewhere t (vertexArea limits) 8 x (suc s) c y fits (omega arith) q
+        cell-put-elsewhere _ (vertexArea limits) Column.depth x d c y fits (omega arith) q
+        ∙ cell-put-elsewhere t (vertexArea limits) Column.up x (suc s) c y fits (omega arith) q
 
     hung-root : upOf t limits x ≡ 0 → HungAnew t t₁ limits n m g x s d
     unfolding hangs
     hung-root u =
         record {
           up-here = up-here₁;
-          up-else = else₁ 8;
+          up-else = else₁ Column.up;
           depth-here = depth-here₁;
-          depth-else = else₁ 9;
+          depth-else = else₁ Column.depth;
           above-here = λ e l q. absurd (not-both q (ap (λ k. hangs g k e) u));
           above-else = λ e l q. above₁ e l;
         }
@@ -101,60 +103,60 @@ module _ (limits : Limits) (n m : ℕ) (g : Network) (vertices-fit : n ≤ limit
       t₂ = hungBlock (hungVertex t limits x (suc s) d) limits r x
 
       block₁ : (e : ℕ) → e < m → blockOf t₁ limits e ≡ blockOf t limits e
-      block₁ e k = frame₁ (8 ∷ 9 ∷ []) [] refl refl .edge-word 0 e (omega arith) (omega arith) refl
+      block₁ e k = frame₁ (Column.up ∷ Column.depth ∷ []) [] refl refl .edge-word Column.name e (omega arith) (omega arith) refl
 
       block-fits : blockOf t₁ limits r < limits .edges
       block-fits = omega (arith, block₁ r l, name-known blocks r l)
 
-      frame₂ : (vs es : List ℕ) → among vs 8 ≡ true → among vs 9 ≡ true → among es 5 ≡ true → Frame limits vs es t t₂
+      frame₂ : (vs es : List ℕ) → among vs Column.up ≡ true → among vs Column.depth ≡ true → among es Column.top ≡ true → Frame limits vs es t t₂
       unfolding hungBlock
       frame₂ vs es p q o =
-          frame₁ vs es p q then frame-edge limits vs es t₁ 5 (blockOf t₁ limits r) x (omega arith) block-fits o
+          frame₁ vs es p q then frame-edge limits vs es t₁ Column.top (blockOf t₁ limits r) x (omega arith) block-fits o
 
       block₂ : (e : ℕ) → e < m → blockOf t₂ limits e ≡ blockOf t limits e
-      block₂ e k = frame₂ (8 ∷ 9 ∷ []) (5 ∷ []) refl refl refl .edge-word 0 e (omega arith) (omega arith) refl
+      block₂ e k = frame₂ (Column.up ∷ Column.depth ∷ []) (Column.top ∷ []) refl refl refl .edge-word Column.name e (omega arith) (omega arith) refl
 
-      vertex₂ : (c y : ℕ) → c < 24 → y < n → cell t₂ (vertexArea limits) c y ≡ cell t₁ (vertexArea limits) c y
+      vertex₂ : (c y : ℕ) → c < Column.perVertex → y < n → cell t₂ (vertexArea limits) c y ≡ cell t₁ (vertexArea limits) c y
       unfolding hungBlock
-      vertex₂ c y i k = cell-vertex-after-edge limits t₁ 5 (blockOf t₁ limits r) x c y i (omega arith)
+      vertex₂ c y i k = cell-vertex-after-edge limits t₁ Column.top (blockOf t₁ limits r) x c y i (omega arith)
 
       moved-top : (e : ℕ) → e < m → block g e r ≡ true → aboveEdge t₂ limits e ≡ x
       unfolding hungBlock aboveEdge
       moved-top e k b =
-          ap (cell t₂ (edgeArea limits) 5) (block₂ e k ∙ one-name blocks e r k l b ∙ sym (block₁ r l))
+          ap (cell t₂ (edgeArea limits) Column.top) (block₂ e k ∙ one-name blocks e r k l b ∙ sym (block₁ r l))
           ∙ cell-put-same
           t₁
           (edgeArea limits)
-          8
-          5
+          Column.perEdge
+          Column.top
           (blockOf t₁ limits r)
           x
-          (omega (arith, frame₁ (8 ∷ 9 ∷ []) [] refl refl .same-length))
+          (omega (arith, frame₁ (Column.up ∷ Column.depth ∷ []) [] refl refl .same-length))
           (omega arith)
           block-fits
 
       other-top : (e : ℕ) → e < m → block g e r ≡ false → aboveEdge t₂ limits e ≡ aboveEdge t limits e
       unfolding hungBlock aboveEdge
       other-top e k b =
-          ap (cell t₂ (edgeArea limits) 5) (block₂ e k)
+          ap (cell t₂ (edgeArea limits) Column.top) (block₂ e k)
           ∙ cell-put-other-item
           t₁
           (edgeArea limits)
-          5
+          Column.top
           (blockOf t₁ limits r)
           x
           (blockOf t limits e)
           (λ q. not-both (one-group blocks e r k l (sym (sym (block₁ r l) ∙ q))) b)
-          ∙ frame₁ (8 ∷ 9 ∷ []) [] refl refl .edge-word 5 (blockOf t limits e) (omega arith) (omega (arith, name-known blocks e k)) refl
+          ∙ frame₁ (Column.up ∷ Column.depth ∷ []) [] refl refl .edge-word Column.top (blockOf t limits e) (omega arith) (omega (arith, name-known blocks e k)) refl
 
       hung-step : HungAnew t t₂ limits n m g x s d
       unfolding hangs
       hung-step =
           record {
-            up-here = vertex₂ 8 x (omega arith) h ∙ up-here₁;
-            up-else = λ y k q. vertex₂ 8 y (omega arith) k ∙ else₁ 8 y k q;
-            depth-here = vertex₂ 9 x (omega arith) h ∙ depth-here₁;
-            depth-else = λ y k q. vertex₂ 9 y (omega arith) k ∙ else₁ 9 y k q;
+            up-here = vertex₂ Column.up x (omega arith) h ∙ up-here₁;
+            up-else = λ y k q. vertex₂ Column.up y (omega arith) k ∙ else₁ Column.up y k q;
+            depth-here = vertex₂ Column.depth x (omega arith) h ∙ depth-here₁;
+            depth-else = λ y k q. vertex₂ Column.depth y (omega arith) k ∙ else₁ Column.depth y k q;
             above-here = λ e k q. moved-top e k (sym (ap (λ v. hangs g v e) u) ∙ q);
             above-else = λ e k q. other-top e k (sym (ap (λ v. hangs g v e) u) ∙ q);
           }
@@ -162,7 +164,7 @@ module _ (limits : Limits) (n m : ℕ) (g : Network) (vertices-fit : n ≤ limit
   -- Turning with k steps left a way up from a vertex that dangles leaves a valid forest.
   abbrev pub Turns : ℕ → Type 0
   Turns k =
-      (t : List ℕ) → limits .vertices * 24 + limits .edges * 8 ≤ length t → KindValid t (edgeArea limits) m (block g)
+      (t : List ℕ) → limits .vertices * Column.perVertex + limits .edges * Column.perEdge ≤ length t → KindValid t (edgeArea limits) m (block g)
       → (x s d low : ℕ)
       → Dangling t limits n m g x s d
       → Way t limits low k x
@@ -203,7 +205,7 @@ module _ (limits : Limits) (n m : ℕ) (g : Network) (vertices-fit : n ≤ limit
               later
               t₂
               (omega (arith, frame .same-length))
-              (kind-same (same-blocks frame m edges-fit refl refl refl) blocks)
+              (kind-same (same-blocks frame m edges-fit refl) blocks)
               (aboveEdge t limits r)
               r
               (suc d)
@@ -213,7 +215,7 @@ module _ (limits : Limits) (n m : ℕ) (g : Network) (vertices-fit : n ≤ limit
               (omega arith)
               small
             where
-              frame : Frame limits (8 ∷ 9 ∷ []) (5 ∷ []) t t₂
+              frame : Frame limits (Column.up ∷ Column.depth ∷ []) (Column.top ∷ []) t t₂
               frame = frame₂ t long blocks x s d h r l u _ _ refl refl refl
 
           join : Turned limits n m g t₂ (turnFrom k t₂ limits (aboveEdge t limits r) (suc r) (suc d))

@@ -10,22 +10,24 @@ use Rattle.graph.proofs.Ends.{touched-known}
 use Rattle.naming.specs.Book.{Book}
 use Rattle.naming.specs.State.{State}
 use Rattle.numbers.specs.declared.Limits.{Limits}
+use Rattle.table.specs.Inside.Column
 use Rattle.table.specs.Inside.Layout.{cell, vertexArea, bridgeBlockArea, edgeArea}
 use Rattle.table.proofs.KindNames.{name-known}
 use Rattle.forest.specs.Inside.Climb.{upOf, depthOf, aboveEdge}
 use Rattle.forest.specs.Inside.Valid.{networkOf, bookOf, HangsBelow, ForestValid, Valid}
 use Rattle.forest.specs.declared.Shape.{Shape}
 use Rattle.forest.specs.Promise.{Holds, stateOf, ListWritten}
+use Rattle.forest.proofs.Columns.{scratch}
 use Rattle.forest.proofs.KindWords.{names-same, kind-same}
 use Rattle.forest.proofs.Networks.{edge-count, network-same, book-is}
 use Rattle.forest.proofs.Frames.{Frame, frame-more, same-components, same-bridge-blocks, same-blocks, same-above}
-use Rattle.forest.proofs.ClimbTable.{scratch, Scratched}
+use Rattle.forest.proofs.ClimbTable.{Scratched}
 use Rattle.forest.proofs.Beyond.{frame-beyond}
 
 -- Only scratch columns change, and the ends of edges that are not entered yet.
 module _ {limits : Limits} {n m : ℕ} {t t′ : List ℕ} (valid : Valid limits n m t)
-    (f : Frame limits (3 ∷ 7 ∷ 10 ∷ 11 ∷ 12 ∷ 13 ∷ []) (3 ∷ 4 ∷ []) t t′)
-    (ends : (s : ℕ) → s < m → cell t′ (edgeArea limits) 4 s ≡ cell t (edgeArea limits) 4 s) where
+    (f : Frame limits (Column.changed ∷ Column.ofBridgeBlocks Column.changed ∷ scratch) (Column.changed ∷ Column.ends ∷ []) t t′)
+    (ends : (s : ℕ) → s < m → cell t′ (edgeArea limits) Column.ends s ≡ cell t (edgeArea limits) Column.ends s) where
   abbrev g : Network
   g = networkOf limits n m t
 
@@ -36,10 +38,10 @@ module _ {limits : Limits} {n m : ℕ} {t t′ : List ℕ} (valid : Valid limits
   known x h = omega (arith, valid .vertices-fit)
 
   up-same : (x : ℕ) → x < n → upOf t′ limits x ≡ upOf t limits x
-  up-same x h = f .vertex-word 8 x (omega arith) (known x h) refl
+  up-same x h = f .vertex-word Column.up x (omega arith) (known x h) refl
 
   depth-same : (x : ℕ) → x < n → depthOf t′ limits x ≡ depthOf t limits x
-  depth-same x h = f .vertex-word 9 x (omega arith) (known x h) refl
+  depth-same x h = f .vertex-word Column.depth x (omega arith) (known x h) refl
 
   above-same : (e : ℕ) → e < m → aboveEdge t′ limits e ≡ aboveEdge t limits e
   above-same e h =
@@ -81,22 +83,22 @@ module _ {limits : Limits} {n m : ℕ} {t t′ : List ℕ} (valid : Valid limits
         vertices-fit = valid .vertices-fit;
         edges-fit = valid .edges-fit;
         proper = rw same-network (valid .proper);
-        components = rw same-network (kind-same (same-components f n (valid .vertices-fit) refl refl refl) (valid .components));
-        bridge-blocks = rw same-network (kind-same (same-bridge-blocks f n (valid .vertices-fit) refl refl refl) (valid .bridge-blocks));
-        blocks = rw same-network (kind-same (same-blocks f m (valid .edges-fit) refl refl refl) (valid .blocks));
+        components = rw same-network (kind-same (same-components f n (valid .vertices-fit) refl) (valid .components));
+        bridge-blocks = rw same-network (kind-same (same-bridge-blocks f n (valid .vertices-fit) refl) (valid .bridge-blocks));
+        blocks = rw same-network (kind-same (same-blocks f m (valid .edges-fit) refl) (valid .blocks));
         forest = rw same-network forest-kept;
       }
 
 -- Only scratch words change: those of a path, and those of changed edges.
 abbrev pub ScratchOnly : Limits → List ℕ → List ℕ → Type 0
-ScratchOnly limits t t′ = Frame limits scratch (3 ∷ []) t t′
+ScratchOnly limits t t′ = Frame limits scratch (Column.changed ∷ []) t t′
 
 pub path-only : {limits : Limits} {t t′ : List ℕ} → Scratched limits t t′ → ScratchOnly limits t t′
 path-only f = frame-more f refl refl
 
 module _ {limits : Limits} {n m : ℕ} {t t′ : List ℕ} (valid : Valid limits n m t) (f : ScratchOnly limits t t′) where
-  ends-kept : (s : ℕ) → s < m → cell t′ (edgeArea limits) 4 s ≡ cell t (edgeArea limits) 4 s
-  ends-kept s h = f .edge-word 4 s (omega arith) (omega (arith, valid .edges-fit)) refl
+  ends-kept : (s : ℕ) → s < m → cell t′ (edgeArea limits) Column.ends s ≡ cell t (edgeArea limits) Column.ends s
+  ends-kept s h = f .edge-word Column.ends s (omega arith) (omega (arith, valid .edges-fit)) refl
 
   -- the network is the same
   pub frame-network : networkOf limits n m t′ ≡ networkOf limits n m t
@@ -112,9 +114,9 @@ module _ {limits : Limits} {n m : ℕ} {t t′ : List ℕ} (valid : Valid limits
   frame-book =
       book-is
       frame-network
-      (names-same t t′ (vertexArea limits) n (same-components f n (valid .vertices-fit) refl refl refl))
-      (names-same t t′ (bridgeBlockArea limits) n (same-bridge-blocks f n (valid .vertices-fit) refl refl refl))
-      (names-same t t′ (edgeArea limits) m (same-blocks f m (valid .edges-fit) refl refl refl))
+      (names-same t t′ (vertexArea limits) n (same-components f n (valid .vertices-fit) refl))
+      (names-same t t′ (bridgeBlockArea limits) n (same-bridge-blocks f n (valid .vertices-fit) refl))
+      (names-same t t′ (edgeArea limits) m (same-blocks f m (valid .edges-fit) refl))
 
 -- Of a shape: what the table holds is as before.
 module _ (shape : Shape) {t t′ : List ℕ} (holds : Holds shape t) (f : ScratchOnly (shape .limits) t t′) where

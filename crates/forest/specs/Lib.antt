@@ -1,2 +1,3 @@
+pub mod Rule
 pub mod Inside
 pub mod Promise

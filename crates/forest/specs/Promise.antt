@@ -7,12 +7,13 @@ use Prim.Native.Nat.{ℕ, suc, _+_, _*_, _≤_, _<_}
 use native.Mathlib.Omega.{arith}
 use lib.ListN.{length, drop}
 use Rattle.graph.specs.Below.{tabulate, length-tabulate}
-use Rattle.graph.specs.Network.{Network, Proper, never, edgeCount}
+use Rattle.graph.specs.Network.{Network, edgeBetween, Proper, edgeCount}
 use Rattle.graph.specs.Groups.{component, bridgeBlock}
 use Rattle.naming.specs.Rename.{Grouping, Change, nameOf, changesBetween}
 use Rattle.naming.specs.Book.{Book, vertex, edge}
 use Rattle.naming.specs.State.{State, emptyState, afterAddition}
 use Rattle.numbers.specs.declared.Limits.{Limits}
+use Rattle.table.specs.Inside.Column
 use Rattle.table.specs.Inside.Layout.{cell, vertexArea, edgeArea}
 use Rattle.forest.specs.declared.Shape.{Shape}
 use Rattle.forest.specs.declared.VertexGroups.{VertexGroups}
@@ -20,15 +21,16 @@ use Rattle.forest.specs.declared.VertexGroups.the-variants as G
 use Rattle.forest.specs.declared.Growth.{Growth}
 use Rattle.forest.specs.declared.Shared.{Shared}
 use Rattle.forest.specs.declared.Shared.the-variants.{Block, Nothing}
+pub use Rattle.forest.specs.Rule.{tableRule, table-rule}
 use Rattle.forest.specs.Inside.Words.{groupArea}
 use Rattle.forest.specs.Inside.Valid.{Valid, endsOf, networkOf, bookOf}
 
 -- How many words a table takes for so many vertices and edges.
 unfoldable pub wordsNeeded : Limits → ℕ
-wordsNeeded limits = limits .vertices * 24 + limits .edges * 8
+wordsNeeded limits = limits .vertices * Column.perVertex + limits .edges * Column.perEdge
 
--- 24 for each vertex and 8 for each edge
-pub words-needed : (limits : Limits) → wordsNeeded limits ≡ limits .vertices * 24 + limits .edges * 8
+-- for each vertex as many as there are columns of vertices, and so for each edge
+pub words-needed : (limits : Limits) → wordsNeeded limits ≡ limits .vertices * Column.perVertex + limits .edges * Column.perEdge
 unfolding wordsNeeded
 words-needed limits = refl
 
@@ -73,14 +75,14 @@ pub few-edges : (shape : Shape) (t : List ℕ) → Holds shape t → shape .edge
 unfolding Holds
 few-edges shape t holds = omega (arith, holds .edges-fit, holds .small-edges)
 
--- each edge joins two different vertices, and no edge is lost with another
+-- each edge joins two different vertices, and which edges are lost together is the table's rule
 pub proper-held : (shape : Shape) (t : List ℕ) → Holds shape t → Proper (networkIn shape t)
 unfolding Holds stateOf bookOf
 proper-held shape t holds = holds .proper
 
-pub rule-held : (shape : Shape) (t : List ℕ) → Holds shape t → networkIn shape t .rule ≡ never
+pub rule-held : (shape : Shape) (t : List ℕ) → networkIn shape t .rule ≡ tableRule
 unfolding stateOf bookOf networkOf
-rule-held shape t holds = refl
+rule-held shape t = refl
 
 -- The words beyond those of the vertices and edges are as before.
 pub record SameBeyond (limits : Limits) (old new : List ℕ) : Type 0 where
@@ -99,7 +101,7 @@ same-beyond-trans p q = record { as-long = q .as-long ∙ p .as-long; beyond = q
 pub record Begun (limits : Limits) (t : List ℕ) (shape : Shape) : Type 0 where
   pub shape-is : shape ≡ record { limits = limits; vertices = 0; edges = 0 }
   pub holds : Holds shape t
-  pub state-is : stateOf shape t ≡ emptyState never
+  pub state-is : stateOf shape t ≡ emptyState tableRule
 
 abbrev pub oneVertexMore : Shape → Shape
 oneVertexMore shape = record { limits = shape .limits; vertices = shape .vertices + 1; edges = shape .edges }
@@ -125,14 +127,14 @@ vertexGroups G.BridgeBlocks g = bridgeBlock g
 -- Change i of those that are written down: a vertex whose name of that kind changed, with its new name.
 unfoldable pub vertexChangeAt : Shape → VertexGroups → List ℕ → ℕ → Change
 vertexChangeAt shape groups t i =
-    let x = cell t (groupArea (shape .limits) groups) 3 i in
-    record { item = x; name = cell t (groupArea (shape .limits) groups) 0 x }
+    let x = cell t (groupArea (shape .limits) groups) Column.changed i in
+    record { item = x; name = cell t (groupArea (shape .limits) groups) Column.name x }
 
 -- The same of the edges, whose block name changed.
 unfoldable pub edgeChangeAt : Shape → List ℕ → ℕ → Change
 edgeChangeAt shape t i =
-    let s = cell t (edgeArea (shape .limits)) 3 i in
-    record { item = s; name = cell t (edgeArea (shape .limits)) 0 s }
+    let s = cell t (edgeArea (shape .limits)) Column.changed i in
+    record { item = s; name = cell t (edgeArea (shape .limits)) Column.name s }
 
 -- The first k changes that are written down are those between two lists of names.
 abbrev pub VerticesChanged : Shape → VertexGroups → List ℕ → ℕ → Book → Book → Type 0
@@ -142,7 +144,7 @@ VerticesChanged shape groups t k old new =
 -- One edge more, between a and b: the state, the changes of each kind, and the new edge's block name.
 pub record EdgeAdded (shape : Shape) (a b : ℕ) (old new : List ℕ) (growth : Growth) : Type 0 where
   pub holds : Holds (oneEdgeMore shape) new
-  pub state-is : stateOf (oneEdgeMore shape) new ≡ afterAddition (stateOf shape old) (edge (record { left = a; right = b }))
+  pub state-is : stateOf (oneEdgeMore shape) new ≡ afterAddition (stateOf shape old) (edge (edgeBetween a b))
   pub components-changed : VerticesChanged (oneEdgeMore shape) G.Components new (growth .components) (bookIn shape old) (bookIn (oneEdgeMore shape) new)
   pub bridge-blocks-changed : VerticesChanged (oneEdgeMore shape) G.BridgeBlocks new (growth .«bridge_blocks») (bookIn shape old) (bookIn (oneEdgeMore shape) new)
   pub blocks-changed : tabulate (growth .blocks) (edgeChangeAt (oneEdgeMore shape) new)
@@ -161,10 +163,10 @@ sharedName names (some s) = Block (record { 0 = nameOf names s })
 
 -- Bridge i and cut vertex i of those that are written down.
 unfoldable pub bridgeAt : Shape → List ℕ → ℕ → ℕ
-bridgeAt shape t i = cell t (vertexArea (shape .limits)) 13 i
+bridgeAt shape t i = cell t (vertexArea (shape .limits)) Column.rightEdge i
 
 unfoldable pub cutAt : Shape → List ℕ → ℕ → ℕ
-cutAt shape t i = cell t (vertexArea (shape .limits)) 10 (suc i)
+cutAt shape t i = cell t (vertexArea (shape .limits)) Column.pathVertex (suc i)
 
 -- A list is written down: its items are those read one at a time. The state is as before.
 pub record ListWritten (shape : Shape) (old new : List ℕ) (at : ℕ → ℕ) (count : ℕ) (list : List ℕ) : Type 0 where
@@ -173,20 +175,23 @@ pub record ListWritten (shape : Shape) (old new : List ℕ) (at : ℕ → ℕ) (
   pub is-list : tabulate count at ≡ list
   pub same-beyond : SameBeyond (shape .limits) old new
 
--- The scratch words: four for each vertex and one for each edge. An operation may overwrite them, and what it has written down (changes, a
--- list) lies there: it is read before the next operation or store.
+-- The scratch words, of which each vertex has so many and each edge one. An operation may overwrite them, and what it has written down
+-- (changes, a list) lies there: it is read before the next operation or store.
+abbrev pub scratchWords : ℕ
+scratchWords = 4
+
 unfoldable pub vertexScratch : Shape → List ℕ → ℕ → ℕ → ℕ
-vertexScratch shape t k x = cell t (vertexArea (shape .limits)) (10 + k) x
+vertexScratch shape t k x = cell t (vertexArea (shape .limits)) (Column.pathVertex + k) x
 
 unfoldable pub edgeScratch : Shape → List ℕ → ℕ → ℕ
-edgeScratch shape t s = cell t (edgeArea (shape .limits)) 3 s
+edgeScratch shape t s = cell t (edgeArea (shape .limits)) Column.changed s
 
 -- A scratch word is stored: all that the table holds is kept, and every other scratch word.
 pub record VertexScratchStored (shape : Shape) (k x value : ℕ) (old new : List ℕ) : Type 0 where
   pub holds : Holds shape new
   pub state-is : stateOf shape new ≡ stateOf shape old
   pub stored : vertexScratch shape new k x ≡ value
-  pub other-words : (j y : ℕ) → j < 4 → y < shape .limits .vertices → (j ≡ k → y ≡ x → ⊥) → vertexScratch shape new j y ≡ vertexScratch shape old j y
+  pub other-words : (j y : ℕ) → j < scratchWords → y < shape .limits .vertices → (j ≡ k → y ≡ x → ⊥) → vertexScratch shape new j y ≡ vertexScratch shape old j y
   pub edge-words : (s : ℕ) → s < shape .limits .edges → edgeScratch shape new s ≡ edgeScratch shape old s
   pub same-beyond : SameBeyond (shape .limits) old new
 
@@ -195,5 +200,5 @@ pub record EdgeScratchStored (shape : Shape) (s value : ℕ) (old new : List ℕ
   pub state-is : stateOf shape new ≡ stateOf shape old
   pub stored : edgeScratch shape new s ≡ value
   pub other-words : (r : ℕ) → r < shape .limits .edges → (r ≡ s → ⊥) → edgeScratch shape new r ≡ edgeScratch shape old r
-  pub vertex-words : (j y : ℕ) → j < 4 → y < shape .limits .vertices → vertexScratch shape new j y ≡ vertexScratch shape old j y
+  pub vertex-words : (j y : ℕ) → j < scratchWords → y < shape .limits .vertices → vertexScratch shape new j y ≡ vertexScratch shape old j y
   pub same-beyond : SameBeyond (shape .limits) old new

@@ -13,7 +13,7 @@ ghost use Rattle.naming.specs.Rename.{size, nameOf};
 ghost use Rattle.forest.specs.Inside.Words.{groupArea};
 ghost use Rattle.forest.specs.Promise.{wordsNeeded, Holds, bookIn, networkIn, Begun, VertexAdded, EdgeAdded, ListWritten};
 ghost use Rattle.forest.specs.Promise.{vertexNames, vertexGroups, vertexChangeAt, edgeChangeAt, sharedName, bridgeAt, cutAt};
-ghost use Rattle.forest.specs.Promise.{vertexScratch, edgeScratch, VertexScratchStored, EdgeScratchStored};
+ghost use Rattle.forest.specs.Promise.{scratchWords, vertexScratch, edgeScratch, VertexScratchStored, EdgeScratchStored};
 
 pub mod climb;
 pub mod query;
@@ -29,6 +29,8 @@ use table::words::NAME;
 use table::words::PATH_VERTEX;
 use table::words::RIGHT_EDGE;
 use table::words::SIZE;
+use table::words::WORDS_PER_EDGE;
+use table::words::WORDS_PER_VERTEX;
 use table::words::bridge_block_area;
 use table::words::edge_area;
 use table::words::set_word;
@@ -91,7 +93,8 @@ pub struct Ends {
 pub fn words_needed(limits: Limits) -> usize
     ensures { λ r. ⌜ r ≡ wordsNeeded limits ⌝ }
 {
-    (limits.vertices as usize) * 24 + (limits.edges as usize) * 8
+    (limits.vertices as usize) * (WORDS_PER_VERTEX as usize)
+        + (limits.edges as usize) * (WORDS_PER_EDGE as usize)
 }
 
 // Begins a run: whatever the table's words are, it holds a network without vertices and edges.
@@ -273,7 +276,7 @@ pub fn edge_change_at(t: &[u32], shape: Shape, i: u32) -> EdgeChange
 
 // Scratch word k of a vertex.
 pub fn vertex_scratch(t: &[u32], shape: Shape, k: u8, x: Vertex) -> u32
-    requires { ⌜ k < 4 ⌝ }
+    requires { ⌜ k < scratchWords ⌝ }
     ensures { λ r. ⌜ r ≡ vertexScratch shape (now (t .entry)) k (x .0) ⌝ }
 {
     let limits = shape.limits;
@@ -282,7 +285,7 @@ pub fn vertex_scratch(t: &[u32], shape: Shape, k: u8, x: Vertex) -> u32
 
 // Stores scratch word k of a vertex.
 pub fn set_vertex_scratch(t: &mut [u32], shape: Shape, k: u8, x: Vertex, value: u32)
-    requires { ⌜ Holds shape (now t) × (k < 4) × (x .0 < shape .limits .vertices) ⌝ }
+    requires { ⌜ Holds shape (now t) × (k < scratchWords) × (x .0 < shape .limits .vertices) ⌝ }
     ensures { λ r. ⌜ VertexScratchStored shape k (x .0) value (now (t .entry)) (now (t .exit)) ⌝ }
 {
     let limits = shape.limits;

@@ -7,7 +7,7 @@ use mathlib.Core.Path.{_≡_, refl, sym, _∙_, ap, subst}
 use Prim.Native.Nat.{ℕ, _<_}
 use lib.Dec.{eqb}
 use Rattle.graph.specs.Lists.{isIn}
-use Rattle.graph.specs.Network.{Network, Edge, MateRule, Proper, edge, edgeCount, addEdge, mates, nothing, lossOf, joined}
+use Rattle.graph.specs.Network.{Network, Edge, MateRule, Proper, edge, edgeCount, addEdge, nothing, lossOf, joined}
 use Rattle.graph.specs.Groups.{component, bridge, bridgeBlock}
 use Rattle.graph.specs.Cycle.{Step, anyStep}
 use Rattle.graph.specs.Travel.{firstMate}
@@ -27,6 +27,7 @@ use Rattle.graph.proofs.Travel.{first-mate}
 use Rattle.graph.proofs.PathCuts.{joined-through-path}
 use Rattle.graph.proofs.PathBridges.{pathBridges, PathBridge, in-path-bridges, loss-parts-path}
 use Rattle.graph.proofs.Grows.{bridge-block-grows}
+use Rattle.graph.proofs.MateLoss.{NoMate}
 use Rattle.graph.proofs.EdgeMoreBridges.{rule-more, loss-kept, loss-new, bridge-old-within}
 
 -- vertex x lies in the bridge-block of a vertex of the path from a
@@ -113,7 +114,7 @@ two-of-three g rule s a b c e f = go (at b e) (at c f)
     go (inr p) (inr q) = pick (p .0) (p .1) (q .1)
 
 module _ (g : Network) (e : Edge) (proper : Proper g) (rule : MateRule (g .rule))
-    (none : (s : ℕ) → s < edgeCount g → mates (addEdge g e) s (edgeCount g) ≡ false) where
+    (none : NoMate g e) where
   -- two vertices share a bridge-block after if they share a component and, whichever old edge is lost, are joined were the ends of
   -- the new edge joined
   in-bridge-block-more : (x y : ℕ) → component g x y ≡ true

@@ -12,7 +12,7 @@ use Rattle.graph.proofs.Grows.{old-below, new-below}
 use Rattle.graph.proofs.EdgeMore.{component-edge-within}
 use Rattle.graph.proofs.Mates.{mates-refl, mates-sym, mates-trans, mates-carry, loss-of-mates, joined-component}
 use Rattle.graph.proofs.BridgeBlock.{bridge-block-component, bridge-block-lasts, in-bridge-block}
-use Rattle.graph.proofs.MateLoss.{loss-merged, mates-old, joined-loss-old}
+use Rattle.graph.proofs.MateLoss.{NoMate, loss-merged, mates-old, mates-new, joined-loss-old}
 
 -- a rule stays a rule with one edge more
 pub rule-more : (g : Network) (e : Edge) → MateRule (g .rule) → MateRule (addEdge g e .rule)
@@ -26,21 +26,21 @@ module _ (g : Network) (e : Edge) where
   bridge-old s h = ap (λ f. not (joined (addEdge g e) (lossOf (addEdge g e) s) (f .left) (f .right))) (edge-old g e s h)
 
   -- with the mates of an old edge lost, a new edge that is no mate joins its ends
-  pub loss-kept : (s x y : ℕ) → s < edgeCount g → mates (addEdge g e) s (edgeCount g) ≡ false
+  pub loss-kept : (s x y : ℕ) → s < edgeCount g → g .rule (edge g s) e ≡ false
       → joined (addEdge g e) (lossOf (addEdge g e) s) x y ≡ merged (joined g (lossOf g s)) (e .left) (e .right) x y
   unfolding lossOf
   loss-kept s x y h n =
-      joined-new-kept g e (lossOf (addEdge g e) s) n x y
+      joined-new-kept g e (lossOf (addEdge g e) s) (mates-new g e s h ∙ n) x y
       ∙ ap (λ q. merged q (e .left) (e .right) x y) (fun-ext λ x. fun-ext λ y. joined-loss-old g e s x y h)
 
   -- and a new edge that is a mate joins nothing
-  pub loss-lost : (s x y : ℕ) → s < edgeCount g → mates (addEdge g e) s (edgeCount g) ≡ true
+  pub loss-lost : (s x y : ℕ) → s < edgeCount g → g .rule (edge g s) e ≡ true
       → joined (addEdge g e) (lossOf (addEdge g e) s) x y ≡ joined g (lossOf g s) x y
   unfolding lossOf
-  loss-lost s x y h n = joined-new-lost g e (lossOf (addEdge g e) s) n x y ∙ joined-loss-old g e s x y h
+  loss-lost s x y h n = joined-new-lost g e (lossOf (addEdge g e) s) (mates-new g e s h ∙ n) x y ∙ joined-loss-old g e s x y h
 
   -- with a new edge lost that has no mates, everything is joined as before
-  pub loss-new : (MateRule (g .rule)) → ((s : ℕ) → s < edgeCount g → mates (addEdge g e) s (edgeCount g) ≡ false) → (x y : ℕ)
+  pub loss-new : MateRule (g .rule) → NoMate g e → (x y : ℕ)
       → joined (addEdge g e) (lossOf (addEdge g e) (edgeCount g)) x y ≡ component g x y
   unfolding lossOf component nothing
   loss-new rule none x y =
@@ -48,15 +48,15 @@ module _ (g : Network) (e : Edge) where
       ∙ joined-same-loss g (lossOf (addEdge g e) (edgeCount g)) nothing
       (λ s h.
       false-of-not (mates (addEdge g e) (edgeCount g) s)
-      (λ k. not-both (mates-sym (addEdge g e) (rule-more g e rule) (edgeCount g) s k) (none s h)))
+      (λ k. not-both (mates-sym (addEdge g e) (rule-more g e rule) (edgeCount g) s k) (mates-new g e s h ∙ none s h)))
       x y
 
   -- what a mate of the new edge joins, the new edge's ends share
-  pub mate-joins : MateRule (g .rule) → (s : ℕ) → s < edgeCount g → mates (addEdge g e) s (edgeCount g) ≡ true
+  pub mate-joins : MateRule (g .rule) → (s : ℕ) → s < edgeCount g → g .rule (edge g s) e ≡ true
       → (R : ℕ → ℕ → Type 0) → ((x y : ℕ) → R x y → R y x) → R (edge g s .left) (edge g s .right) → R (e .left) (e .right)
   mate-joins rule s h m R w k =
       subst (λ f. R (f .left) (f .right)) (edge-new g e)
-      (mates-carry (addEdge g e) (rule-more g e rule) R w (edgeCount g) s (mates-sym (addEdge g e) (rule-more g e rule) s (edgeCount g) m)
+      (mates-carry (addEdge g e) (rule-more g e rule) R w (edgeCount g) s (mates-sym (addEdge g e) (rule-more g e rule) s (edgeCount g) (mates-new g e s h ∙ m))
       (subst (λ f. R (f .left) (f .right)) (sym (edge-old g e s h)) k))
 
   -- two vertices share a bridge-block as before if they share a component as before and each loss joins them as before
@@ -82,10 +82,10 @@ module _ (g : Network) (e : Edge) where
 -- the new edge joins two components
 module _ (g : Network) (e : Edge) (rule : MateRule (g .rule)) (apart : component g (e .left) (e .right) ≡ false) where
   -- it has no mate
-  no-mate : (s : ℕ) → s < edgeCount g → mates (addEdge g e) s (edgeCount g) ≡ false
+  no-mate : NoMate g e
   unfolding component nothing
   no-mate s h =
-      false-of-not (mates (addEdge g e) s (edgeCount g))
+      false-of-not (g .rule (edge g s) e)
       (λ m. not-both (mate-joins g e rule s h m (λ x y. component g x y ≡ true) (joined-sym g nothing) (joined-edge g nothing s h refl)) apart)
 
   -- with the mates of an old edge lost, vertices of one component are joined as before
@@ -124,16 +124,19 @@ module _ (g : Network) (e : Edge) (rule : MateRule (g .rule)) (apart : component
 
 -- the new edge has a mate
 module _ (g : Network) (e : Edge) (rule : MateRule (g .rule)) (t : ℕ) (known : t < edgeCount g)
-    (mate : mates (addEdge g e) t (edgeCount g) ≡ true) where
+    (mate : g .rule (edge g t) e ≡ true) where
+  new-mate : mates (addEdge g e) t (edgeCount g) ≡ true
+  new-mate = mates-new g e t known ∙ mate
+
   -- with the mates of an old edge lost, everything is joined as before
   loss-mate : (s x y : ℕ) → s < edgeCount g → joined (addEdge g e) (lossOf (addEdge g e) s) x y ≡ joined g (lossOf g s) x y
   unfolding lossOf
-  loss-mate s x y h = go (true-or-false (mates (addEdge g e) s (edgeCount g)))
+  loss-mate s x y h = go (true-or-false (g .rule (edge g s) e))
     where
       J : ℕ → ℕ → Bool
       J = joined g (lossOf g s)
 
-      go : (mates (addEdge g e) s (edgeCount g) ≡ true) ⊎ (mates (addEdge g e) s (edgeCount g) ≡ false)
+      go : (g .rule (edge g s) e ≡ true) ⊎ (g .rule (edge g s) e ≡ false)
           → joined (addEdge g e) (lossOf (addEdge g e) s) x y ≡ J x y
       go (inl m) = loss-lost g e s x y h m
       go (inr n) =
@@ -147,8 +150,8 @@ module _ (g : Network) (e : Edge) (rule : MateRule (g .rule)) (t : ℕ) (known :
               false-of-not (mates g s t)
               (λ k.
               not-both
-              (mates-trans (addEdge g e) (rule-more g e rule) s t (edgeCount g) (mates-old g e s t h known ∙ k) mate)
-              n)
+              (mates-trans (addEdge g e) (rule-more g e rule) s t (edgeCount g) (mates-old g e s t h known ∙ k) new-mate)
+              (mates-new g e s h ∙ n))
 
           across-new : J (e .left) (e .right) ≡ true
           across-new = mate-joins g e rule t known mate (λ x y. J x y ≡ true) (joined-sym g _) (joined-edge g (lossOf g s) t known kept)
@@ -157,7 +160,7 @@ module _ (g : Network) (e : Edge) (rule : MateRule (g .rule)) (t : ℕ) (known :
   unfolding lossOf
   loss-new-mate x y =
       joined-same-loss (addEdge g e) (lossOf (addEdge g e) (edgeCount g)) (lossOf (addEdge g e) t)
-      (λ u k. sym (loss-of-mates (addEdge g e) (rule-more g e rule) t (edgeCount g) mate u))
+      (λ u k. sym (loss-of-mates (addEdge g e) (rule-more g e rule) t (edgeCount g) new-mate u))
       x y
       ∙ loss-mate t x y known
 
@@ -198,7 +201,7 @@ still-parted g lost a b l r m = go (true-or-false (J l r)) (true-or-false (J a b
 
 -- the new edge lies within a component and has no mate
 module _ (g : Network) (e : Edge) (rule : MateRule (g .rule)) (within : component g (e .left) (e .right) ≡ true)
-    (none : (s : ℕ) → s < edgeCount g → mates (addEdge g e) s (edgeCount g) ≡ false) where
+    (none : NoMate g e) where
   -- exactly the bridges whose loss does not part its ends stay bridges
   pub bridge-old-within : (s : ℕ) → s < edgeCount g
       → bridge (addEdge g e) s ≡ (bridge g s && joined g (lossOf g s) (e .left) (e .right))

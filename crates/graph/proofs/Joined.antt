@@ -9,14 +9,14 @@ use native.Mathlib.Omega.{arith}
 use lib.ListN.{length, getD, length-append, List·getD-append}
 use lib.Seq.{getD-append-seam}
 use Rattle.graph.specs.Labels.{Pair, same}
-use Rattle.graph.specs.Network.{Network, Edge, Loss, edge, edgeCount, addEdge, joined, kept}
+use Rattle.graph.specs.Network.{Network, Edge, edgeBetween, Loss, edge, edgeCount, addEdge, joined, kept}
 use Rattle.graph.proofs.Truth.{true-or-false, not-both, bool-ext}
 use Rattle.graph.proofs.Below.{below-or-last}
 use Rattle.graph.proofs.Labels.{Within, merged, merged-before, merged-here, merged-least}
 use Rattle.graph.proofs.Labels.{same-refl, same-sym, same-trans, same-equivalence, same-joins, same-least, same-one-more}
 
 abbrev at : List Edge → ℕ → Edge
-at es s = getD es s (record { left = 0; right = 0 })
+at es s = getD es s (edgeBetween 0 0)
 
 -- what holds of the ends of every edge that is not lost holds of the pairs that are kept
 kept-within : (R : ℕ → ℕ → Type 0) (lost : Loss) (es : List Edge)
@@ -127,12 +127,12 @@ edge-count-more g e = rw (length-append (g .edges) (e ∷ [])) (omega arith)
 -- the old edges keep their numbers
 pub edge-old : (g : Network) (e : Edge) (s : ℕ) → s < edgeCount g → edge (addEdge g e) s ≡ edge g s
 unfolding edgeCount addEdge edge
-edge-old g e s h = List·getD-append (g .edges) (e ∷ []) (record { left = 0; right = 0 }) s h
+edge-old g e s h = List·getD-append (g .edges) (e ∷ []) (edgeBetween 0 0) s h
 
 -- the new edge takes the next number
 pub edge-new : (g : Network) (e : Edge) → edge (addEdge g e) (edgeCount g) ≡ e
 unfolding edgeCount addEdge edge
-edge-new g e = getD-append-seam (g .edges) e [] (record { left = 0; right = 0 })
+edge-new g e = getD-append-seam (g .edges) e [] (edgeBetween 0 0)
 
 -- an edge of a network with one edge more is an old one or the new one
 pub old-or-new : (g : Network) (e : Edge) (s : ℕ) → s < edgeCount (addEdge g e) → (s < edgeCount g) ⊎ (s ≡ edgeCount g)

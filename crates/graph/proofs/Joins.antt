@@ -3,7 +3,7 @@ use mathlib.Core.Bool.{Bool, true, false, cond, _&&_, _||_, or-comm}
 use mathlib.Core.Path.{_≡_, refl, sym, _∙_}
 use Prim.Native.Nat.{ℕ, _<_}
 use lib.Dec.{eqb}
-use Rattle.graph.specs.Network.{Network, Edge, Proper, edge, edgeCount, touches, otherEnd, parallel}
+use Rattle.graph.specs.Network.{Network, Edge, edgeBetween, Proper, edge, edgeCount, touches, otherEnd, parallel}
 use Rattle.graph.specs.Cycle.{joins}
 use Rattle.graph.proofs.Truth.{or-right, and-both, eqb-eq, eqb-same, eqb-swap}
 use Rattle.graph.proofs.Mates.{parallel-carries}
@@ -13,8 +13,8 @@ use Rattle.graph.proofs.Walks.{joins-ends, joins-swap, joins-elim, join
 -- whatever holds of two vertices, in whichever order, holds of the ends of an edge that joins them
 pub joins-carries : (P : ℕ → ℕ → Type 0) → ((x y : ℕ) → P x y → P y x) → (e : Edge) (x y : ℕ) → joins e x y ≡ true
     → P x y → P (e .left) (e .right)
-unfolding joins parallel
-joins-carries P swap e x y h = parallel-carries P swap e (record { left = x; right = y }) h
+unfolding edgeBetween joins parallel
+joins-carries P swap e x y h = parallel-carries P swap e (edgeBetween x y) h
 
 -- an edge joins its ends in both orders
 pub joins-back : (e : Edge) → joins e (e .right) (e .left) ≡ true

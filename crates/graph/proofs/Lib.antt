@@ -44,7 +44,7 @@ pub mod EdgeMore
 pub mod EdgeMoreBlocks
 pub mod EdgeMoreBridges
 pub mod EdgeMoreBridgeBlocks
-pub mod BaseRule
+pub mod PathEdges
 pub mod MateMore
 pub mod SecondRule
 pub mod Lengths

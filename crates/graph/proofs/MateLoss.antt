@@ -3,12 +3,13 @@ use mathlib.Core.Bool.{true, false, _||_}
 use mathlib.Core.Logic.{_⊎_, inl, inr}
 use mathlib.Core.Path.{_≡_, ap₂}
 use Prim.Native.Nat.{ℕ, _<_}
+use native.Mathlib.Omega.{arith}
 use lib.Dec.{eqb}
 use Rattle.graph.specs.Network.{Network, Edge, Loss, edge, edgeCount, addEdge, MateRule, mates, lossOf, joined}
-use Rattle.graph.proofs.Truth.{true-or-false}
+use Rattle.graph.proofs.Truth.{true-or-false, ne-eqb}
 use Rattle.graph.proofs.Labels.{merged, merged-before, merged-here}
 use Rattle.graph.proofs.Mates.{mates-sym, mates-carry}
-use Rattle.graph.proofs.Joined.{edge-old, joined-refl, joined-edge, joined-least, joined-same-loss, merged-equivalence}
+use Rattle.graph.proofs.Joined.{edge-old, edge-new, joined-refl, joined-edge, joined-least, joined-same-loss, merged-equivalence}
 
 module _ (g : Network) (rule : MateRule (g .rule)) where
   -- whatever is joined is joined with the mates of s lost, were the ends of s joined
@@ -30,6 +31,15 @@ module _ (g : Network) (rule : MateRule (g .rule)) where
 pub mates-old : (g : Network) (e : Edge) (s t : ℕ) → s < edgeCount g → t < edgeCount g → mates (addEdge g e) s t ≡ mates g s t
 unfolding mates addEdge
 mates-old g e s t h k = ap₂ (λ f i. eqb s t || g .rule f i) (edge-old g e s h) (edge-old g e t k)
+
+-- an old edge is a mate of the new one where the rule says so
+pub mates-new : (g : Network) (e : Edge) (s : ℕ) → s < edgeCount g → mates (addEdge g e) s (edgeCount g) ≡ g .rule (edge g s) e
+unfolding mates addEdge
+mates-new g e s h = ap₂ _||_ (ne-eqb s (edgeCount g) (λ q. omega arith)) (ap₂ (g .rule) (edge-old g e s h) (edge-new g e))
+
+-- no old edge is a mate of the new one
+abbrev pub NoMate : Network → Edge → Type 0
+NoMate g e = (s : ℕ) → s < edgeCount g → g .rule (edge g s) e ≡ false
 
 -- with the mates of an old edge lost, the old edges join as before
 pub joined-loss-old : (g : Network) (e : Edge) (s x y : ℕ) → s < edgeCount g

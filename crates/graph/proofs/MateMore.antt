@@ -33,7 +33,7 @@ joins-one-step g t b s = ap (λ z. eqb s (edgeCount g) || z) (or-false (block g 
 
 -- a new edge with a mate joins the mate's block, and no other block changes
 pub block-edge-mate : (g : Network) (e : Edge) → Proper g → Proper (addEdge g e) → MateRule (g .rule)
-    → (t : ℕ) → t < edgeCount g → mates (addEdge g e) t (edgeCount g) ≡ true → (s u : ℕ)
+    → (t : ℕ) → t < edgeCount g → g .rule (edge g t) e ≡ true → (s u : ℕ)
     → block (addEdge g e) s u ≡ (block g s u || (joinsMate g t s && joinsMate g t u))
 block-edge-mate g e r r′ rule t h m s u =
     block-edge-within g e r r′ (one-step g t (e .left) (e .right) h (ends .0) (ends .1) (new-ends-differ g e r r′)) s u

@@ -1,13 +1,16 @@
--- The rule of document 01, by which no other edge is lost with an edge: it is a rule of mates, and under it every edge is its own least
--- mate.
-use mathlib.Core.Bool.{false, false≢true}
-use mathlib.Core.Path.{_≡_, sym, _∙_, subst}
+-- The rule of document 01, by which no other edge is lost with an edge: it is a rule of mates, under it a new edge has no mate, every edge
+-- is the least of its mates, and two parallel edges are a simple cycle.
+use mathlib.Core.Bool.{true, false, false≢true}
+use mathlib.Core.Path.{_≡_, sym, _∙_, ap}
 use Prim.Native.Nat.{ℕ, _<_}
-use native.Mathlib.Omega.{arith}
-use Rattle.graph.specs.Network.{Network, Edge, MateRule, never, edgeCount, addEdge, mates, mates-never}
+use lib.Dec.{eqb}
+use Rattle.graph.specs.Network.{Network, Edge, MateRule, Proper, never, parallel, edge, edgeCount, mates-never}
+use Rattle.graph.specs.Cycle.{OnCycle}
 use Rattle.graph.specs.Travel.{firstMate}
-use Rattle.graph.proofs.Truth.{ne-eqb, eqb-eq}
+use Rattle.graph.proofs.Truth.{eqb-eq}
 use Rattle.graph.proofs.Travel.{first-mate}
+use Rattle.graph.proofs.MateLoss.{NoMate}
+use Rattle.graph.proofs.CommonCycle.{parallel-edges-on-cycle}
 
 -- "no other edge" is a rule of mates
 pub never-mates : MateRule never
@@ -19,17 +22,17 @@ never-mates =
       only-parallel = λ e f k. absurd (false≢true k);
     }
 
-module _ (g : Network) (none : g .rule ≡ never) where
-  -- it is the rule of the network
-  pub never-rule : MateRule (g .rule)
-  never-rule = subst MateRule (sym none) never-mates
+-- a new edge has no mate
+pub no-mate-never : (g : Network) → g .rule ≡ never → (e : Edge) → NoMate g e
+unfolding never
+no-mate-never g none e s h = ap (λ rule. rule (edge g s) e) none
 
-  -- every edge is the least of its mates
-  pub first-mate-never : (s : ℕ) → firstMate g s ≡ s
-  first-mate-never s = eqb-eq (firstMate g s) s (sym (mates-never g none (firstMate g s) s) ∙ first-mate g s)
+-- every edge is the least of its mates
+pub first-mate-never : (g : Network) → g .rule ≡ never → (s : ℕ) → firstMate g s ≡ s
+first-mate-never g none s = eqb-eq (firstMate g s) s (sym (mates-never g none (firstMate g s) s) ∙ first-mate g s)
 
--- a new edge has no old mate
-pub no-mate-never : (g : Network) (e : Edge) → g .rule ≡ never → (s : ℕ) → s < edgeCount g
-    → mates (addEdge g e) s (edgeCount g) ≡ false
-unfolding addEdge
-no-mate-never g e none s h = mates-never (addEdge g e) none s (edgeCount g) ∙ ne-eqb s (edgeCount g) (λ q. omega arith)
+-- two different edges between one pair of vertices are a simple cycle (document 01: two spans between one pair are such a cycle)
+pub parallel-edges-on-cycle-never : (g : Network) → Proper g → g .rule ≡ never → (s t : ℕ) → s < edgeCount g → t < edgeCount g
+    → eqb s t ≡ false → parallel (edge g s) (edge g t) ≡ true → OnCycle g s t
+parallel-edges-on-cycle-never g proper none s t h k d =
+    parallel-edges-on-cycle g proper s t h k (mates-never g none s t ∙ d)

@@ -9,7 +9,7 @@ use lib.Dec.{eqb}
 use Rattle.graph.specs.Below.{anyBelow, listed}
 use Rattle.graph.specs.Lists.{ordered}
 use Rattle.graph.specs.Labels.{relabel, labels, same}
-use Rattle.graph.specs.Network.{Network, Edge, MateRule, Proper, parallel, edge, edgeCount, addEdge, mates, nothing, lossOf, kept, joined}
+use Rattle.graph.specs.Network.{Network, Edge, edgeBetween, MateRule, Proper, parallel, edge, edgeCount, addEdge, mates, nothing, lossOf, kept, joined}
 use Rattle.graph.specs.Groups.{component, parts, bridge, bridgeBlock}
 use Rattle.graph.specs.Cycle.{Step, joins, leads}
 use Rattle.graph.specs.Block.{ShareBlock, block}
@@ -29,7 +29,6 @@ use Rattle.graph.proofs.PathBridges.{pathBridges, bridges-of-block-path
 use Rattle.graph.proofs.MateMore.{joinsMate, block-edge-mate}
 use Rattle.graph.proofs.EdgeMoreBridges.{bridge-block-mate}
 use Rattle.graph.proofs.EdgeMoreBridgeBlocks.{onBridgeBlocks, bridge-block-edge-within}
-use Rattle.graph.proofs.Joined.{edge-old, edge-new}
 
 -- an edge is parallel to itself
 parallel-refl : (e : Edge) → parallel e e ≡ true
@@ -53,7 +52,7 @@ parallel-mates = record { symmetric = parallel-sym; transitive = parallel-trans;
 
 -- it does not look at the direction of an edge, as document 01's rule does not (never-undirected)
 pub parallel-undirected : Undirected parallel
-unfolding parallel
+unfolding edgeBetween parallel
 parallel-undirected =
     record {
       on-left = λ e f.
@@ -74,16 +73,12 @@ mates-parallel g two-ends s t =
     (λ e. ⊎-elim (λ q. rw (eqb-eq s t q) (parallel-refl (edge g t))) (λ p. p) (or-cases (eqb s t) (parallel (edge g s) (edge g t)) e))
     (or-right (eqb s t))
 
--- and the mates of a new edge the old edges parallel to it
-mates-new : (g : Network) → g .rule ≡ parallel → (e : Edge) (t : ℕ) → t < edgeCount g
-    → mates (addEdge g e) t (edgeCount g) ≡ parallel (edge g t) e
-unfolding addEdge
-mates-new g two-ends e t h =
-    mates-parallel (addEdge g e) two-ends t (edgeCount g) ∙ ap₂ parallel (edge-old g e t h) (edge-new g e)
-
 module _ (g : Network) (proper : Proper g) (two-ends : g .rule ≡ parallel) where
   rule : MateRule (g .rule)
   rule = subst MateRule (sym two-ends) parallel-mates
+
+  lost-with : (e f : Edge) → g .rule e f ≡ parallel e f
+  lost-with e f = ap (λ r. r e f) two-ends
 
   -- blocks are the papers' blocks
   pub block-is-common-cycle-two-ends : (s t : ℕ) → s < edgeCount g → t < edgeCount g → (block g s t ≡ true) ↔ ShareBlock g s t
@@ -118,18 +113,18 @@ module _ (g : Network) (proper : Proper g) (two-ends : g .rule ≡ parallel) whe
   -- a new edge beside an old one changes no bridge-block
   pub bridge-block-parallel-more : (e : Edge) (t : ℕ) → t < edgeCount g → parallel (edge g t) e ≡ true → (x y : ℕ)
       → bridgeBlock (addEdge g e) x y ≡ bridgeBlock g x y
-  bridge-block-parallel-more e t h p = bridge-block-mate g e rule t h (mates-new g two-ends e t h ∙ p)
+  bridge-block-parallel-more e t h p = bridge-block-mate g e rule t h (lost-with (edge g t) e ∙ p)
 
   -- and joins its block, and no other block changes
   pub block-parallel-more : (e : Edge) → Proper (addEdge g e) → (t : ℕ) → t < edgeCount g → parallel (edge g t) e ≡ true
       → (s u : ℕ) → block (addEdge g e) s u ≡ (block g s u || (joinsMate g t s && joinsMate g t u))
-  block-parallel-more e proper′ t h p = block-edge-mate g e proper proper′ rule t h (mates-new g two-ends e t h ∙ p)
+  block-parallel-more e proper′ t h p = block-edge-mate g e proper proper′ rule t h (lost-with (edge g t) e ∙ p)
 
   -- any other makes the bridge-blocks of a block path between its ends one
   pub bridge-block-other-more : (e : Edge) → ((t : ℕ) → t < edgeCount g → parallel (edge g t) e ≡ false) → {ps : List Step}
       → BlockPath g (e .left) ps (e .right) → (x y : ℕ)
       → bridgeBlock (addEdge g e) x y ≡ (bridgeBlock g x y || (onBridgeBlocks g (e .left) ps x && onBridgeBlocks g (e .left) ps y))
-  bridge-block-other-more e n = bridge-block-edge-within g e proper rule (λ t h. mates-new g two-ends e t h ∙ n t h)
+  bridge-block-other-more e n = bridge-block-edge-within g e proper rule (λ t h. lost-with (edge g t) e ∙ n t h)
 
 -- two edges between one pair
 abbrev pub twins : Network
@@ -137,10 +132,10 @@ twins =
     record {
       rule = parallel;
       vertices = 2;
-      edges = record { left = 0; right = 1 } ∷ record { left = 1; right = 0 } ∷ [];
+      edges = edgeBetween 0 1 ∷ edgeBetween 1 0 ∷ [];
     }
 
 -- the loss of either parts the pair, and the first stands for both
 pub twins-are-one-bridge : bridgesBetween twins 0 1 ≡ 0 ∷ []
-unfolding parallel anyBelow listed relabel labels same edgeCount edge mates nothing lossOf kept joined component parts insert sort leastMate isBridgeBetween bridgeBefore bridgesBetween
+unfolding edgeBetween parallel anyBelow listed relabel labels same edgeCount edge mates nothing lossOf kept joined component parts insert sort leastMate isBridgeBetween bridgeBefore bridgesBetween
 twins-are-one-bridge = refl

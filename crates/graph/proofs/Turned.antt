@@ -7,7 +7,7 @@ use Prim.Native.Nat.{ℕ}
 use native.Mathlib.Omega.{arith}
 use lib.Dec.{eqb}
 use Rattle.graph.specs.Labels.{same}
-use Rattle.graph.specs.Network.{Network, Edge, Rule, Loss, never, edge, edgeCount, touches, otherEnd, mates, nothing, lossOf, without, joined}
+use Rattle.graph.specs.Network.{Network, Edge, edgeBetween, Rule, Loss, never, edge, edgeCount, touches, otherEnd, mates, nothing, lossOf, without, joined}
 use Rattle.graph.specs.Groups.{component, bridge, bridgeBlock}
 use Rattle.graph.specs.Block.{linkAt, link, pairsBelow, links, block}
 use Rattle.graph.proofs.Truth.{true-or-false, bool-ext, not-both, and-left, or-neither, eqb-eq}
@@ -16,7 +16,7 @@ use Rattle.graph.proofs.Joined.{joined-swap, joined-edge, joined-into}
 
 -- the edge with its two ends exchanged
 abbrev pub turnedEdge : Edge → Edge
-turnedEdge e = record { left = e .right; right = e .left }
+turnedEdge e = edgeBetween (e .right) (e .left)
 
 -- the rule does not look at the direction of an edge
 pub record Undirected (rule : Rule) : Type 0 where
@@ -32,6 +32,7 @@ pub record Turned (g g′ : Network) : Type 0 where
 
 -- to differ at most in the direction of edges is symmetric
 pub turned-sym : (g g′ : Network) → Turned g g′ → Turned g′ g
+unfolding edgeBetween
 turned-sym g g′ t = record {
   one-rule = sym (t .one-rule);
   as-many-vertices = sym (t .as-many-vertices);
@@ -55,12 +56,12 @@ turned-each g g′ t f turn s = go (t .each s)
 
 -- a turned edge touches the same vertices
 pub touches-turned : (e : Edge) (c : ℕ) → touches (turnedEdge e) c ≡ touches e c
-unfolding touches
+unfolding edgeBetween touches
 touches-turned e c = or-comm (eqb (e .right) c) (eqb (e .left) c)
 
 -- a turned edge has the same other end
 pub other-end-turned : (e : Edge) (c : ℕ) → touches e c ≡ true → otherEnd (turnedEdge e) c ≡ otherEnd e c
-unfolding touches otherEnd
+unfolding edgeBetween touches otherEnd
 other-end-turned e c h = go (true-or-false (eqb (e .left) c)) (true-or-false (eqb (e .right) c))
   where
     go : (eqb (e .left) c ≡ true) ⊎ (eqb (e .left) c ≡ false) → (eqb (e .right) c ≡ true) ⊎ (eqb (e .right) c ≡ false)
@@ -91,6 +92,7 @@ meet-turned q c e f =
 module _ (g g′ : Network) (t : Turned g g′) where
   -- what is joined is the same, whatever is lost
   pub joined-turned : (lost : Loss) (x y : ℕ) → joined g′ lost x y ≡ joined g lost x y
+  unfolding edgeBetween
   joined-turned lost x y = bool-ext (joined g′ lost x y) (joined g lost x y) (into g′ g (turned-sym g g′ t) x y) (into g g′ t x y)
     where
       into : (g g′ : Network) → Turned g g′ → (x y : ℕ) → joined g lost x y ≡ true → joined g′ lost x y ≡ true
@@ -127,7 +129,7 @@ module _ (g g′ : Network) (t : Turned g g′) where
 
   -- links are the same
   pub link-turned : (s r : ℕ) → link g′ s r ≡ link g s r
-  unfolding link
+  unfolding edgeBetween link
   link-turned s r = turned-each g g′ t either turn s ∙ ap₂ _||_ (link-at-turned (edge g s .left) s r) (link-at-turned (edge g s .right) s r)
     where
       either : Edge → Bool
@@ -160,7 +162,7 @@ module _ (g g′ : Network) (t : Turned g g′) where
 
     -- bridges are the same
     pub bridge-turned : (s : ℕ) → bridge g′ s ≡ bridge g s
-    unfolding bridge
+    unfolding edgeBetween bridge
     bridge-turned s = ap not (joined-loss-turned s (edge g′ s .left) (edge g′ s .right)
         ∙ turned-each g g′ t (λ e. joined g (lossOf g s) (e .left) (e .right)) (λ e. joined-swap g (lossOf g s) (e .right) (e .left)) s)
 

@@ -1,10 +1,11 @@
 -- The edges, and the vertices, whose single loss parts two given vertices, in travelling order.
 use mathlib.Core.Bool.{Bool, false, not, cond, _&&_}
 use mathlib.Core.List.{List, [], _∷_}
-use mathlib.Core.Path.{_≡_, refl, _∙_, ap, fun-ext}
-use Prim.Native.Nat.{ℕ, zero, suc, _≤_, _<_}
+use mathlib.Core.Path.{_≡_, refl, ap, fun-ext}
+use Prim.Native.Nat.{ℕ, zero, suc, _≤_}
 use native.Mathlib.Omega.{arith}
-use lib.Dec.{eqb, eqb·zero-suc, eqb·suc-suc}
+use lib.Dec.{eqb}
+use borrow.Author.Tests.{ne-eqb}
 use Rattle.graph.specs.Below.{anyBelow, listed}
 use Rattle.graph.specs.Network.{Network, never, edge, edgeCount, mates, mates-never, lossOf, without, joined}
 use Rattle.graph.specs.Groups.{parts}
@@ -34,14 +35,9 @@ unfolding isBridgeBetween leastMate lossOf anyBelow
 bridge-between-never g rule-is a b s =
     rw no-lesser-mate (ap (λ lost. parts g lost a b) (fun-ext (mates-never g rule-is s)))
   where
-    fails : (t n : ℕ) → t < n → eqb t n ≡ false
-    fails t zero h = absurd (omega arith)
-    fails zero (suc n) h = eqb·zero-suc n
-    fails (suc t) (suc n) h = eqb·suc-suc t n ∙ fails t n (omega arith)
-
     up-to : (n : ℕ) → n ≤ s → anyBelow n (λ t. mates g t s) ≡ false
     up-to zero h = refl
-    up-to (suc n) h = rw (up-to n (omega arith), mates-never g rule-is n s) (fails n s h)
+    up-to (suc n) h = rw (up-to n (omega arith), mates-never g rule-is n s) (ne-eqb n s (λ q. omega arith))
 
     no-lesser-mate : anyBelow s (λ t. mates g t s) ≡ false
     no-lesser-mate = up-to s (omega arith)

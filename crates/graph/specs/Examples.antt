@@ -7,6 +7,7 @@ use Prim.Native.Nat.{ℕ}
 use Rattle.graph.specs.Below
 use Rattle.graph.specs.Labels
 use Rattle.graph.specs.Network
+use Rattle.graph.specs.Network.{edgeBetween as between}
 use Rattle.graph.specs.Groups
 use Rattle.graph.specs.Block
 use Rattle.graph.specs.Between
@@ -38,9 +39,6 @@ summary g =
       bridgesBack = Between.bridgesBetween g 2 0;
       cuts = Between.cutsBetween g 0 2;
     }
-
-unfoldable pub between : ℕ → ℕ → Network.Edge
-between x y = record { left = x; right = y }
 
 unfoldable pub network : ℕ → List Network.Edge → Network.Network
 network n edges = record { rule = Network.never; vertices = n; edges = edges }

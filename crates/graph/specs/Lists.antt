@@ -1,11 +1,11 @@
--- Words about lists of numbers.
+-- Words about lists.
 use mathlib.Core.Bool.{Bool, true, false, not, _&&_, _||_}
 use mathlib.Core.List.{List, [], _∷_}
 use Prim.Native.Nat.{ℕ}
 use lib.Dec.{eqb}
 
--- Every number of the list passes the test.
-unfoldable pub allIn : (ℕ → Bool) → List ℕ → Bool
+-- Every element of the list passes the test.
+unfoldable pub allIn : {A : Type 0} → (A → Bool) → List A → Bool
 allIn f [] = true
 allIn f (x ∷ xs) = f x && allIn f xs
 

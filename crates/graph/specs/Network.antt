@@ -12,6 +12,10 @@ pub record Edge : Type 0 where
   pub left : ℕ
   pub right : ℕ
 
+-- The edge between two vertices, in the order in which they are entered.
+unfoldable pub edgeBetween : ℕ → ℕ → Edge
+edgeBetween a b = record { left = a; right = b }
+
 -- Vertex c (document 01: a cabinet) is an end of the edge.
 unfoldable pub touches : Edge → ℕ → Bool
 touches e c = eqb (e .left) c || eqb (e .right) c
@@ -50,7 +54,7 @@ edgeCount g = length (g .edges)
 
 -- Edge s. Where there is none the value says nothing, and no answer depends on it.
 unfoldable pub edge : Network → ℕ → Edge
-edge g s = getD (g .edges) s (record { left = 0; right = 0 })
+edge g s = getD (g .edges) s (edgeBetween 0 0)
 
 -- The network with one vertex more, and with one edge more. The new one takes the next number.
 unfoldable pub addVertex : Network → Network

@@ -9,22 +9,18 @@ use native.Mathlib.Omega.{arith}
 use lib.Dec.{leb, ltb}
 use lib.ListN.{length, drop, replicate, length-replicate}
 use lib.Seq.{drop-drop}
-use Rattle.graph.specs.Network.{never}
 use Rattle.graph.proofs.Truth.{le-leb, lt-ltb, ltb-ge, ge-ltb, or-neither-left, or-neither-right}
 use Rattle.commands.specs.Refusal.{Refusal, Capacities, firstThatApplies}
-use Rattle.commands.specs.Run.{Run}
-use Rattle.commands.specs.Entry.{workNeeded, startLines, ran, wholeUnless, wholeRun, numberOf, reportOf, over, Buffers, Outcome, outcome, entryUnder}
+use Rattle.commands.specs.Entry.{workNeeded, shortBuffers, startLines, ran, wholeUnless, wholeRun, numberOf, reportOf, over, Buffers, Outcome, outcome, entryUnder}
 use Rattle.commands.specs.Register.{registerRule, register}
 use Rattle.commands.proofs.Cases.{le-or-gt, gt-leb}
-use Rattle.commands.specs.Entry.{shortBuffers}
 use Rattle.commands.proofs.Start.{good-exactly, ran-exactly}
 use Rattle.commands.proofs.Returned.{zero-exactly}
 use Rattle.commands.proofs.WholeRun.{register-whole-run}
 use Rattle.numbers.specs.declared.Limits.{Limits}
 use Rattle.forest.specs.Promise.{wordsNeeded, words-needed, SameBeyond}
-use Rattle.journal.specs.declared.run.Progress.{Progress}
-use Rattle.journal.specs.Inside.Steps.{capacitiesOf}
-use Rattle.journal.specs.Inside.Runs.{wholeOf, RunPromise, sixNumbers}
+use Rattle.run.specs.declared.Progress.{Progress}
+use Rattle.run.specs.Promise.{capacitiesOf, wholeOf, sixNumbers, RunPromise}
 use Rattle.journal.specs.Promise.{RegisterPromise}
 
 -- below is not at most, the other way round
@@ -97,7 +93,7 @@ module _ (caps : Capacities) (journal : List ℕ) (lent : Buffers) where
       go (some r) d e = promised caps journal lent number lent (rw (d, e))
 
   ran-whole : (number : ℕ) → number ≡ numberOf firstLine → number ≡ 0
-      → wholeRun never caps journal (length (lent .work)) (length (lent .answers)) (length (lent .report)) ≡ ran (wholeOf caps journal (lent .answers))
+      → wholeRun registerRule caps journal (length (lent .work)) (length (lent .answers)) (length (lent .report)) ≡ ran (wholeOf caps journal (lent .answers))
   unfolding wholeRun wholeUnless
   ran-whole number e z = rw (zero-exactly firstLine .0 (sym e ∙ z))
 
@@ -106,7 +102,7 @@ module _ (caps : Capacities) (journal : List ℕ) (lent : Buffers) where
       → Begins caps (length journal) (length (lent .work)) (length (lent .report))
   unfolding shortBuffers
   begins number e z =
-      let well = ran-exactly never caps journal (length (lent .work)) (length (lent .answers)) (length (lent .report)) .0 (ran-whole number e z) in
+      let well = ran-exactly registerRule caps journal (length (lent .work)) (length (lent .answers)) (length (lent .report)) .0 (ran-whole number e z) in
       let range = good-exactly caps .0 (well .good-capacities) in
       let work-short = ltb (length (lent .work)) (workNeeded caps) in
       let report-short = ltb (length (lent .report)) 6 in
@@ -118,13 +114,6 @@ module _ (caps : Capacities) (journal : List ℕ) (lent : Buffers) where
         short-journal = ltb-ge _ _ (well .short-journal);
       }
 
--- the six numbers of the progress are those of the report
-numbers-are : (limits : Limits) (run : Run) (p : Progress) (old new oldAnswers newAnswers : List ℕ)
-    → RunPromise limits run p old new oldAnswers newAnswers → sixNumbers p ≡ reportOf never run
-unfolding sixNumbers reportOf
-numbers-are limits run p old new oldAnswers newAnswers w =
-    rw (w .refusal-is, w .place-is, w .commands-are, w .written-is, w .cabinets-are, w .spans-are)
-
 -- a run that was cleared behind and reported leaves what the register leaves
 pub promised-by-run : (limits : Limits) (journal : List ℕ) (lent : Buffers) (number : ℕ)
     → number ≡ numberOf (firstLine (capacitiesOf limits) journal lent) → number ≡ 0
@@ -133,8 +122,10 @@ pub promised-by-run : (limits : Limits) (journal : List ℕ) (lent : Buffers) (n
     → newWork ≡ replicate (min (workNeeded (capacitiesOf limits)) (length work)) 0 ++ drop (workNeeded (capacitiesOf limits)) work
     → report ≡ over (sixNumbers p) (lent .report)
     → RegisterPromise (capacitiesOf limits) journal lent (p .refusal) (record { work = newWork; answers = newAnswers; report = report })
-unfolding register registerRule entryUnder outcome
+unfolding register entryUnder outcome reportOf sixNumbers
 promised-by-run limits journal lent number e z p work newWork newAnswers report w worked reported =
+    let whole = wholeOf (capacitiesOf limits) journal (lent .answers) in
+    let refusal-is : p .refusal ≡ numberOf (whole .refusal) = cc (w .numbers-are) in
     promised (capacitiesOf limits) journal lent (p .refusal) (record { work = newWork; answers = newAnswers; report = report })
     (rw (
       ran-whole (capacitiesOf limits) journal lent number e z,
@@ -142,6 +133,6 @@ promised-by-run limits journal lent number e z p work newWork newAnswers report 
       cleared-over limits (lent .work) work (w .same-beyond) (begins (capacitiesOf limits) journal lent number e z .long-work),
       w .answers-are,
       reported,
-      numbers-are limits (wholeOf (capacitiesOf limits) journal (lent .answers)) p (lent .work) work (lent .answers) newAnswers w,
-      w .refusal-is,
+      w .numbers-are,
+      refusal-is,
     ))

@@ -1,10 +1,1 @@
-pub mod RunStep
-pub mod RunWhole
-pub mod RunEnd
 pub mod EntryLaws
-pub mod StepTests
-pub mod StepCauses
-pub mod StepAnswers
-pub mod StepLists
-pub mod StepSpan
-pub mod StepLaws

@@ -1,4 +1,2 @@
--- What the code of the journal does, step by step, in its own types: the paper's value for each case of its enums, and the promises of
--- its functions.
-pub mod Steps
-pub mod Runs
+-- What the code of the entry does, in its own types.
+pub mod Report

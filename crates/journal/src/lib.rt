@@ -1,20 +1,16 @@
-// The journal of commands: its bytes, answers, refusals and the run; and the entry that a planner calls.
+// The entry that a planner calls: the refusals before the journal is read, the run, and the report.
 ghost use mathlib.Core.Bool.{not};
 ghost use mathlib.Core.Path.{_≡_};
 ghost use Rattle.commands.specs.Refusal.{firstThatApplies};
 ghost use Rattle.commands.specs.Entry.{workNeeded, goodCapacities, startLines, numberOf, over};
-ghost use Rattle.journal.specs.Inside.Steps.{capacitiesOf};
-ghost use Rattle.journal.specs.Inside.Runs.{sixNumbers, Reportable};
+ghost use Rattle.run.specs.Promise.{capacitiesOf, sixNumbers};
+ghost use Rattle.journal.specs.Inside.Report.{Reportable};
 ghost use Rattle.journal.specs.Promise.{RegisterPromise};
-
-pub mod run;
-pub mod step;
-
-use crate::run::Progress;
-use crate::run::run;
 use forest::clear;
 use forest::words_needed;
 use numbers::Limits;
+use run::Progress;
+use run::run;
 
 // How many words a run uses beside those that the table takes.
 const SPARE: usize = 64;

@@ -49,6 +49,18 @@ listed-passes (suc n) p i m = go (listed-passes n p i) (true-or-false (p n))
     go f (inl e) = cases f e (List·Memᴰ·append-cases (listed n p) (rw e at m))
     go f (inr e) = up (f (rw e at m))
 
+-- functions that agree below n have one list of values at the numbers below n that pass
+pub map-listed-same : {A : Type 0} (f g : ℕ → A) (p : ℕ → Bool) (n : ℕ) → ((x : ℕ) → x < n → f x ≡ g x)
+    → map f (listed n p) ≡ map g (listed n p)
+unfolding listed
+map-listed-same f g p zero e = refl
+map-listed-same f g p (suc n) e = go (map-listed-same f g p n (λ x h. e x (omega arith))) (true-or-false (p n))
+  where
+    go : map f (listed n p) ≡ map g (listed n p) → (p n ≡ true) ⊎ (p n ≡ false)
+        → map f (cond (p n) (listed n p ++ n ∷ []) (listed n p)) ≡ map g (cond (p n) (listed n p ++ n ∷ []) (listed n p))
+    go ih (inl q) = rw (q, map-append f (listed n p) (n ∷ []), map-append g (listed n p) (n ∷ []), ih, e n (omega arith))
+    go ih (inr q) = rw q ih
+
 -- entry i is the value at i
 pub getD-tabulate {ℓ} : {A : Type ℓ} (n : ℕ) (f : ℕ → A) (d : A) (i : ℕ) → i < n → getD (tabulate n f) i d ≡ f i
 unfolding tabulate

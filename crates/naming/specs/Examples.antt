@@ -23,7 +23,7 @@ namesAfter additions =
     record { components = b .components; bridgeBlocks = b .bridgeBlocks; blocks = b .blocks }
 
 unfoldable pub between : ℕ → ℕ → Addition
-between x y = edge (record { left = x; right = y })
+between x y = edge (Network.edgeBetween x y)
 
 -- Nothing; a triangle; two edges between one pair; two pairs of edges that meet; two such pairs in a loop; a larger group joined to a
 -- smaller one with a lesser name.
@@ -63,5 +63,5 @@ names =
 
 -- The naming book gives these names.
 pub examples-have-their-names : map namesAfter examples ≡ names
-unfolding namesAfter examples names between Below.anyBelow Below.allBelow Below.count Below.listed Below.tabulate Labels.relabel Labels.labels Labels.same Network.touches Network.otherEnd Network.never Network.edgeCount Network.edge Network.addVertex Network.addEdge Network.mates Network.nothing Network.lossOf Network.without Network.kept Network.joined Groups.component Groups.bridgeBlock Block.linkAt Block.link Block.pairsBelow Block.links Block.block Rename.size Rename.nameOf Rename.better Rename.bestOf Rename.candidate Rename.holdsSeveral Rename.bestName Rename.rename Book.emptyBook Book.enterVertex Book.enterEdge Book.feed Book.feedAll
+unfolding namesAfter examples names between Below.anyBelow Below.allBelow Below.count Below.listed Below.tabulate Labels.relabel Labels.labels Labels.same Network.edgeBetween Network.touches Network.otherEnd Network.never Network.edgeCount Network.edge Network.addVertex Network.addEdge Network.mates Network.nothing Network.lossOf Network.without Network.kept Network.joined Groups.component Groups.bridgeBlock Block.linkAt Block.link Block.pairsBelow Block.links Block.block Rename.size Rename.nameOf Rename.better Rename.bestOf Rename.candidate Rename.holdsSeveral Rename.bestName Rename.rename Book.emptyBook Book.enterVertex Book.enterEdge Book.feed Book.feedAll
 examples-have-their-names = refl

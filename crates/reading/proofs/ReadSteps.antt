@@ -1,19 +1,20 @@
 -- What is read of a command by its byte: the bytes of commands with one operand and with two, and where the operands stand.
-use mathlib.Core.Bool.{false, _&&_, and-false}
+use mathlib.Core.Bool.{true, false, _&&_, and-false}
 use mathlib.Core.List.{List}
 use mathlib.Core.Logic.{_⊎_, inl, inr, ⊎-elim}
-use mathlib.Core.Option.{some}
+use mathlib.Core.Option.{none, some}
 use mathlib.Core.Path.{_≡_, refl, ap, ap₂, _∙_}
 use Prim.Native.Nat.{ℕ, _+_, _*_, _≤_, _<_}
 use native.Mathlib.Omega.{arith}
-use lib.Dec.{leb}
+use lib.Dec.{eqb, leb}
 use lib.ListN.{length, getD, drop}
 use lib.Seq.{getD-drop}
 use Rattle.commands.specs.Bytes.{number}
-use Rattle.commands.specs.Command.{Command, Form, unknown, alone, withOne, withTwo, form, operand, unknownByte, cutOff, command, readForm, readCommand}
+use Rattle.graph.proofs.Truth.{true-or-false, eqb-eq}
+use Rattle.commands.specs.Command.{Command, Form, unknown, takes, forms, form, operand, unknownByte, cutOff, command, readForm, readCommand}
 use Rattle.commands.proofs.Cases.{le-or-gt, gt-leb, impossible}
-use Rattle.commands.proofs.Reading.{widthOf, long-enough, cut-off, unknown-byte, unknown-exactly}
-use Rattle.reading.specs.Inside.Reads.{ofOne, ofTwo}
+use Rattle.commands.proofs.Reading.{widthOf, long-enough, cut-off, unknown-byte, unknown-exactly, known-bytes}
+use Rattle.reading.specs.Inside.Reads.{OneOperand, TwoOperands, made}
 
 -- a number in a pair of numbers or in three, one after another
 pub one-of-two : (low n : ℕ) → low ≤ n → n < low + 2 → (n ≡ low) ⊎ (n ≡ low + 1)
@@ -26,21 +27,15 @@ one-of-three low n h k = ⊎-elim (λ l. inl (omega arith)) (λ l. inr (go (le-o
     go (inl a) b = inl (omega arith)
     go (inr a) b = inr (omega arith)
 
--- the bytes of commands with one operand, and of those with two
-abbrev pub OneOperand : ℕ → Type 0
-OneOperand byte = (byte ≡ 3) ⊎ ((byte ≡ 4) ⊎ (byte ≡ 8))
-
-abbrev pub TwoOperands : ℕ → Type 0
-TwoOperands byte = (byte ≡ 2) ⊎ ((byte ≡ 5) ⊎ ((byte ≡ 6) ⊎ (byte ≡ 7)))
-
-width-one : (byte : ℕ) → OneOperand byte → widthOf (form byte) ≡ 2
-unfolding form widthOf
+-- how many bytes their operands have
+pub width-one : (byte : ℕ) → OneOperand byte → widthOf (form byte) ≡ 2 * 1
+unfolding forms form widthOf
 width-one byte (inl e) = rw e refl
 width-one byte (inr (inl e)) = rw e refl
 width-one byte (inr (inr e)) = rw e refl
 
-width-two : (byte : ℕ) → TwoOperands byte → widthOf (form byte) ≡ 4
-unfolding form widthOf
+pub width-two : (byte : ℕ) → TwoOperands byte → widthOf (form byte) ≡ 2 * 2
+unfolding forms form widthOf
 width-two byte (inl e) = rw e refl
 width-two byte (inr (inl e)) = rw e refl
 width-two byte (inr (inr (inl e))) = rw e refl
@@ -48,40 +43,33 @@ width-two byte (inr (inr (inr e))) = rw e refl
 
 module _ (byte : ℕ) (bytes : List ℕ) where
   -- operands that are cut off
-  pub cut-one : OneOperand byte → length bytes < 2 → readCommand byte bytes ≡ cutOff
+  pub cut-operands : (n : ℕ) → widthOf (form byte) ≡ 2 * n → length bytes < 2 * n → readCommand byte bytes ≡ cutOff
   unfolding readCommand
-  cut-one k h = cut-off (form byte) bytes .1 (omega (arith, width-one byte k))
-
-  pub cut-two : TwoOperands byte → length bytes < 4 → readCommand byte bytes ≡ cutOff
-  unfolding readCommand
-  cut-two k h = cut-off (form byte) bytes .1 (omega (arith, width-two byte k))
+  cut-operands n e h = cut-off (form byte) bytes .1 (omega arith)
 
   -- operands that are there
-  pub read-one : (c : Command) → ofOne (form byte) (operand bytes 0) ≡ some c → 2 ≤ length bytes → readCommand byte bytes ≡ command c 2
-  unfolding readCommand ofOne readForm
-  read-one c e h = go (form byte) e
+  pub read-operands : (n : ℕ) (c : Command) → made (form byte) n (operand bytes) ≡ some c → 2 * n ≤ length bytes
+      → readCommand byte bytes ≡ command c (2 * n)
+  unfolding readCommand made
+  read-operands n c e h = go (form byte) e
     where
-      go : (f : Form) → ofOne f (operand bytes 0) ≡ some c → readForm f bytes ≡ command c 2
+      go : (f : Form) → made f n (operand bytes) ≡ some c → readForm f bytes ≡ command c (2 * n)
       go unknown e = impossible (cc)
-      go (alone d) e = impossible (cc)
-      go (withOne f) e = rw (long-enough 2 bytes (f (operand bytes 0)) h) (cc)
-      go (withTwo f) e = impossible (cc)
-
-  pub read-two : (c : Command) → ofTwo (form byte) (operand bytes 0) (operand bytes 1) ≡ some c → 4 ≤ length bytes
-      → readCommand byte bytes ≡ command c 4
-  unfolding readCommand ofTwo readForm
-  read-two c e h = go (form byte) e
-    where
-      go : (f : Form) → ofTwo f (operand bytes 0) (operand bytes 1) ≡ some c → readForm f bytes ≡ command c 4
-      go unknown e = impossible (cc)
-      go (alone d) e = impossible (cc)
-      go (withOne f) e = impossible (cc)
-      go (withTwo f) e = rw (long-enough 4 bytes (f (operand bytes 0) (operand bytes 1)) h) (cc)
+      go (takes k make) e = as-many (true-or-false (eqb k n))
+        where
+          as-many : (eqb k n ≡ true) ⊎ (eqb k n ≡ false) → readForm (takes k make) bytes ≡ command c (2 * n)
+          as-many (inl t) =
+              let same : k ≡ n = eqb-eq k n t in
+              let given : some (make (operand bytes)) ≡ some c = rw t at e in
+              rw same (long-enough n make bytes h ∙ ap (λ d. command d (2 * n)) (cc))
+          as-many (inr f) =
+              let nothing : none ≡ some c = rw f at e in
+              impossible (cc)
 
   -- a byte that is no command's
   pub read-unknown : (byte < 1) ⊎ (8 < byte) → readCommand byte bytes ≡ unknownByte
   unfolding readCommand
-  read-unknown k = unknown-byte (form byte) bytes .1 (unknown-exactly byte .1 (outside k))
+  read-unknown k = unknown-byte (form byte) bytes .1 (unknown-exactly byte .1 (known-bytes byte ∙ outside k))
     where
       outside : (byte < 1) ⊎ (8 < byte) → (leb 1 byte && leb byte 8) ≡ false
       outside (inl h) = rw (gt-leb 1 byte h)

@@ -1,12 +1,10 @@
 // Reading a command from the journal's bytes. The command byte decides everything that follows it.
-ghost use mathlib.Core.Logic.{_⊎_};
-ghost use mathlib.Core.Option.{some};
 ghost use mathlib.Core.Path.{_≡_};
 ghost use Prim.Native.Nat.{_+_, _<_, _≤_};
 ghost use lib.ListN.{length, getD, drop};
 ghost use Rattle.commands.specs.Bytes.{number};
-ghost use Rattle.commands.specs.Command.{form, readCommand};
-ghost use Rattle.reading.specs.Inside.Reads.{meaning, readingOf, ofOne, ofTwo};
+ghost use Rattle.commands.specs.Command.{readCommand};
+ghost use Rattle.reading.specs.Inside.Reads.{meaning, readingOf, OneOperand, TwoOperands, MadeOfOne, MadeOfTwo};
 use numbers::Edge;
 use numbers::Vertex;
 
@@ -40,8 +38,8 @@ fn operand(journal: &[u8], from: usize) -> u32
 
 // The command of 03, 04 or 08.
 fn one_operand(byte: u8, x: u32) -> Order
-    requires { ⌜ (byte ≡ 3) ⊎ ((byte ≡ 4) ⊎ (byte ≡ 8)) ⌝ }
-    ensures { λ r. ⌜ ofOne (form byte) x ≡ some (meaning r) ⌝ }
+    requires { ⌜ OneOperand byte ⌝ }
+    ensures { λ r. ⌜ MadeOfOne byte x (meaning r) ⌝ }
 {
     match byte {
         3 => Order::DistrictName(Vertex(x)),
@@ -52,8 +50,8 @@ fn one_operand(byte: u8, x: u32) -> Order
 
 // The command of 02, 05, 06 or 07.
 fn two_operands(byte: u8, x: u32, y: u32) -> Order
-    requires { ⌜ (byte ≡ 2) ⊎ ((byte ≡ 5) ⊎ ((byte ≡ 6) ⊎ (byte ≡ 7))) ⌝ }
-    ensures { λ r. ⌜ ofTwo (form byte) x y ≡ some (meaning r) ⌝ }
+    requires { ⌜ TwoOperands byte ⌝ }
+    ensures { λ r. ⌜ MadeOfTwo byte x y (meaning r) ⌝ }
 {
     match byte {
         2 => Order::AddSpan(Vertex(x), Vertex(y)),
@@ -65,7 +63,7 @@ fn two_operands(byte: u8, x: u32, y: u32) -> Order
 
 // The command of 03, 04 or 08 whose operand stands from a place on.
 fn take_one(journal: &[u8], byte: u8, from: usize) -> Taken
-    requires { ⌜ ((byte ≡ 3) ⊎ ((byte ≡ 4) ⊎ (byte ≡ 8))) × (from ≤ length (now journal)) ⌝ }
+    requires { ⌜ OneOperand byte × (from ≤ length (now journal)) ⌝ }
     ensures { λ r. ⌜ readingOf r ≡ readCommand byte (drop from (now (journal .entry))) ⌝ }
 {
     if journal.len() - from < 2 {
@@ -77,7 +75,7 @@ fn take_one(journal: &[u8], byte: u8, from: usize) -> Taken
 
 // The command of 02, 05, 06 or 07 whose operands stand from a place on.
 fn take_two(journal: &[u8], byte: u8, from: usize) -> Taken
-    requires { ⌜ ((byte ≡ 2) ⊎ ((byte ≡ 5) ⊎ ((byte ≡ 6) ⊎ (byte ≡ 7)))) × (from ≤ length (now journal)) ⌝ }
+    requires { ⌜ TwoOperands byte × (from ≤ length (now journal)) ⌝ }
     ensures { λ r. ⌜ readingOf r ≡ readCommand byte (drop from (now (journal .entry))) ⌝ }
 {
     if journal.len() - from < 4 {

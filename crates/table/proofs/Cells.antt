@@ -1,13 +1,18 @@
 -- Laws of the table's words: what is read after a store. Stores within columns of an area, and between the two areas.
+use mathlib.Core.Bool.{true, false}
 use mathlib.Core.List.{List}
-use mathlib.Core.Path.{_≡_, sym, _∙_, ap}
+use mathlib.Core.Logic.{_⊎_, inl, inr}
+use mathlib.Core.Path.{_≡_, sym, _∙_, ap, subst}
 use Prim.Native.Nat.{ℕ, suc, _+_, _*_, _/_, _≤_, _<_}
 use native.Mathlib.Omega.{arith}
 use lib.Arith.{digits-lt, digits-div}
+use lib.Dec.{eqb}
 use lib.ListN.{length, getD, length-set}
 use lib.Seq.{getD-set-same, getD-set-other}
+use Rattle.graph.proofs.Truth.{true-or-false, eqb-eq, eqb-ne}
 use Rattle.numbers.specs.declared.Limits.{Limits}
 use Rattle.table.specs.declared.words.Area.{Area}
+use Rattle.table.specs.Inside.Column
 use Rattle.table.specs.Inside.Layout.{place, cell, put, vertexArea, bridgeBlockArea, edgeArea}
 
 -- The table has the first k columns of the area.
@@ -67,6 +72,19 @@ unfolding cell
 cell-put-other-item t area c x v x′ d =
     getD-put-other t area c x v (place area c x′) (λ e. d (place-item area c x x′ (sym e)))
 
+-- a store leaves the words of other items, whatever their column
+pub cell-put-elsewhere : (t : List ℕ) (area : Area) (c x v c′ x′ : ℕ) → x < area .size → x′ < area .size → (x ≡ x′ → ⊥)
+    → cell (put t area c x v) area c′ x′ ≡ cell t area c′ x′
+cell-put-elsewhere t area c x v c′ x′ h l d = go (true-or-false (eqb c c′))
+  where
+    go : (eqb c c′ ≡ true) ⊎ (eqb c c′ ≡ false) → cell (put t area c x v) area c′ x′ ≡ cell t area c′ x′
+    go (inl e) =
+        subst
+        (λ (k : ℕ). cell (put t area c x v) area k x′ ≡ cell t area k x′)
+        (eqb-eq c c′ e)
+        (cell-put-other-item t area c x v x′ d)
+    go (inr e) = cell-put-other-column t area c x v c′ x′ h l (eqb-ne c c′ e)
+
 -- a word outside the first k columns of the area stays
 pub getD-put-outside : (t : List ℕ) (area : Area) (k c x v p : ℕ) → c < k → x < area .size
     → ((area .base ≤ p) → (p < area .base + k * area .size) → ⊥) → getD (put t area c x v) p 0 ≡ getD t p 0
@@ -79,33 +97,33 @@ getD-put-outside t area k c x v p h l o = getD-put-other t area c x v p (λ e. o
     below e = omega (arith, place-below area k c x h l)
 
 -- the columns of the vertices end where those of the edges begin
-apart : (limits : Limits) (c x d s : ℕ) → c < 24 → x < limits .vertices → place (vertexArea limits) c x < place (edgeArea limits) d s
+apart : (limits : Limits) (c x d s : ℕ) → c < Column.perVertex → x < limits .vertices → place (vertexArea limits) c x < place (edgeArea limits) d s
 apart limits c x d s h l =
-    omega (arith, place-below (vertexArea limits) 24 c x h l, place-from (edgeArea limits) d s)
+    omega (arith, place-below (vertexArea limits) Column.perVertex c x h l, place-from (edgeArea limits) d s)
 
 -- stores among the words of vertices leave those of edges, and the other way round
-pub cell-edge-after-vertex : (limits : Limits) (t : List ℕ) (c x v d s : ℕ) → c < 24 → x < limits .vertices
+pub cell-edge-after-vertex : (limits : Limits) (t : List ℕ) (c x v d s : ℕ) → c < Column.perVertex → x < limits .vertices
     → cell (put t (vertexArea limits) c x v) (edgeArea limits) d s ≡ cell t (edgeArea limits) d s
 unfolding cell
 cell-edge-after-vertex limits t c x v d s h l =
     getD-put-other t (vertexArea limits) c x v (place (edgeArea limits) d s) (λ e. omega (arith, apart limits c x d s h l))
 
-pub cell-vertex-after-edge : (limits : Limits) (t : List ℕ) (d s v c x : ℕ) → c < 24 → x < limits .vertices
+pub cell-vertex-after-edge : (limits : Limits) (t : List ℕ) (d s v c x : ℕ) → c < Column.perVertex → x < limits .vertices
     → cell (put t (edgeArea limits) d s v) (vertexArea limits) c x ≡ cell t (vertexArea limits) c x
 unfolding cell
 cell-vertex-after-edge limits t d s v c x h l =
     getD-put-other t (edgeArea limits) d s v (place (vertexArea limits) c x) (λ e. omega (arith, apart limits c x d s h l))
 
--- the columns of bridge-blocks are columns 4 to 7 of the vertices
-bridge-block-place : (limits : Limits) (c x : ℕ) → place (bridgeBlockArea limits) c x ≡ place (vertexArea limits) (4 + c) x
+-- the columns of bridge-blocks are columns of the vertices, behind those of components
+bridge-block-place : (limits : Limits) (c x : ℕ) → place (bridgeBlockArea limits) c x ≡ place (vertexArea limits) (Column.ofBridgeBlocks c) x
 unfolding place
 bridge-block-place limits c x = omega arith
 
-pub cell-bridge-block : (limits : Limits) (t : List ℕ) (c x : ℕ) → cell t (bridgeBlockArea limits) c x ≡ cell t (vertexArea limits) (4 + c) x
+pub cell-bridge-block : (limits : Limits) (t : List ℕ) (c x : ℕ) → cell t (bridgeBlockArea limits) c x ≡ cell t (vertexArea limits) (Column.ofBridgeBlocks c) x
 unfolding cell
 cell-bridge-block limits t c x = rw (bridge-block-place limits c x)
 
 pub put-bridge-block : (limits : Limits) (t : List ℕ) (c x v : ℕ)
-    → put t (bridgeBlockArea limits) c x v ≡ put t (vertexArea limits) (4 + c) x v
+    → put t (bridgeBlockArea limits) c x v ≡ put t (vertexArea limits) (Column.ofBridgeBlocks c) x v
 unfolding put
 put-bridge-block limits t c x v = rw (bridge-block-place limits c x)

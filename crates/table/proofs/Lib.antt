@@ -4,6 +4,7 @@ pub mod KindNames
 pub mod MergeAbsorb
 pub mod MergeAbsorbed
 pub mod MergeBest
+pub mod MergeGive
 pub mod MergeKept
 pub mod MergeLaw
 pub mod MergeOutcome

@@ -1,5 +1,5 @@
--- What absorbing all groups of a listing leaves: the winner's size, the sizes of the others, and the pass.
-use mathlib.Core.Bool.{Bool, false, _||_, false≢true, or-false, or-assoc}
+-- What absorbing all groups of a listing leaves: the winner's words, the words of the others, and the pass.
+use mathlib.Core.Bool.{Bool, false, _&&_, _||_, false≢true, or-false, or-assoc}
 use mathlib.Core.List.{List, List·Memᴰ, List·Memᴰ·head, List·Memᴰ·tail}
 use mathlib.Core.Path.{_≡_, refl, sym, _∙_, ap, subst, subst₂, fun-ext}
 use Prim.Native.Nat.{ℕ, zero, suc, _+_, _≤_, _<_}
@@ -7,20 +7,20 @@ use native.Mathlib.Omega.{arith}
 use lib.Dec.{eqb}
 use Rattle.graph.proofs.Truth.{eqb-swap}
 use Rattle.graph.proofs.Below.{count-same}
-use Rattle.naming.specs.Rename.{Grouping, size}
+use Rattle.naming.specs.Rename.{Grouping}
 use Rattle.naming.proofs.Merge.{inMerged}
 use Rattle.table.specs.declared.words.Area.{Area}
 use Rattle.table.specs.declared.merge.Listing.{Listing}
 use Rattle.table.specs.declared.merge.Pass.{Pass}
-use Rattle.table.specs.Inside.Merge.{nameIn, sizeIn, itemOf, itemsFrom, absorbTable, absorbPass, Absorbed, absorbFrom, noPass, absorbListed}
+use Rattle.table.specs.Inside.Layout.{cell}
+use Rattle.table.specs.Inside.Merge.{nameIn, itemOf, itemsFrom, absorbTable, absorbPass, Absorbed, absorbFrom, noPass, absorbListed}
 use Rattle.table.specs.Inside.KindValid.{KindValid}
-use Rattle.table.proofs.Cells.{HasColumns}
-use Rattle.table.proofs.MergeKept.{ListedOutside, kept-refl, kept-item}
+use Rattle.table.proofs.MergeKept.{HasKind, ListedOutside, kept-refl, kept-item}
 use Rattle.table.proofs.MergeAbsorb.{Absorbing, absorb-one}
 use Rattle.table.proofs.KindNames.{same-group}
 
 -- Over a valid table t₀, with the winner w.
-module _ (t₀ : List ℕ) (area : Area) (n : ℕ) (columns : HasColumns t₀ area 4) (fits : n ≤ area .size) (small : n < 65536)
+module _ (t₀ : List ℕ) (area : Area) (n : ℕ) (has : HasKind t₀ area) (fits : n ≤ area .size) (small : n < 65536)
     (before : Grouping) (valid : KindValid t₀ area n before) (w : ℕ) (known : w < n) where
   -- the groups of k listed items more are absorbed
   absorb-from : (l : Listing) → ListedOutside area l
@@ -52,7 +52,7 @@ module _ (t₀ : List ℕ) (area : Area) (n : ℕ) (columns : HasColumns t₀ ar
       (λ x. merged x || before i x)
       (absorbTable t area w (nameIn t₀ area i))
       (absorbPass t area w (nameIn t₀ area i) p)
-      (absorb-one t₀ area n columns fits small before valid w known merged t p s i here))
+      (absorb-one t₀ area n has fits small before valid w known merged t p s i here))
     where
       i : ℕ
       i = itemOf t₀ l j
@@ -68,23 +68,21 @@ module _ (t₀ : List ℕ) (area : Area) (n : ℕ) (columns : HasColumns t₀ ar
 
   -- before anything is absorbed
   absorb-none : nameIn t₀ area w ≡ w → Absorbing t₀ area n before w (λ x. false) t₀ noPass
-  unfolding noPass size
+  unfolding noPass
   absorb-none self =
       record {
         kept = kept-refl area t₀;
         names = λ x h. refl;
         ranges = λ x h. refl;
         whole = λ x y h k e m. m;
-        winner = sized ∙ count-same n _ _ (λ x h. own x h);
-        others = λ x h d. valid .sized x h;
+        winner = λ c test q.
+            sym (ap (cell t₀ area c) self) ∙ q .counted w known ∙ count-same n _ _ (λ x h. ap (λ b. b && test x) (own x h));
+        others = λ c test q x h d. q .counted x h;
         from-least = λ x h m. absurd (false≢true m);
         to-greatest = λ x h m. absurd (false≢true m);
         to-known = omega arith;
       }
     where
-      sized : sizeIn t₀ area w ≡ size n before w
-      sized = rw self at (valid .sized w known)
-
       own : (x : ℕ) → x < n → before w x ≡ (eqb (nameIn t₀ area x) w || false)
       own x h =
           same-group valid w x known h

@@ -2,7 +2,7 @@
 use mathlib.Core.Bool.{Bool, true, false, not, cond, _&&_, _||_}
 use mathlib.Core.List.{List, _∷_, List·Memᴰ}
 use mathlib.Core.Logic.{_⊎_, inl, inr}
-use mathlib.Core.Path.{_≡_, refl, sym, _∙_, subst}
+use mathlib.Core.Path.{_≡_, refl, sym, _∙_, ap, subst}
 use Prim.Native.Nat.{ℕ, _≤_, _<_}
 use lib.Dec.{eqb}
 use lib.ListN.{length, getD}
@@ -10,7 +10,7 @@ use lib.Seq.{ext-getD}
 use Rattle.graph.specs.Below.{count, listed, tabulate, length-tabulate}
 use Rattle.graph.proofs.Truth.{true-or-false, false-of-not, not-both, bool-ext, or-left, or-right, and-left, and-right, and-both, eqb-eq, eqb-same}
 use Rattle.graph.proofs.Below.{count-same, listed-same}
-use Rattle.naming.specs.Rename.{Grouping, size, nameOf, candidate, bestOf, rename}
+use Rattle.naming.specs.Rename.{Grouping, nameOf, candidate, bestOf, rename}
 use Rattle.naming.proofs.Equivalent.{Equivalent}
 use Rattle.naming.proofs.Listed.{getD-tabulate, tabulate-same}
 use Rattle.naming.proofs.Best.{BestOf, best-name, best-of-list}
@@ -19,13 +19,13 @@ use Rattle.naming.proofs.Naming.{Naming, naming-agree, names-after-rename, name
 use Rattle.naming.proofs.Merge.{inMerged, holder, held, Merges, merge-best, merge-stays}
 use Rattle.table.specs.declared.words.Area.{Area}
 use Rattle.table.specs.declared.merge.Listing.{Listing}
+use Rattle.table.specs.Inside.Column
 use Rattle.table.specs.Inside.Layout.{cell}
-use Rattle.table.specs.Inside.Merge.{nameIn, sizeIn, rangeIn, leastOf, greatestOf, itemsFrom, bestListed, mergeListed}
-use Rattle.table.specs.Inside.KindValid.{namesIn, KindValid}
-use Rattle.table.proofs.Cells.{HasColumns}
-use Rattle.table.proofs.MergeKept.{Kept, ListedOutside}
+use Rattle.table.specs.Inside.Merge.{nameIn, rangeIn, leastOf, greatestOf, itemsFrom, bestListed, mergeListed}
+use Rattle.table.specs.Inside.KindValid.{namesIn, KindValid, passing, Counts}
+use Rattle.table.proofs.MergeKept.{HasKind, Kept, ListedOutside}
 use Rattle.table.proofs.MergeBest.{best-listed}
-use Rattle.table.proofs.KindNames.{name-in-list, length-names, one-group}
+use Rattle.table.proofs.KindNames.{name-in-list, length-names, one-group, size-passing, size-counts}
 use Rattle.table.proofs.MergeAbsorb.{loses}
 use Rattle.table.proofs.MergeOutcome.{Outcome, merge-outcome}
 
@@ -34,8 +34,10 @@ pub record MergedTo (t : List ℕ) (area : Area) (n : ℕ) (before after : Group
   pub kept : Kept area t t′
   pub names : namesIn t′ area n ≡ rename before after (namesIn t area n)
   pub valid : KindValid t′ area n after
+  -- a column that counts the items of each group that pass a test goes on doing so
+  pub counts : (c : ℕ) (test : ℕ → Bool) → Counts t area n before c test → Counts t′ area n after c test
   -- the items that changed their name are written down, rising
-  pub changed : tabulate count (cell t′ area 3) ≡ listed n (λ x. not (eqb (nameIn t area x) (nameIn t′ area x)))
+  pub changed : tabulate count (cell t′ area Column.changed) ≡ listed n (λ x. not (eqb (nameIn t area x) (nameIn t′ area x)))
   pub few : count ≤ n
   -- the winner is the name of a merged group, and the name of all their items; every other item keeps its name
   pub known : w < n
@@ -97,7 +99,7 @@ naming-merged n before after names named e e′ items merges =
               (e′ .transitive x y z (and-right (before x y) (after x y) m) (and-right (before y z) (after y z) k));
         }
 
-module _ (t : List ℕ) (area : Area) (n : ℕ) (columns : HasColumns t area 4) (fits : n ≤ area .size) (small : n < 65536)
+module _ (t : List ℕ) (area : Area) (n : ℕ) (has : HasKind t area) (fits : n ≤ area .size) (small : n < 65536)
     (before after : Grouping) (e : Equivalent before) (e′ : Equivalent after) (valid : KindValid t area n before)
     (l : Listing) (outside : ListedOutside area l) (r : ℕ) (rs : List ℕ) (items : itemsFrom t l 0 (l .count) ≡ r ∷ rs)
     (below : (z : ℕ) → List·Memᴰ z (r ∷ rs) → z < n) (merges : Merges n before after (r ∷ rs)) where
@@ -161,7 +163,7 @@ module _ (t : List ℕ) (area : Area) (n : ℕ) (columns : HasColumns t area 4) 
       subst
       (λ (is : List ℕ). Outcome t area n before w (inMerged before is) t′ (mergeListed t area l .count))
       items
-      (merge-outcome t area n columns fits small before e valid w known self l outside (λ z m. below z (rw items at m)))
+      (merge-outcome t area n has fits small before e valid w known self l outside (λ z m. below z (rw items at m)))
 
   taken : (x : ℕ) → x < n → merged x ≡ true → nameIn t′ area x ≡ w
   taken x h m = outcome .names x h ∙ go (true-or-false (wins x))
@@ -191,7 +193,7 @@ module _ (t : List ℕ) (area : Area) (n : ℕ) (columns : HasColumns t area 4) 
           ∙ sym (name-in-list t area n x h)
           ∙ sym (merge-stays n before after (namesIn t area n) (valid .named) e r rs below merges x h m)
 
-  changed-is : tabulate (mergeListed t area l .count) (cell t′ area 3) ≡ listed n (λ x. not (eqb (name x) (nameIn t′ area x)))
+  changed-is : tabulate (mergeListed t area l .count) (cell t′ area Column.changed) ≡ listed n (λ x. not (eqb (name x) (nameIn t′ area x)))
   changed-is = outcome .changed ∙ listed-same n _ _ (λ x h. rw (outcome .names x h) (go x (true-or-false (loses merged t area w x))))
     where
       go : (x : ℕ) → (loses merged t area w x ≡ true) ⊎ (loses merged t area w x ≡ false)
@@ -216,12 +218,23 @@ module _ (t : List ℕ) (area : Area) (n : ℕ) (columns : HasColumns t area 4) 
       same true = refl
       same false = refl
 
+  counts-after : (c : ℕ) (test : ℕ → Bool) → Counts t area n before c test → Counts t′ area n after c test
+  counts-after c test q = record { added-up = q .added-up; of-kind = q .of-kind; counted = λ x h. go x h (true-or-false (merged x)) }
+    where
+      go : (x : ℕ) → x < n → (merged x ≡ true) ⊎ (merged x ≡ false) → cell t′ area c (nameIn t′ area x) ≡ passing n after test x
+      go x h (inl m) =
+          rw (taken x h m) (outcome .winner-sum c test q ∙ count-same n _ _ (λ y k. ap (λ b. b && test y) (after-merged x y h k m)))
+      go x h (inr m) =
+          rw
+          (stays x h m)
+          (outcome .other-sum c test q x h (lost x h m) m ∙ count-same n _ _ (λ y k. ap (λ b. b && test y) (after-other x y h k m)))
+
   valid-after : KindValid t′ area n after
-  unfolding size
   valid-after =
       record {
         named = rw names-is (naming-merged n before after (namesIn t area n) (valid .named) e e′ (r ∷ rs) merges);
-        sized = λ x h. sizes x h (true-or-false (merged x));
+        sized = λ x h.
+            counts-after Column.size (λ y. true) (size-counts valid (has .has-size)) .counted x h ∙ sym (size-passing n after x);
         from-least = λ x h. low x h (true-or-false (merged x));
         to-greatest = λ x h. high x h (true-or-false (merged x));
         range-known = λ x h. ends x h (true-or-false (merged x));
@@ -229,11 +242,6 @@ module _ (t : List ℕ) (area : Area) (n : ℕ) (columns : HasColumns t area 4) 
     where
       own : (x : ℕ) → merged x ≡ true → (wins x || merged x) ≡ true
       own x m = or-right (wins x) m
-
-      sizes : (x : ℕ) → x < n → (merged x ≡ true) ⊎ (merged x ≡ false) → sizeIn t′ area (nameIn t′ area x) ≡ size n after x
-      sizes x h (inl m) = rw (taken x h m) (outcome .winner-size ∙ count-same n _ _ (λ y k. after-merged x y h k m))
-      sizes x h (inr m) =
-          rw (stays x h m) (outcome .other-size x h (lost x h m) m ∙ count-same n _ _ (λ y k. after-other x y h k m))
 
       low : (x : ℕ) → x < n → (merged x ≡ true) ⊎ (merged x ≡ false) → leastOf (rangeIn t′ area (nameIn t′ area x)) ≤ x
       low x h (inl m) = rw (taken x h m) (outcome .winner-least x h (own x m))
@@ -254,6 +262,7 @@ module _ (t : List ℕ) (area : Area) (n : ℕ) (columns : HasColumns t area 4) 
         kept = outcome .kept;
         names = names-is;
         valid = valid-after;
+        counts = counts-after;
         changed = changed-is;
         few = outcome .few;
         known = known;

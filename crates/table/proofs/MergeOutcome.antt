@@ -2,13 +2,13 @@
 use mathlib.Core.Bool.{Bool, true, false, not, cond, _&&_, _||_, and-false}
 use mathlib.Core.List.{List, List·Memᴰ}
 use mathlib.Core.Logic.{_⊎_, inl, inr}
-use mathlib.Core.Path.{_≡_, sym, _∙_}
+use mathlib.Core.Path.{_≡_, refl, sym, _∙_}
 use Prim.Native.Nat.{ℕ, _+_, _*_, _-_, _%_, _≤_, _<_, min, max}
 use native.Mathlib.Omega.{arith}
 use lib.Dec.{eqb, ltb}
 use Rattle.graph.specs.Below.{count, listed, tabulate}
 use Rattle.graph.proofs.Truth.{true-or-false, or-left, and-both, not-of-false, eqb-eq, eqb-ne, eq-eqb, ne-eqb, lt-ltb}
-use Rattle.naming.specs.Rename.{Grouping, size}
+use Rattle.naming.specs.Rename.{Grouping}
 use Rattle.naming.proofs.Count.{count-positive}
 use Rattle.naming.proofs.Equivalent.{Equivalent, size-positive}
 use Rattle.naming.proofs.Listed.{tabulate-same}
@@ -16,14 +16,15 @@ use Rattle.naming.proofs.Merge.{inMerged}
 use Rattle.table.specs.declared.words.Area.{Area}
 use Rattle.table.specs.declared.merge.Listing.{Listing}
 use Rattle.table.specs.declared.merge.Pass.{Pass}
+use Rattle.table.specs.Inside.Column
 use Rattle.table.specs.Inside.Layout.{cell, put}
 use Rattle.table.specs.Inside.Merge.{nameIn, sizeIn, rangeIn, leastOf, greatestOf, itemsFrom, widened, absorbListed, Renamed, renamePass, extended}
-use Rattle.table.specs.Inside.KindValid.{KindValid}
-use Rattle.table.proofs.Cells.{HasColumns, cell-put-same, cell-put-other-column, cell-put-other-item}
+use Rattle.table.specs.Inside.KindValid.{KindValid, passing, Counts}
+use Rattle.table.proofs.Cells.{cell-put-same, cell-put-other-column, cell-put-other-item}
 use Rattle.table.proofs.Halves.{high-half, low-half}
-use Rattle.table.proofs.MergeKept.{Kept, ListedOutside, kept-trans, kept-put, kept-columns}
+use Rattle.table.proofs.MergeKept.{HasKind, Kept, ListedOutside, kept-trans, kept-put, kept-columns}
 use Rattle.table.proofs.MergeAbsorb.{Absorbing, loses}
-use Rattle.table.proofs.KindNames.{name-known}
+use Rattle.table.proofs.KindNames.{name-known, size-passing, size-counts}
 use Rattle.table.proofs.MergeAbsorbed.{absorb-listed}
 use Rattle.table.proofs.MergeRename.{Renaming, rename-pass}
 
@@ -31,19 +32,21 @@ use Rattle.table.proofs.MergeRename.{Renaming, rename-pass}
 pub record Outcome (t : List ℕ) (area : Area) (n : ℕ) (before : Grouping) (w : ℕ) (merged : ℕ → Bool) (t′ : List ℕ) (count′ : ℕ) : Type 0 where
   pub kept : Kept area t t′
   pub names : (x : ℕ) → x < n → nameIn t′ area x ≡ cond (loses merged t area w x) w (nameIn t area x)
-  pub changed : tabulate count′ (cell t′ area 3) ≡ listed n (loses merged t area w)
+  pub changed : tabulate count′ (cell t′ area Column.changed) ≡ listed n (loses merged t area w)
   pub few : count′ ≤ n
   -- the words of the winner
-  pub winner-size : sizeIn t′ area w ≡ count n (λ x. eqb (nameIn t area x) w || merged x)
+  pub winner-sum : (c : ℕ) (test : ℕ → Bool) → Counts t area n before c test
+      → cell t′ area c w ≡ count n (λ x. (eqb (nameIn t area x) w || merged x) && test x)
   pub winner-least : (x : ℕ) → x < n → (eqb (nameIn t area x) w || merged x) ≡ true → leastOf (rangeIn t′ area w) ≤ x
   pub winner-greatest : (x : ℕ) → x < n → (eqb (nameIn t area x) w || merged x) ≡ true → x ≤ greatestOf (rangeIn t′ area w)
   pub winner-known : greatestOf (rangeIn t′ area w) < n
   -- the words of the groups that are not merged
-  pub other-size : (x : ℕ) → x < n → eqb (nameIn t area x) w ≡ false → merged x ≡ false → sizeIn t′ area (nameIn t area x) ≡ size n before x
+  pub other-sum : (c : ℕ) (test : ℕ → Bool) → Counts t area n before c test
+      → (x : ℕ) → x < n → eqb (nameIn t area x) w ≡ false → merged x ≡ false → cell t′ area c (nameIn t area x) ≡ passing n before test x
   pub other-range : (x : ℕ) → x < n → eqb (nameIn t area x) w ≡ false → rangeIn t′ area (nameIn t area x) ≡ rangeIn t area (nameIn t area x)
 
 -- Over a valid table, with a winner that names its own group.
-module _ (t : List ℕ) (area : Area) (n : ℕ) (columns : HasColumns t area 4) (fits : n ≤ area .size) (small : n < 65536)
+module _ (t : List ℕ) (area : Area) (n : ℕ) (has : HasKind t area) (fits : n ≤ area .size) (small : n < 65536)
     (before : Grouping) (e : Equivalent before) (valid : KindValid t area n before) (w : ℕ) (known : w < n) (self : nameIn t area w ≡ w) where
   abbrev name : ℕ → ℕ
   name x = nameIn t area x
@@ -59,14 +62,17 @@ module _ (t : List ℕ) (area : Area) (n : ℕ) (columns : HasColumns t area 4) 
     empty : (x : ℕ) → x < n → eqb (sizeIn t₁ area (nameIn t₁ area x)) 0 ≡ loses merged t area w x
     empty x h = rw (named x h) (go (true-or-false (wins x)) (true-or-false (merged x)))
       where
+        sized : Counts t area n before Column.size (λ y. true)
+        sized = size-counts valid (has .has-size)
+
         filled : 1 ≤ sizeIn t₁ area w
         filled =
             rw
-            (a .winner)
-            (count-positive n (λ y. wins y || merged y) w known (or-left (eq-eqb (name w) w self) (merged w)))
+            (a .winner Column.size (λ y. true) sized)
+            (count-positive n (λ y. (wins y || merged y) && true) w known (and-both (or-left (eq-eqb (name w) w self) (merged w)) refl))
 
-        size-is : (b : Bool) → merged x ≡ b → wins x ≡ false → sizeIn t₁ area (name x) ≡ cond b 0 (size n before x)
-        size-is b m d = rw (← m) (a .others x h d)
+        size-is : (b : Bool) → merged x ≡ b → wins x ≡ false → sizeIn t₁ area (name x) ≡ cond b 0 (passing n before (λ y. true) x)
+        size-is b m d = rw (← m) (a .others Column.size (λ y. true) sized x h d)
 
         go : (wins x ≡ true) ⊎ (wins x ≡ false) → (merged x ≡ true) ⊎ (merged x ≡ false)
             → eqb (sizeIn t₁ area (name x)) 0 ≡ (merged x && not (wins x))
@@ -81,7 +87,7 @@ module _ (t : List ℕ) (area : Area) (n : ℕ) (columns : HasColumns t area 4) 
             (ne-eqb
             (sizeIn t₁ area (name x))
             0
-            (λ z. omega (arith, size-is false m d, size-positive n before e x h)))
+            (λ z. omega (arith, size-is false m d, size-passing n before x, size-positive n before e x h)))
 
     abbrev passed : Renamed
     passed = renamePass t₁ area w p
@@ -92,7 +98,7 @@ module _ (t : List ℕ) (area : Area) (n : ℕ) (columns : HasColumns t area 4) 
         t₁
         area
         n
-        (kept-columns (a .kept) columns)
+        (kept-columns (a .kept) has)
         fits
         w
         (loses merged t area w)
@@ -112,7 +118,7 @@ module _ (t : List ℕ) (area : Area) (n : ℕ) (columns : HasColumns t area 4) 
     winner-range : rangeIn (passed .table) area w ≡ rangeIn t area w
     winner-range = renaming .ranges w (omega arith) ∙ a .ranges w (omega arith)
 
-    extended-is : extended (passed .table) area w p ≡ put (passed .table) area 2 w hull
+    extended-is : extended (passed .table) area w p ≡ put (passed .table) area Column.range w hull
     unfolding extended widened hull
     extended-is = rw winner-range
 
@@ -159,20 +165,21 @@ module _ (t : List ℕ) (area : Area) (n : ℕ) (columns : HasColumns t area 4) 
     outcome =
         rw extended-is
         record {
-          kept = kept-trans (kept-trans (a .kept) (renaming .kept)) (kept-put area (passed .table) 2 w hull (omega arith) wide);
-          names = λ x h. column 0 x (omega arith) (λ d. omega arith) ∙ renaming .names x h ∙ name-is x h;
-          changed = tabulate-same (passed .count) _ _ (λ i h. column 3 i (omega (arith, renaming .few)) (λ d. omega arith)) ∙ renaming .changed;
+          kept = kept-trans (kept-trans (a .kept) (renaming .kept)) (kept-put area (passed .table) Column.range w hull (omega (arith, has .has-size)) wide);
+          names = λ x h. column Column.name x (omega arith) (λ d. omega arith) ∙ renaming .names x h ∙ name-is x h;
+          changed = tabulate-same (passed .count) _ _ (λ i h. column Column.changed i (omega (arith, renaming .few)) (λ d. omega arith)) ∙ renaming .changed;
           few = renaming .few;
-          winner-size = column 1 w wide (λ d. omega arith) ∙ renaming .sizes w wide ∙ a .winner;
+          winner-sum = λ c test q.
+              column c w wide (λ d. omega (arith, q .added-up)) ∙ renaming .sums c w (q .added-up) wide ∙ a .winner c test q;
           winner-least = λ x h m. rw range-is (omega (arith, hull-parts, within x h m));
           winner-greatest = λ x h m. rw range-is (omega (arith, hull-parts, within x h m));
           winner-known = rw range-is (hull-parts .2);
-          other-size = λ x h d m.
-              column 1 (name x) (wide-name x h) (λ d. omega arith)
-              ∙ renaming .sizes (name x) (wide-name x h)
-              ∙ (rw m at (a .others x h d));
+          other-sum = λ c test q x h d m.
+              column c (name x) (wide-name x h) (λ d. omega (arith, q .added-up))
+              ∙ renaming .sums c (name x) (q .added-up) (wide-name x h)
+              ∙ (rw m at (a .others c test q x h d));
           other-range = λ x h d.
-              cell-put-other-item (passed .table) area 2 w hull (name x) (λ q. eqb-ne (name x) w d (sym q))
+              cell-put-other-item (passed .table) area Column.range w hull (name x) (λ q. eqb-ne (name x) w d (sym q))
               ∙ renaming .ranges (name x) (wide-name x h)
               ∙ a .ranges (name x) (wide-name x h);
         }
@@ -183,25 +190,25 @@ module _ (t : List ℕ) (area : Area) (n : ℕ) (columns : HasColumns t area 4) 
         wide-name : (x : ℕ) → x < n → name x < area .size
         wide-name x h = omega (arith, name-known valid x h)
 
-        column : (c x : ℕ) → x < area .size → (2 ≡ c → ⊥)
-            → cell (put (passed .table) area 2 w hull) area c x ≡ cell (passed .table) area c x
-        column c x h d = cell-put-other-column (passed .table) area 2 w hull c x wide h d
+        column : (c x : ℕ) → x < area .size → (Column.range ≡ c → ⊥)
+            → cell (put (passed .table) area Column.range w hull) area c x ≡ cell (passed .table) area c x
+        column c x h d = cell-put-other-column (passed .table) area Column.range w hull c x wide h d
 
         name-is : (x : ℕ) → x < n
             → cond (ltb x n && loses merged t area w x) w (nameIn t₁ area x) ≡ cond (loses merged t area w x) w (name x)
         name-is x h = rw (lt-ltb x n h, named x h)
 
-        range-is : rangeIn (put (passed .table) area 2 w hull) area w ≡ hull
+        range-is : rangeIn (put (passed .table) area Column.range w hull) area w ≡ hull
         range-is =
             cell-put-same
             (passed .table)
             area
-            4
-            2
+            (area .columns)
+            Column.range
             w
             hull
-            (kept-columns (renaming .kept) (kept-columns (a .kept) columns))
-            (omega arith)
+            (kept-columns (renaming .kept) (kept-columns (a .kept) has) .columns)
+            (omega (arith, has .has-size))
             wide
 
   -- merging the groups of a listing's items into the group named w
@@ -215,4 +222,4 @@ module _ (t : List ℕ) (area : Area) (n : ℕ) (columns : HasColumns t area 4) 
       (inMerged before (itemsFrom t l 0 (l .count)))
       (absorbListed t area l w .table)
       (absorbListed t area l w .pass)
-      (absorb-listed t area n columns fits small before valid w known self l o listed-below)
+      (absorb-listed t area n has fits small before valid w known self l o listed-below)

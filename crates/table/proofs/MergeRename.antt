@@ -13,19 +13,20 @@ use Rattle.graph.proofs.Below.{listed-skip}
 use Rattle.naming.proofs.Listed.{tabulate-same}
 use Rattle.table.specs.declared.words.Area.{Area}
 use Rattle.table.specs.declared.merge.Pass.{Pass}
+use Rattle.table.specs.Inside.Column
 use Rattle.table.specs.Inside.Layout.{cell, put}
 use Rattle.table.specs.Inside.Merge.{nameIn, sizeIn, rangeIn, renameTable, renameCount, renameFrom, renamePass}
-use Rattle.table.proofs.Cells.{HasColumns, length-put, cell-put-same, cell-put-other-column, cell-put-other-item}
+use Rattle.table.proofs.Cells.{length-put, cell-put-same, cell-put-other-column, cell-put-other-item}
 use Rattle.table.proofs.MergeSteps.{rename-end}
-use Rattle.table.proofs.MergeKept.{Kept, kept-refl, kept-trans, kept-put, kept-columns}
+use Rattle.table.proofs.MergeKept.{HasKind, Kept, kept-refl, kept-trans, kept-put, kept-columns}
 
 -- What the table is once the items below y that pass the test have the winner's name; count of them are written down.
 pub record Renaming (t₁ : List ℕ) (area : Area) (n w : ℕ) (loser : ℕ → Bool) (y : ℕ) (t : List ℕ) (count : ℕ) : Type 0 where
   pub kept : Kept area t₁ t
   pub names : (x : ℕ) → x < n → nameIn t area x ≡ cond (ltb x y && loser x) w (nameIn t₁ area x)
-  pub sizes : (x : ℕ) → x < area .size → sizeIn t area x ≡ sizeIn t₁ area x
+  pub sums : (c x : ℕ) → Column.size ≤ c → x < area .size → cell t area c x ≡ cell t₁ area c x
   pub ranges : (x : ℕ) → x < area .size → rangeIn t area x ≡ rangeIn t₁ area x
-  pub changed : tabulate count (cell t area 3) ≡ listed y loser
+  pub changed : tabulate count (cell t area Column.changed) ≡ listed y loser
   pub few : count ≤ y
 
 -- a last number that passes is listed last
@@ -52,7 +53,7 @@ ltb-suc x y d =
     (λ e. lt-ltb x (suc y) (omega (arith, ltb-lt x y e)))
 
 -- Over a table t₁ in which the items that pass the test are those whose group has size 0.
-module _ (t₁ : List ℕ) (area : Area) (n : ℕ) (columns : HasColumns t₁ area 4) (fits : n ≤ area .size) (w : ℕ) (loser : ℕ → Bool)
+module _ (t₁ : List ℕ) (area : Area) (n : ℕ) (has : HasKind t₁ area) (fits : n ≤ area .size) (w : ℕ) (loser : ℕ → Bool)
     (named : (x : ℕ) → x < n → nameIn t₁ area x < n)
     (empty : (x : ℕ) → x < n → eqb (sizeIn t₁ area (nameIn t₁ area x)) 0 ≡ loser x) where
   -- before the first item
@@ -62,7 +63,7 @@ module _ (t₁ : List ℕ) (area : Area) (n : ℕ) (columns : HasColumns t₁ ar
       record {
         kept = kept-refl area t₁;
         names = λ x h. rw (ltb-zero x);
-        sizes = λ x h. refl;
+        sums = λ c x h l. refl;
         ranges = λ x h. refl;
         changed = refl;
         few = omega arith;
@@ -75,7 +76,7 @@ module _ (t₁ : List ℕ) (area : Area) (n : ℕ) (columns : HasColumns t₁ ar
       record {
         kept = s .kept;
         names = λ x h. s .names x h ∙ ap (λ (b : Bool). cond b w (nameIn t₁ area x)) (same x (true-or-false (eqb x y)));
-        sizes = s .sizes;
+        sums = s .sums;
         ranges = s .ranges;
         changed = s .changed ∙ sym (listed-skip y loser e);
         few = omega (arith, s .few);
@@ -87,20 +88,23 @@ module _ (t₁ : List ℕ) (area : Area) (n : ℕ) (columns : HasColumns t₁ ar
 
   -- an item that passes takes the winner's name and is written down
   rename-take : (y : ℕ) (t : List ℕ) (count : ℕ) → y < n → loser y ≡ true → Renaming t₁ area n w loser y t count
-      → Renaming t₁ area n w loser (suc y) (put (put t area 0 y w) area 3 count y) (suc count)
+      → Renaming t₁ area n w loser (suc y) (put (put t area Column.name y w) area Column.changed count y) (suc count)
   rename-take y t count h e s =
       record {
-        kept = kept-trans (s .kept) (kept-trans (kept-put area t 0 y w (omega arith) wide) (kept-put area taken 3 count y (omega arith) room));
+        kept = kept-trans (s .kept) (kept-trans (kept-put area t Column.name y w (omega (arith, still .has-size)) wide) (kept-put area taken Column.changed count y (omega (arith, still .has-size)) room));
         names = λ x k. names-now x k (true-or-false (eqb x y));
-        sizes = λ x k. column 1 x k (λ d. omega arith) (λ d. omega arith) ∙ s .sizes x k;
-        ranges = λ x k. column 2 x k (λ d. omega arith) (λ d. omega arith) ∙ s .ranges x k;
+        sums = λ c x l k. column c x k (λ d. omega arith) (λ d. omega arith) ∙ s .sums c x l k;
+        ranges = λ x k. column Column.range x k (λ d. omega arith) (λ d. omega arith) ∙ s .ranges x k;
         changed =
-            tabulate-last count (cell noted area 3)
+            tabulate-last count (cell noted area Column.changed)
             ∙ ap₂ (λ (l : List ℕ) (z : ℕ). l ++ z ∷ []) (tabulate-same count _ _ older ∙ s .changed) newest
             ∙ sym (listed-last y loser e);
         few = omega (arith, s .few);
       }
     where
+      still : HasKind t area
+      still = kept-columns (s .kept) has
+
       wide : y < area .size
       wide = omega arith
 
@@ -108,41 +112,41 @@ module _ (t₁ : List ℕ) (area : Area) (n : ℕ) (columns : HasColumns t₁ ar
       room = omega (arith, s .few)
 
       taken : List ℕ
-      taken = put t area 0 y w
+      taken = put t area Column.name y w
 
       noted : List ℕ
-      noted = put taken area 3 count y
+      noted = put taken area Column.changed count y
 
-      column : (c x : ℕ) → x < area .size → (3 ≡ c → ⊥) → (0 ≡ c → ⊥) → cell noted area c x ≡ cell t area c x
-      column c x k d d′ = cell-put-other-column taken area 3 count y c x room k d ∙ cell-put-other-column t area 0 y w c x wide k d′
+      column : (c x : ℕ) → x < area .size → (Column.changed ≡ c → ⊥) → (Column.name ≡ c → ⊥) → cell noted area c x ≡ cell t area c x
+      column c x k d d′ = cell-put-other-column taken area Column.changed count y c x room k d ∙ cell-put-other-column t area Column.name y w c x wide k d′
 
-      older : (i : ℕ) → i < count → cell noted area 3 i ≡ cell t area 3 i
+      older : (i : ℕ) → i < count → cell noted area Column.changed i ≡ cell t area Column.changed i
       older i k =
-          cell-put-other-item taken area 3 count y i (λ d. omega arith)
-          ∙ cell-put-other-column t area 0 y w 3 i wide (omega (arith, room)) (λ d. omega arith)
+          cell-put-other-item taken area Column.changed count y i (λ d. omega arith)
+          ∙ cell-put-other-column t area Column.name y w Column.changed i wide (omega (arith, room)) (λ d. omega arith)
 
-      newest : cell noted area 3 count ≡ y
+      newest : cell noted area Column.changed count ≡ y
       newest =
-          cell-put-same taken area 4 3 count y (rw (length-put t area 0 y w) (kept-columns (s .kept) columns)) (omega arith) room
+          cell-put-same taken area (area .columns) Column.changed count y (rw (length-put t area Column.name y w) (still .columns)) (omega (arith, still .has-size)) room
 
       names-now : (x : ℕ) → x < n → (eqb x y ≡ true) ⊎ (eqb x y ≡ false)
           → nameIn noted area x ≡ cond (ltb x (suc y) && loser x) w (nameIn t₁ area x)
       names-now x k (inl d) =
           rw
           (eqb-eq x y d, e, lt-ltb y (suc y) (omega arith))
-          (cell-put-other-column taken area 3 count y 0 y room wide (λ d. omega arith)
-          ∙ cell-put-same t area 4 0 y w (kept-columns (s .kept) columns) (omega arith) wide)
+          (cell-put-other-column taken area Column.changed count y Column.name y room wide (λ d. omega arith)
+          ∙ cell-put-same t area (area .columns) Column.name y w (still .columns) (omega (arith, still .has-size)) wide)
       names-now x k (inr d) =
           rw
           (ltb-suc x y (eqb-ne x y d))
-          (cell-put-other-column taken area 3 count y 0 x room (omega arith) (λ d. omega arith)
-          ∙ cell-put-other-item t area 0 y w x (λ q. eqb-ne x y d (sym q))
+          (cell-put-other-column taken area Column.changed count y Column.name x room (omega arith) (λ d. omega arith)
+          ∙ cell-put-other-item t area Column.name y w x (λ q. eqb-ne x y d (sym q))
           ∙ s .names x k)
 
   -- the test of an item that is not yet renamed
   tested : (y : ℕ) (t : List ℕ) (count : ℕ) → y < n → Renaming t₁ area n w loser y t count
       → eqb (sizeIn t area (nameIn t area y)) 0 ≡ loser y
-  tested y t count h s = rw (own, s .sizes (nameIn t₁ area y) (omega (arith, named y h))) (empty y h)
+  tested y t count h s = rw (own, s .sums Column.size (nameIn t₁ area y) (omega arith) (omega (arith, named y h))) (empty y h)
     where
       own : nameIn t area y ≡ nameIn t₁ area y
       own = rw (ge-ltb y y (omega arith)) at (s .names y h)
@@ -153,7 +157,7 @@ module _ (t₁ : List ℕ) (area : Area) (n : ℕ) (columns : HasColumns t₁ ar
   rename-one y t count h s = rw (tested y t count h s) (go (true-or-false (loser y)))
     where
       go : (loser y ≡ true) ⊎ (loser y ≡ false)
-          → Renaming t₁ area n w loser (suc y) (cond (loser y) (put (put t area 0 y w) area 3 count y) t) (cond (loser y) (suc count) count)
+          → Renaming t₁ area n w loser (suc y) (cond (loser y) (put (put t area Column.name y w) area Column.changed count y) t) (cond (loser y) (suc count) count)
       go (inl e) = rw e (rename-take y t count h e s)
       go (inr e) = rw e (rename-skip y t count e s)
 

@@ -10,7 +10,7 @@ use Rattle.table.specs.declared.words.Area.{Area}
 use Rattle.table.specs.declared.merge.Listing.{Listing}
 use Rattle.table.specs.declared.merge.Pass.{Pass}
 use Rattle.table.specs.Inside.Merge.{nameIn, sizeIn, itemOf, itemsFrom, betterName, bestOver, widened}
-use Rattle.table.specs.Inside.Merge.{absorbTable, absorbPass, absorbFrom, renameTable, renameCount, renameFrom}
+use Rattle.table.specs.Inside.Merge.{givenIn, givenFrom, absorbTable, absorbPass, absorbFrom, renameTable, renameCount, renameFrom}
 
 -- what is left before an item is one more than what is left after it
 one-more-left : (i n : ℕ) → i < n → n - i ≡ suc (n - (i + 1))
@@ -30,6 +30,19 @@ best-step t area l w i h = rw (one-more-left i (l .count) h, add-one i)
 pub best-end : (t : List ℕ) (area : Area) (l : Listing) (w i : ℕ) → l .count ≤ i → bestOver t area w (itemsFrom t l i (l .count - i)) ≡ w
 unfolding bestOver itemsFrom
 best-end t area l w i h = rw (none-left i (l .count) h)
+
+-- what a group has in the next column is given, and then the rest
+pub give-step : (t : List ℕ) (area : Area) (w name column : ℕ) → column < area .columns
+    → givenFrom t area w name column (area .columns - column)
+    ≡ givenFrom (givenIn t area column w name) area w name (column + 1) (area .columns - (column + 1))
+unfolding givenFrom
+give-step t area w name column h = rw (one-more-left column (area .columns) h, add-one column)
+
+-- with no column left the table stays
+pub give-end : (t : List ℕ) (area : Area) (w name column : ℕ) → area .columns ≤ column
+    → givenFrom t area w name column (area .columns - column) ≡ t
+unfolding givenFrom
+give-end t area w name column h = rw (none-left column (area .columns) h)
 
 -- the group of the next listed item is absorbed, and then those of the rest
 pub absorb-step : (t : List ℕ) (area : Area) (l : Listing) (w i : ℕ) (p : Pass) → i < l .count

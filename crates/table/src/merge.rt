@@ -1,7 +1,8 @@
 // Merging groups of one kind: the best of their names, and the items that take it.
 ghost use mathlib.Core.Path.{_≡_};
-ghost use Prim.Native.Nat.{_≤_, _<_, min, max};
-ghost use Rattle.table.specs.Inside.Merge.{betterName, bestListed, widened, absorbTable, absorbPass, absorbListed};
+ghost use Prim.Native.Nat.{_-_, _≤_, _<_, min, max};
+ghost use Rattle.table.specs.Inside.Column;
+ghost use Rattle.table.specs.Inside.Merge.{betterName, bestListed, widened, givenIn, givenFrom, absorbTable, absorbPass, absorbListed};
 ghost use Rattle.table.specs.Inside.Merge.{renameTable, renameCount, renamePass, extended, mergeListed};
 use crate::words::Area;
 use crate::words::CHANGED;
@@ -82,23 +83,41 @@ fn widen(p: Pass, range: u32) -> Pass
     Pass { from: from, to: to }
 }
 
-// The group gives its size to the winner, and the pass is widened to its range.
+// The group gives what it has in a column to the winner, and keeps 0.
+fn give(t: &mut [u32], area: Area, column: u8, w: u32, name: u32)
+    ensures { λ r. ⌜ now (t .exit) ≡ givenIn (now (t .entry)) area column w name ⌝ }
+{
+    let had = word(t, area, column, w);
+    let gained = word(t, area, column, name);
+    let both = std::num::wrapping_add_u32(had, gained);
+    set_word(t, area, column, w, both);
+    set_word(t, area, column, name, 0);
+}
+
+// The group gives its size, and what the columns behind the size have, to the winner.
+fn give_all(t: &mut [u32], area: Area, w: u32, name: u32)
+    ensures { λ r. ⌜ now (t .exit) ≡ givenFrom (now (t .entry)) area w name Column.size (area .columns - Column.size) ⌝ }
+{
+    let mut column = SIZE;
+    while column < area.columns {
+        give(t, area, column, w, name);
+        column += 1;
+    }
+}
+
+// The group gives what it has to the winner, and the pass is widened to its range.
 fn absorb(t: &mut [u32], area: Area, w: u32, name: u32, p: Pass) -> Pass
     ensures { λ r. ⌜ (now (t .exit) ≡ absorbTable (now (t .entry)) area w name) × (r ≡ absorbPass (now (t .entry)) area w name p) ⌝ }
 {
     if name == w {
         return p;
     }
-    let had = word(t, area, SIZE, w);
-    let gained = word(t, area, SIZE, name);
     let range = word(t, area, RANGE, name);
-    let both = std::num::wrapping_add_u32(had, gained);
-    set_word(t, area, SIZE, w, both);
-    set_word(t, area, SIZE, name, 0);
+    give_all(t, area, w, name);
     widen(p, range)
 }
 
-// The groups of the listed items give their sizes to the winner; the pass holds all their items.
+// The groups of the listed items give what they have to the winner; the pass holds all their items.
 fn absorb_all(t: &mut [u32], area: Area, l: Listing, w: u32) -> Pass
     ensures { λ r. ⌜ (now (t .exit) ≡ absorbListed (now (t .entry)) area l w .table) × (r ≡ absorbListed (now (t .entry)) area l w .pass) ⌝ }
 {

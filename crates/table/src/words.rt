@@ -1,42 +1,56 @@
-// The words of the working table. Every vertex has 24 words and every edge 8, laid out column by column: first the columns of the
-// vertices, then those of the edges.
+// The words of the working table, laid out column by column: first the columns of the vertices, then those of the edges. The numbers
+// below stand in specs/Inside/Column too, by which the contracts speak.
 ghost use mathlib.Core.Path.{_≡_};
 ghost use Prim.Native.Nat.{suc};
 ghost use Rattle.table.specs.Inside.Layout.{place, cell, put, vertexArea, bridgeBlockArea, edgeArea};
 use numbers::Limits;
 
-// The columns of each kind of group: an item's name; by a name, its group's size and the range of its items; the items that changed their
-// name.
+// How many words each vertex takes, and each edge.
+pub const WORDS_PER_VERTEX: u32 = 24;
+
+pub const WORDS_PER_EDGE: u32 = 8;
+
+// The columns of each kind of group: an item's name; by a name, the range of its group's items; the items that changed their name; by a
+// name, its group's size. From SIZE on, up to the last column of the kind, merging adds up what groups have.
 pub const NAME: u8 = 0;
 
-pub const SIZE: u8 = 1;
+pub const RANGE: u8 = 1;
 
-pub const RANGE: u8 = 2;
+pub const CHANGED: u8 = 2;
 
-pub const CHANGED: u8 = 3;
+pub const SIZE: u8 = 3;
+
+// How many columns components have, bridge-blocks, and blocks. Those of the bridge-blocks stand behind those of the components.
+const COMPONENT_COLUMNS: u8 = 4;
+
+const BRIDGE_BLOCK_COLUMNS: u8 = 4;
+
+const BLOCK_COLUMNS: u8 = 4;
 
 // The other columns of the edges: an edge's two ends; by a block's name, the vertex above it.
-pub const ENDS: u8 = 4;
+pub const ENDS: u8 = BLOCK_COLUMNS;
 
-pub const TOP: u8 = 5;
+pub const TOP: u8 = ENDS + 1;
 
 // The other columns of the vertices: the way up, the depth, the path's vertices and edges, and those of its right side.
-pub const UP: u8 = 8;
+pub const UP: u8 = COMPONENT_COLUMNS + BRIDGE_BLOCK_COLUMNS;
 
-pub const DEPTH: u8 = 9;
+pub const DEPTH: u8 = UP + 1;
 
-pub const PATH_VERTEX: u8 = 10;
+pub const PATH_VERTEX: u8 = UP + 2;
 
-pub const PATH_EDGE: u8 = 11;
+pub const PATH_EDGE: u8 = UP + 3;
 
-pub const RIGHT_VERTEX: u8 = 12;
+pub const RIGHT_VERTEX: u8 = UP + 4;
 
-pub const RIGHT_EDGE: u8 = 13;
+pub const RIGHT_EDGE: u8 = UP + 5;
 
-// Columns of the table, each with a word for every item.
+// The columns of a kind of group, and those behind them: where they begin, how many items each has a word for, and how many are of the
+// kind.
 pub struct Area {
     pub base: u32,
     pub size: u16,
+    pub columns: u8,
 }
 
 pub fn vertex_area(limits: Limits) -> Area
@@ -45,6 +59,7 @@ pub fn vertex_area(limits: Limits) -> Area
     Area {
         base: 0,
         size: limits.vertices,
+        columns: COMPONENT_COLUMNS,
     }
 }
 
@@ -52,8 +67,9 @@ pub fn bridge_block_area(limits: Limits) -> Area
     ensures { λ r. ⌜ r ≡ bridgeBlockArea limits ⌝ }
 {
     Area {
-        base: (limits.vertices as u32) * 4,
+        base: (limits.vertices as u32) * (COMPONENT_COLUMNS as u32),
         size: limits.vertices,
+        columns: BRIDGE_BLOCK_COLUMNS,
     }
 }
 
@@ -61,8 +77,9 @@ pub fn edge_area(limits: Limits) -> Area
     ensures { λ r. ⌜ r ≡ edgeArea limits ⌝ }
 {
     Area {
-        base: (limits.vertices as u32) * 24,
+        base: (limits.vertices as u32) * WORDS_PER_VERTEX,
         size: limits.edges,
+        columns: BLOCK_COLUMNS,
     }
 }
 

@@ -1,15 +1,11 @@
--- A run of stores: one behind another, over the front of a buffer, and the answer that it leaves.
+-- A run of stores: one behind another, and over the front of a buffer.
 use mathlib.Core.List.{List, [], _∷_, _++_}
-use mathlib.Core.Path.{_≡_, refl, sym, _∙_, ap}
-use Prim.Native.Nat.{ℕ, suc, _+_, _≤_, _<_}
+use mathlib.Core.Path.{_≡_, _∙_, ap}
+use Prim.Native.Nat.{ℕ, suc, _+_, _≤_}
 use native.Mathlib.Omega.{arith}
 use lib.ListN.{length, drop, set, length-append}
 use lib.Seq.{sets, sets-eq}
-use Rattle.graph.proofs.Truth.{le-leb}
 use Rattle.commands.specs.Entry.{over}
-use Rattle.commands.proofs.Cases.{gt-leb}
-use Rattle.writing.specs.declared.write.Written.the-variants as W
-use Rattle.writing.specs.Inside.Writes.{Wrote, writeOr, writtenOf}
 
 -- stores that begin where others end are one run of stores
 pub sets-behind : (l : List ℕ) (i j : ℕ) (xs ys : List ℕ) → j ≡ i + length xs → sets (sets l i xs) j ys ≡ sets l i (xs ++ ys)
@@ -32,22 +28,3 @@ unfolding over
 sets-front l bytes h =
     sets-eq bytes l 0 (omega arith)
     ∙ ap (λ (k : ℕ). bytes ++ drop k l) (let e : 0 + length bytes ≡ length bytes = omega arith in e)
-
-module _ (old bytes : List ℕ) (size : ℕ) (counted : length bytes ≡ size) where
-  -- stores of bytes that fit leave the answer
-  pub wrote : (new : List ℕ) → size ≤ length old → new ≡ sets old 0 bytes → Wrote old new (W.Bytes size) bytes
-  unfolding writeOr writtenOf
-  wrote new h e =
-      record {
-        buffer-is = rw (le-leb (length bytes) (length old) (omega arith)) (e ∙ sets-front old bytes (omega arith));
-        result-is = rw (le-leb (length bytes) (length old) (omega arith)) (ap W.Bytes (sym counted));
-      }
-
-  -- where the bytes do not fit, nothing is stored
-  pub wrote-nothing : length old < size → Wrote old old W.NoRoom bytes
-  unfolding writeOr writtenOf
-  wrote-nothing h =
-      record {
-        buffer-is = rw (gt-leb (length bytes) (length old) (omega arith)) refl;
-        result-is = rw (gt-leb (length bytes) (length old) (omega arith)) refl;
-      }

@@ -1,21 +1,31 @@
--- Laws of the loops that write lists: the bytes of one item more, and how many bytes there are.
-use mathlib.Core.List.{List, [], _∷_, _++_, append-assoc, append-nil}
+-- Laws of the writers: the bytes of one item more, how many bytes there are, and the answers that they are.
+use mathlib.Core.Bool.{Bool, true, false}
+use mathlib.Core.List.{List, [], _∷_, _++_, map}
 use mathlib.Core.Path.{_≡_, refl, sym, _∙_, ap}
-use Prim.Native.Nat.{ℕ, suc, _+_, _*_}
+use mir.Val as Machine
+use Prim.Native.Nat.{ℕ, suc, _+_, _*_, _≤_}
 use native.Mathlib.Omega.{arith}
-use lib.ListN.{length, length-append}
+use lib.ListN.{length}
 use lib.Seq.{sets}
 use Rattle.graph.specs.Below.{tabulate, length-tabulate}
-use Rattle.commands.specs.Bytes.{twoBytes, twoBytesEach}
-use Rattle.commands.specs.Answer.{Notice, noticeBytes, noticesBytes}
-use Rattle.commands.proofs.Bytes.{length-two-bytes-each}
-use Rattle.commands.proofs.NoticeBytes.{length-notices-bytes, notices-bytes-append}
+use Rattle.commands.specs.Bytes.{twoBytes}
+use Rattle.commands.specs.Field.{Kind, district, ring, mesh, fieldBytes, fieldsBytes}
+use Rattle.commands.specs.Answer.{noticeFields, noticesFields, boolByte, plainFields, spanAdded, plain, answerFields, answerBytes}
+use Rattle.commands.specs.Entry.{over}
+use Rattle.commands.proofs.Bytes.{InTwoBytes, cabinets-in-two-bytes, spans-in-two-bytes, bytes-of-one-more, length-two-bytes-each}
+use Rattle.commands.proofs.NoticeBytes.{length-notices-bytes, notices-bytes-append, bytes-of-one-more-notice}
 use Rattle.forest.specs.declared.Shape.{Shape}
 use Rattle.forest.specs.declared.Growth.{Growth}
-use Rattle.writing.specs.declared.notice.Told.{Told}
-use Rattle.writing.specs.declared.notice.Told.the-variants as K
-use Rattle.writing.specs.Inside.Notices.{noticeAt, noticesOf, noticeCount, headBytes, spanBytes}
-use Rattle.writing.proofs.Sets.{sets-behind, sets-four}
+use Rattle.forest.specs.declared.VertexGroups.{VertexGroups}
+use Rattle.forest.specs.declared.VertexGroups.the-variants as G
+use Rattle.step.specs.declared.Listed.{Listed}
+use Rattle.step.specs.declared.Listed.the-variants as L
+use Rattle.step.specs.declared.Reply.{Reply}
+use Rattle.step.specs.Promise.{noticeAt, noticesOf, noticeCount, growthNotices, nameAnswer, listAnswer, replyAnswer, replySize}
+use Rattle.step.proofs.Replies.{count-notices, reply-counted}
+use Rattle.writing.specs.Inside.Notices.{headBytes}
+use Rattle.writing.specs.Inside.Writes.{nameCode, listCode, listField}
+use Rattle.writing.proofs.Sets.{sets-behind, sets-four, sets-front}
 
 -- items of a kind: `each` gives the bytes of a list of them, `one` those of one, which are `width` many
 module _
@@ -36,80 +46,122 @@ module _
         sets-behind l start at (each (tabulate i f)) (one (f i)) (omega (arith, length-written i f))
         ∙ ap (λ (b : List ℕ). sets l start b) (sym (more (tabulate i f) (f i)))
 
-two-bytes-more : (ns : List ℕ) (n : ℕ) → twoBytesEach (ns ++ n ∷ []) ≡ twoBytesEach ns ++ twoBytes n
-unfolding twoBytesEach
-two-bytes-more [] n = append-nil (twoBytes n)
-two-bytes-more (m ∷ ns) n = rw (two-bytes-more ns n) (sym (append-assoc (twoBytes m) (twoBytesEach ns) (twoBytes n)))
+-- the items of the lists have two bytes
+listed-in-two-bytes : (list : Listed) → InTwoBytes (listField list)
+unfolding listField
+listed-in-two-bytes L.Spans = spans-in-two-bytes
+listed-in-two-bytes L.Cabinets = cabinets-in-two-bytes
 
--- how many bytes the first n numbers of a list have
-pub length-items : (n : ℕ) (f : ℕ → ℕ) → length (twoBytesEach (tabulate n f)) ≡ 2 * n
-length-items n f = length-written twoBytesEach twoBytes 2 two-bytes-more length-two-bytes-each n f
+-- one item more
+pub items-more : (list : Listed) (l : List ℕ) (start at i : ℕ) (f : ℕ → ℕ) → at ≡ start + 2 * i
+    → sets (sets l start (fieldsBytes (map (listField list) (tabulate i f)))) at (twoBytes (f i))
+    ≡ sets l start (fieldsBytes (map (listField list) (tabulate (suc i) f)))
+items-more list l start at i f e =
+    let two = listed-in-two-bytes list in
+    written-more
+    (λ ns. fieldsBytes (map (listField list) ns))
+    twoBytes
+    2
+    (bytes-of-one-more (listField list) two)
+    (length-two-bytes-each (listField list) two)
+    l
+    start
+    at
+    i
+    f
+    e
 
--- one number more
-pub items-more : (l : List ℕ) (start at i : ℕ) (f : ℕ → ℕ) → at ≡ start + 2 * i
-    → sets (sets l start (twoBytesEach (tabulate i f))) at (twoBytes (f i)) ≡ sets l start (twoBytesEach (tabulate (suc i) f))
-items-more l start at i f e = written-more twoBytesEach twoBytes 2 two-bytes-more length-two-bytes-each l start at i f e
+-- a test as a byte
+pub flag-byte : (b : Bool) → Machine.boolByte b ≡ boolByte b
+unfolding boolByte
+flag-byte true = refl
+flag-byte false = refl
 
-notices-more : (ts : List Notice) (t : Notice) → noticesBytes (ts ++ t ∷ []) ≡ noticesBytes ts ++ noticeBytes t
-unfolding noticesBytes
-notices-more ts t = notices-bytes-append ts (t ∷ []) ∙ ap (λ l. noticesBytes ts ++ l) (append-nil (noticeBytes t))
+-- the answer to 03 or 04 is its code and the name
+pub name-bytes : (groups : VertexGroups) (name : ℕ) → answerBytes (plain (nameAnswer groups name)) ≡ nameCode groups ∷ twoBytes name
+unfolding nameAnswer nameCode answerBytes answerFields plainFields fieldsBytes fieldBytes twoBytes
+name-bytes G.Components name = refl
+name-bytes G.BridgeBlocks name = refl
 
-module _ (told : Told) (shape : Shape) (t : List ℕ) where
+-- the answer to 06 or 07 is its code, its count and its items
+pub list-bytes : (list : Listed) (items : List ℕ)
+    → answerBytes (plain (listAnswer list items)) ≡ listCode list ∷ twoBytes (length items) ++ fieldsBytes (map (listField list) items)
+unfolding listAnswer listCode listField answerBytes answerFields plainFields fieldsBytes fieldBytes twoBytes
+list-bytes L.Spans items = refl
+list-bytes L.Cabinets items = refl
+
+module _ (kind : Kind) (shape : Shape) (t : List ℕ) where
   -- how many bytes the first n notices of a kind have
-  pub length-told : (n : ℕ) → length (noticesBytes (noticesOf told shape t n)) ≡ 5 * n
-  length-told n = length-written noticesBytes noticeBytes 5 notices-more length-notices-bytes n (noticeAt told shape t)
+  length-told : (n : ℕ) → length (fieldsBytes (noticesFields (noticesOf kind shape t n))) ≡ 5 * n
+  length-told n =
+      length-written
+      (λ ts. fieldsBytes (noticesFields ts))
+      (λ u. fieldsBytes (noticeFields u))
+      5
+      bytes-of-one-more-notice
+      length-notices-bytes
+      n
+      (noticeAt kind shape t)
 
   -- one notice more
   pub told-more : (l : List ℕ) (start at i : ℕ) → at ≡ start + 5 * i
-      → sets (sets l start (noticesBytes (noticesOf told shape t i))) at (noticeBytes (noticeAt told shape t i))
-      ≡ sets l start (noticesBytes (noticesOf told shape t (suc i)))
-  told-more l start at i e = written-more noticesBytes noticeBytes 5 notices-more length-notices-bytes l start at i (noticeAt told shape t) e
+      → sets (sets l start (fieldsBytes (noticesFields (noticesOf kind shape t i)))) at (fieldsBytes (noticeFields (noticeAt kind shape t i)))
+      ≡ sets l start (fieldsBytes (noticesFields (noticesOf kind shape t (suc i))))
+  told-more l start at i e =
+      written-more
+      (λ ts. fieldsBytes (noticesFields ts))
+      (λ u. fieldsBytes (noticeFields u))
+      5
+      bytes-of-one-more-notice
+      length-notices-bytes
+      l
+      start
+      at
+      i
+      (noticeAt kind shape t)
+      e
 
 -- The answer to an added span.
 module _ (shape : Shape) (t : List ℕ) (growth : Growth) where
+  abbrev told : Kind → ℕ → List ℕ
+  told kind n = fieldsBytes (noticesFields (noticesOf kind shape t n))
+
   abbrev districts : List ℕ
-  districts = noticesBytes (noticesOf K.Districts shape t (growth .components))
+  districts = told district (growth .components)
 
   abbrev rings : List ℕ
-  rings = noticesBytes (noticesOf K.Rings shape t (growth .«bridge_blocks»))
+  rings = told ring (growth .«bridge_blocks»)
 
   abbrev meshes : List ℕ
-  meshes = noticesBytes (noticesOf K.Meshes shape t (growth .blocks))
+  meshes = told mesh (growth .blocks)
 
-  length-districts : length districts ≡ 5 * growth .components
-  length-districts = length-told K.Districts shape t (growth .components)
+  abbrev head : ℕ → List ℕ
+  head span = headBytes span (growth .block .0) (noticeCount growth)
 
-  length-rings : length rings ≡ 5 * growth .«bridge_blocks»
-  length-rings = length-told K.Rings shape t (growth .«bridge_blocks»)
-
-  -- how many bytes the answer to an added span has
-  pub length-span : (span : ℕ) → length (spanBytes shape t span growth) ≡ 7 + 5 * noticeCount growth
-  unfolding spanBytes headBytes twoBytes
-  length-span span =
-      omega (
-        arith,
-        length-append (districts ++ rings) meshes,
-        length-append districts rings,
-        length-districts,
-        length-rings,
-        length-told K.Meshes shape t (growth .blocks),
+  -- its head and the notices of each kind
+  span-bytes : (span : ℕ) → head span ++ districts ++ rings ++ meshes ≡ answerBytes (spanAdded span (growth .block .0) (growthNotices shape t growth))
+  unfolding headBytes answerBytes answerFields fieldsBytes fieldBytes twoBytes
+  span-bytes span =
+      rw (
+        count-notices shape t growth,
+        notices-bytes-append
+            (noticesOf district shape t (growth .components) ++ noticesOf ring shape t (growth .«bridge_blocks»))
+            (noticesOf mesh shape t (growth .blocks)),
+        notices-bytes-append (noticesOf district shape t (growth .components)) (noticesOf ring shape t (growth .«bridge_blocks»)),
       )
 
-  -- the head and the notices of each kind, written one behind another, are the answer
+  -- written one behind another they are the answer
   pub span-written : (l : List ℕ) (span : ℕ)
       → sets
-      (sets
-      (sets (sets l 0 (headBytes span (growth .block .0) (noticeCount growth))) 7 districts)
-      (7 + 5 * growth .components)
-      rings)
+      (sets (sets (sets l 0 (head span)) 7 districts) (7 + 5 * growth .components) rings)
       (7 + 5 * (growth .components + growth .«bridge_blocks»))
       meshes
-      ≡ sets l 0 (spanBytes shape t span growth)
-  unfolding spanBytes headBytes twoBytes
+      ≡ sets l 0 (answerBytes (spanAdded span (growth .block .0) (growthNotices shape t growth)))
+  unfolding headBytes twoBytes
   span-written l span =
       sets-four
       l
-      (headBytes span (growth .block .0) (noticeCount growth))
+      (head span)
       districts
       rings
       meshes
@@ -117,5 +169,11 @@ module _ (shape : Shape) (t : List ℕ) (growth : Growth) where
       (7 + 5 * growth .components)
       (7 + 5 * (growth .components + growth .«bridge_blocks»))
       refl
-      (omega (arith, length-districts))
-      (omega (arith, length-rings))
+      (omega (arith, length-told district shape t (growth .components)))
+      (omega (arith, length-told ring shape t (growth .«bridge_blocks»)))
+      ∙ ap (λ (b : List ℕ). sets l 0 b) (span-bytes span)
+
+-- an answer that fits is written over the front of the buffer
+pub reply-written : (shape : Shape) (t : List ℕ) (reply : Reply) (out : List ℕ) → replySize reply ≤ length out
+    → (new : List ℕ) → new ≡ sets out 0 (answerBytes (replyAnswer shape t reply)) → new ≡ over (answerBytes (replyAnswer shape t reply)) out
+reply-written shape t reply out h new e = e ∙ sets-front out _ (omega (arith, reply-counted shape t reply))

@@ -4,12 +4,11 @@ ghost use mathlib.Core.Path.{_≡_};
 ghost use Prim.Native.Nat.{_+_, _*_, _≤_, _<_};
 ghost use lib.ListN.{length};
 ghost use lib.Seq.{sets};
-ghost use Rattle.graph.specs.Below.{tabulate};
 ghost use Rattle.commands.specs.Bytes.{twoBytes};
-ghost use Rattle.commands.specs.Answer.{noticeBytes, noticesBytes};
-ghost use Rattle.writing.specs.Inside.Writes.{Wrote};
-ghost use Rattle.writing.specs.Inside.Notices.{noticeOf, noticeAt, noticeCount, headBytes, spanBytes};
-use crate::write::Written;
+ghost use Rattle.commands.specs.Field.{fieldsBytes};
+ghost use Rattle.commands.specs.Answer.{noticeFields, noticesFields, spanAdded, answerBytes};
+ghost use Rattle.step.specs.Promise.{noticeAt, noticesOf, noticeCount, growthNotices};
+ghost use Rattle.writing.specs.Inside.Notices.{kindOf, noticeOf, headBytes};
 use crate::write::put_byte;
 use crate::write::put_two;
 use forest::EdgeChange;
@@ -37,7 +36,7 @@ pub enum Notice {
 
 // Notice i of a kind, as the table has it written down.
 fn notice_at(t: &[u32], shape: Shape, told: Told, i: u32) -> Notice
-    ensures { λ r. ⌜ noticeOf r ≡ noticeAt told shape (now (t .entry)) i ⌝ }
+    ensures { λ r. ⌜ noticeOf r ≡ noticeAt (kindOf told) shape (now (t .entry)) i ⌝ }
 {
     match told {
         Told::Districts => {
@@ -48,46 +47,32 @@ fn notice_at(t: &[u32], shape: Shape, told: Told, i: u32) -> Notice
     }
 }
 
-// The byte of a kind, a cabinet and its new name.
-fn put_cabinet_notice(out: &mut [u8], at: usize, kind: u8, c: VertexChange)
+// The byte of a kind, an item and its new name.
+fn put_change(out: &mut [u8], at: usize, kind: u8, item: u32, name: u32)
     requires { ⌜ at + 5 ≤ length (now out) ⌝ }
-    ensures { λ r. ⌜ now (out .exit) ≡ sets (now (out .entry)) at (kind ∷ twoBytes (c .item .0) ++ twoBytes (c .name .0)) ⌝ }
+    ensures { λ r. ⌜ now (out .exit) ≡ sets (now (out .entry)) at (kind ∷ twoBytes item ++ twoBytes name) ⌝ }
 {
-    let item = c.item;
-    let name = c.name;
     put_byte(out, at, kind);
-    put_two(out, at + 1, item.0);
-    put_two(out, at + 3, name.0);
-}
-
-// The byte of a mesh, a span and its new name.
-fn put_span_notice(out: &mut [u8], at: usize, c: EdgeChange)
-    requires { ⌜ at + 5 ≤ length (now out) ⌝ }
-    ensures { λ r. ⌜ now (out .exit) ≡ sets (now (out .entry)) at (3 ∷ twoBytes (c .item .0) ++ twoBytes (c .name .0)) ⌝ }
-{
-    let item = c.item;
-    let name = c.name;
-    put_byte(out, at, 3);
-    put_two(out, at + 1, item.0);
-    put_two(out, at + 3, name.0);
+    put_two(out, at + 1, item);
+    put_two(out, at + 3, name);
 }
 
 // One notice.
 fn put_notice(out: &mut [u8], at: usize, n: Notice)
     requires { ⌜ at + 5 ≤ length (now out) ⌝ }
-    ensures { λ r. ⌜ now (out .exit) ≡ sets (now (out .entry)) at (noticeBytes (noticeOf n)) ⌝ }
+    ensures { λ r. ⌜ now (out .exit) ≡ sets (now (out .entry)) at (fieldsBytes (noticeFields (noticeOf n))) ⌝ }
 {
     match n {
-        Notice::District(c) => put_cabinet_notice(out, at, 1, c),
-        Notice::Ring(c) => put_cabinet_notice(out, at, 2, c),
-        Notice::Mesh(c) => put_span_notice(out, at, c),
+        Notice::District(c) => put_change(out, at, 1, c.item.0, c.name.0),
+        Notice::Ring(c) => put_change(out, at, 2, c.item.0, c.name.0),
+        Notice::Mesh(c) => put_change(out, at, 3, c.item.0, c.name.0),
     }
 }
 
 // The notices of a kind, one after another, from a place on.
 fn put_notices(t: &[u32], shape: Shape, out: &mut [u8], at: usize, told: Told, count: u32)
     requires { ⌜ at + 5 * count ≤ length (now out) ⌝ }
-    ensures { λ r. ⌜ now (out .exit) ≡ sets (now (out .entry)) at (noticesBytes (tabulate count (noticeAt told shape (now (t .entry))))) ⌝ }
+    ensures { λ r. ⌜ now (out .exit) ≡ sets (now (out .entry)) at (fieldsBytes (noticesFields (noticesOf (kindOf told) shape (now (t .entry)) count))) ⌝ }
 {
     let mut i: u32 = 0;
     let mut next: usize = at;
@@ -111,17 +96,13 @@ fn put_head(out: &mut [u8], span: Edge, name: Edge, total: u32)
 }
 
 // The answer to an added span.
-pub fn write_span(t: &[u32], shape: Shape, out: &mut [u8], span: Edge, growth: Growth) -> Written
-    requires { ⌜ noticeCount growth < 65536 ⌝ }
-    ensures { λ r. ⌜ Wrote (now (out .entry)) (now (out .exit)) r (spanBytes shape (now (t .entry)) (span .0) growth) ⌝ }
+pub(crate) fn write_span(t: &[u32], shape: Shape, out: &mut [u8], span: Edge, growth: Growth)
+    requires { ⌜ (noticeCount growth < 65536) × (7 + 5 * noticeCount growth ≤ length (now out)) ⌝ }
+    ensures { λ r. ⌜ now (out .exit) ≡ sets (now (out .entry)) 0 (answerBytes (spanAdded (span .0) (growth .block .0) (growthNotices shape (now (t .entry)) growth))) ⌝ }
 {
     let block = growth.block;
     let of_cabinets = growth.components + growth.bridge_blocks;
     let total = of_cabinets + growth.blocks;
-    let size = 7 + 5 * (total as usize);
-    if out.len() < size {
-        return Written::NoRoom;
-    }
     put_head(out, span, block, total);
     put_notices(t, shape, out, 7, Told::Districts, growth.components);
     put_notices(
@@ -140,5 +121,4 @@ pub fn write_span(t: &[u32], shape: Shape, out: &mut [u8], span: Edge, growth: G
         Told::Meshes,
         growth.blocks,
     );
-    Written::Bytes(size)
 }

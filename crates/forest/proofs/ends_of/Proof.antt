@@ -1,5 +1,6 @@
 -- `ends_of` reads the two ends of an edge.
 use borrow.Author.Needs.{needs}
+use Rattle.graph.specs.Network.{edgeBetween}
 use Rattle.forest.specs.Inside.Valid.{endsOf}
 use Rattle.forest.proofs.QueryNames.{ends-held}
 use Rattle.forest.proofs.ends_of.Statement.{statement}
@@ -12,7 +13,7 @@ word-requires : tie.Need-word-requires
 word-requires c κs = search needs
 
 returns : tie.Need-returns
-unfolding endsOf
+unfolding edgeBetween endsOf
 returns c =
     let s = c .before .before .before .before in
     let held = ends-held (s .args .shape) (s .args .t .now) (s .args .s .0) (s .pre .1) in (

@@ -8,11 +8,17 @@ use Rattle.forest.proofs.words_needed.Tie as tie
 cast-result : tie.Need-cast-result
 cast-result c = search needs
 
+cast-result-2 : tie.Need-cast-result-2
+cast-result-2 c = search needs
+
 mul-result : tie.Need-mul-result
 mul-result c = search needs
 
-cast-result-2 : tie.Need-cast-result-2
-cast-result-2 c = search needs
+cast-result-3 : tie.Need-cast-result-3
+cast-result-3 c = search needs
+
+cast-result-4 : tie.Need-cast-result-4
+cast-result-4 c = search needs
 
 mul-result-2 : tie.Need-mul-result-2
 mul-result-2 c = search needs
@@ -26,4 +32,4 @@ returns c = refl
 
 pub words-needed-spec : {M : Type 1} → statement M
 words-needed-spec =
-    tie.close (tie.spec cast-result mul-result cast-result-2 mul-result-2 add-result returns)
+    tie.close (tie.spec cast-result cast-result-2 mul-result cast-result-3 cast-result-4 mul-result-2 add-result returns)

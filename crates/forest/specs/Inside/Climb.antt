@@ -5,23 +5,24 @@ use mathlib.Core.List.{List}
 use Prim.Native.Nat.{ℕ, zero, suc, _+_, _-_, min}
 use lib.Dec.{eqb, ltb}
 use Rattle.numbers.specs.declared.Limits.{Limits}
+use Rattle.table.specs.Inside.Column
 use Rattle.table.specs.Inside.Layout.{cell, put, vertexArea, edgeArea}
 use Rattle.forest.specs.declared.climb.Trail.{Trail}
 use Rattle.forest.specs.declared.climb.Route.{Route}
 
 -- The columns of a vertex: 0 at a root, else one more than an edge of the block above; a number that falls on the way up.
 abbrev pub upOf : List ℕ → Limits → ℕ → ℕ
-upOf t limits x = cell t (vertexArea limits) 8 x
+upOf t limits x = cell t (vertexArea limits) Column.up x
 
 abbrev pub depthOf : List ℕ → Limits → ℕ → ℕ
-depthOf t limits x = cell t (vertexArea limits) 9 x
+depthOf t limits x = cell t (vertexArea limits) Column.depth x
 
 -- The block name of an edge, and the vertex above a named block.
 abbrev pub blockOf : List ℕ → Limits → ℕ → ℕ
-blockOf t limits e = cell t (edgeArea limits) 0 e
+blockOf t limits e = cell t (edgeArea limits) Column.name e
 
 abbrev pub topOf : List ℕ → Limits → ℕ → ℕ
-topOf t limits w = cell t (edgeArea limits) 5 w
+topOf t limits w = cell t (edgeArea limits) Column.top w
 
 -- The vertex above an edge's block.
 unfoldable pub aboveEdge : List ℕ → Limits → ℕ → ℕ
@@ -29,16 +30,16 @@ aboveEdge t limits e = topOf t limits (blockOf t limits e)
 
 -- The path's vertices and edges, and those of the right side on the way up.
 abbrev pub pathVertex : List ℕ → Limits → ℕ → ℕ
-pathVertex t limits i = cell t (vertexArea limits) 10 i
+pathVertex t limits i = cell t (vertexArea limits) Column.pathVertex i
 
 abbrev pub pathEdge : List ℕ → Limits → ℕ → ℕ
-pathEdge t limits i = cell t (vertexArea limits) 11 i
+pathEdge t limits i = cell t (vertexArea limits) Column.pathEdge i
 
 abbrev pub rightVertex : List ℕ → Limits → ℕ → ℕ
-rightVertex t limits i = cell t (vertexArea limits) 12 i
+rightVertex t limits i = cell t (vertexArea limits) Column.rightVertex i
 
 abbrev pub rightEdge : List ℕ → Limits → ℕ → ℕ
-rightEdge t limits i = cell t (vertexArea limits) 13 i
+rightEdge t limits i = cell t (vertexArea limits) Column.rightEdge i
 
 -- The right side is the deeper one.
 unfoldable pub rightDeeper : List ℕ → Limits → Trail → Bool
@@ -51,9 +52,9 @@ climbing t limits r = cond (rightDeeper t limits r) (r .b .0) (r .a .0)
 -- A step on the right side is written down with the vertex that it leaves, one on the left side with the vertex that it reaches.
 unfoldable pub recordTable : List ℕ → Limits → Trail → ℕ → ℕ → Bool → List ℕ
 recordTable t limits r e v true =
-    put (put t (vertexArea limits) 13 (r .right) e) (vertexArea limits) 12 (r .right) (r .b .0)
+    put (put t (vertexArea limits) Column.rightEdge (r .right) e) (vertexArea limits) Column.rightVertex (r .right) (r .b .0)
 recordTable t limits r e v false =
-    put (put t (vertexArea limits) 11 (r .left) e) (vertexArea limits) 10 (r .left + 1) v
+    put (put t (vertexArea limits) Column.pathEdge (r .left) e) (vertexArea limits) Column.pathVertex (r .left + 1) v
 
 unfoldable pub recordTrail : Trail → ℕ → Bool → Trail
 recordTrail r v true = record { a = r .a; b = record { 0 = v }; left = r .left; right = r .right + 1 }
@@ -98,7 +99,7 @@ keptLeft t limits r = cond (sameLast t limits r) (r .left - 1) (r .left)
 -- Step k of the right side, turned round, behind the first `at` steps of the path.
 unfoldable pub joinOne : List ℕ → Limits → ℕ → ℕ → List ℕ
 joinOne t limits k at =
-    put (put t (vertexArea limits) 11 at (rightEdge t limits k)) (vertexArea limits) 10 (at + 1) (rightVertex t limits k)
+    put (put t (vertexArea limits) Column.pathEdge at (rightEdge t limits k)) (vertexArea limits) Column.pathVertex (at + 1) (rightVertex t limits k)
 
 -- The first k steps of the right side, the last of them first.
 unfoldable pub joinFrom : ℕ → List ℕ → Limits → ℕ → List ℕ
@@ -112,7 +113,7 @@ reach t limits a b = min (depthOf t limits a + depthOf t limits b) 2147483648
 -- The climb from both ends, with the first end written down.
 unfoldable pub climbBoth : List ℕ → Limits → ℕ → ℕ → Climbed
 climbBoth t limits a b =
-    let t₁ = put t (vertexArea limits) 10 0 a in
+    let t₁ = put t (vertexArea limits) Column.pathVertex 0 a in
     climbFrom (reach t₁ limits a b) t₁ limits (record { a = record { 0 = a }; b = record { 0 = b }; left = 0; right = 0 })
 
 -- The table with the path from a to b in it.

@@ -5,6 +5,7 @@ use Prim.Native.Nat.{ℕ, zero, suc, _+_, _-_, _/_, _%_}
 use lib.Dec.{eqb}
 use Rattle.graph.specs.Below.{tabulate}
 use Rattle.numbers.specs.declared.Limits.{Limits}
+use Rattle.table.specs.Inside.Column
 use Rattle.table.specs.Inside.Layout.{cell, put, vertexArea, bridgeBlockArea, edgeArea}
 use Rattle.table.specs.Inside.Merge.{nameIn}
 use Rattle.forest.specs.declared.Shared.{Shared}
@@ -18,7 +19,7 @@ bridgeBlocksDiffer t limits x y = not (eqb (nameIn t (bridgeBlockArea limits) x)
 -- The bridge-block names of an edge's two ends, which are kept in one word, differ.
 unfoldable pub bridgeIn : List ℕ → Limits → ℕ → Bool
 bridgeIn t limits s =
-    let ends = cell t (edgeArea limits) 4 s in
+    let ends = cell t (edgeArea limits) Column.ends s in
     bridgeBlocksDiffer t limits (ends / 65536) (ends % 65536)
 
 -- Vertex x hangs below a block, and y is the vertex above that block.
@@ -50,7 +51,7 @@ sharedIn t limits a b =
 
 -- The first k bridges that are written down.
 unfoldable pub bridgesWritten : Limits → ℕ → List ℕ → List ℕ
-bridgesWritten limits k t = tabulate k (λ i. cell t (vertexArea limits) 13 i)
+bridgesWritten limits k t = tabulate k (λ i. cell t (vertexArea limits) Column.rightEdge i)
 
 -- A table and how many bridges are written down.
 pub record Found : Type 0 where
@@ -62,7 +63,7 @@ unfoldable pub findTable : List ℕ → Limits → ℕ → ℕ → List ℕ
 findTable t limits i count =
     cond
     (bridgeBlocksDiffer t limits (pathVertex t limits i) (pathVertex t limits (i + 1)))
-    (put t (vertexArea limits) 13 count (pathEdge t limits i))
+    (put t (vertexArea limits) Column.rightEdge count (pathEdge t limits i))
     t
 
 unfoldable pub findCount : List ℕ → Limits → ℕ → ℕ → ℕ

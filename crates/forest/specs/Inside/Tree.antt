@@ -7,6 +7,7 @@ use lib.Dec.{eqb}
 use Rattle.numbers.specs.declared.Limits.{Limits}
 use Rattle.table.specs.declared.words.Area.{Area}
 use Rattle.table.specs.declared.merge.Listing.{Listing}
+use Rattle.table.specs.Inside.Column
 use Rattle.table.specs.Inside.Layout.{cell, put, vertexArea, bridgeBlockArea, edgeArea}
 use Rattle.table.specs.Inside.Merge.{nameIn, sizeIn, rangeIn, bestListed, mergeListed, leastOf}
 use Rattle.forest.specs.declared.Growth.{Growth}
@@ -15,15 +16,15 @@ use Rattle.forest.specs.Inside.Climb.{upOf, depthOf, blockOf, aboveEdge,
 
 -- A group of one item, named by its number.
 unfoldable pub newGroup : List ℕ → Area → ℕ → List ℕ
-newGroup t area x = put (put (put t area 0 x x) area 1 x 1) area 2 x (x % 65536 * 65536 + x % 65536)
+newGroup t area x = put (put (put t area Column.name x x) area Column.size x 1) area Column.range x (x % 65536 * 65536 + x % 65536)
 
 -- One vertex more: a component, a bridge-block and a root by itself.
 unfoldable pub vertexTable : List ℕ → Limits → ℕ → List ℕ
 vertexTable t limits x =
     put
-    (put (newGroup (newGroup t (vertexArea limits) x) (bridgeBlockArea limits) x) (vertexArea limits) 8 x 0)
+    (put (newGroup (newGroup t (vertexArea limits) x) (bridgeBlockArea limits) x) (vertexArea limits) Column.up x 0)
     (vertexArea limits)
-    9
+    Column.depth
     x
     0
 
@@ -31,16 +32,16 @@ vertexTable t limits x =
 unfoldable pub raiseFrom : ℕ → List ℕ → Limits → ℕ → ℕ → List ℕ
 raiseFrom zero t limits by i = t
 raiseFrom (suc k) t limits by i =
-    let x = cell t (vertexArea limits) 3 i in
-    raiseFrom k (put t (vertexArea limits) 9 x ((depthOf t limits x + by) % 2 ^ 32)) limits by (suc i)
+    let x = cell t (vertexArea limits) Column.changed i in
+    raiseFrom k (put t (vertexArea limits) Column.depth x ((depthOf t limits x + by) % 2 ^ 32)) limits by (suc i)
 
 -- Vertex x hung below the block of the edge that `up` names, at a depth.
 unfoldable pub hungVertex : List ℕ → Limits → ℕ → ℕ → ℕ → List ℕ
-hungVertex t limits x up depth = put (put t (vertexArea limits) 8 x up) (vertexArea limits) 9 x depth
+hungVertex t limits x up depth = put (put t (vertexArea limits) Column.up x up) (vertexArea limits) Column.depth x depth
 
 -- The block of edge e hung below vertex x.
 unfoldable pub hungBlock : List ℕ → Limits → ℕ → ℕ → List ℕ
-hungBlock t limits e x = put t (edgeArea limits) 5 (blockOf t limits e) x
+hungBlock t limits e x = put t (edgeArea limits) Column.top (blockOf t limits e) x
 
 -- The way up from a vertex turned round, with at most so many steps: the vertex hangs below the block of the given edge, and each block
 -- on the way below the vertex that hung below it.
@@ -76,14 +77,14 @@ turnedState t limits s =
 
 -- The listing of the vertices on the path, and of its edges.
 unfoldable pub pathVertices : Limits → ℕ → Listing
-pathVertices limits k = record { area = vertexArea limits; column = 10; count = k }
+pathVertices limits k = record { area = vertexArea limits; column = Column.pathVertex; count = k }
 
 unfoldable pub pathEdges : Limits → ℕ → Listing
-pathEdges limits k = record { area = vertexArea limits; column = 11; count = k }
+pathEdges limits k = record { area = vertexArea limits; column = Column.pathEdge; count = k }
 
 -- The two vertices that an edge joins, written down as the path's first vertices.
 unfoldable pub listEnds : List ℕ → Limits → ℕ → ℕ → List ℕ
-listEnds t limits a b = put (put t (vertexArea limits) 10 0 a) (vertexArea limits) 10 1 b
+listEnds t limits a b = put (put t (vertexArea limits) Column.pathVertex 0 a) (vertexArea limits) Column.pathVertex 1 b
 
 -- A table and what changed: items of each kind that changed their name, and the new edge's block name.
 pub record Grown : Type 0 where
@@ -107,7 +108,7 @@ hangTable t limits e u v changed =
     let below = depthOf t limits u in
     let start = (depthOf t limits v + 1) % 2 ^ 32 in
     let raised = raiseFrom changed t limits ((start + below) % 2 ^ 32) 0 in
-    let hung = put (newGroup raised (edgeArea limits) e) (edgeArea limits) 5 e v in
+    let hung = put (newGroup raised (edgeArea limits) e) (edgeArea limits) Column.top e v in
     turnFrom (suc below) hung limits u (suc e) start
 
 -- Two components linked by the new edge e.
@@ -129,9 +130,9 @@ unfoldable pub enterBlock : List ℕ → Limits → ℕ → ℕ → ℕ → List
 enterBlock t limits e w v =
     let area = edgeArea limits in
     put
-    (put (put (put t area 0 e w) area 1 w ((sizeIn t area w + 1) % 2 ^ 32)) area 2 w (leastOf (rangeIn t area w) * 65536 + e % 65536))
+    (put (put (put t area Column.name e w) area Column.size w ((sizeIn t area w + 1) % 2 ^ 32)) area Column.range w (leastOf (rangeIn t area w) * 65536 + e % 65536))
     area
-    5
+    Column.top
     w
     v
 
@@ -153,7 +154,7 @@ condenseGrown t limits e a b =
 
 -- The ends of the new edge, kept in one word.
 unfoldable pub endsTable : List ℕ → Limits → ℕ → ℕ → ℕ → List ℕ
-endsTable t limits e a b = put t (edgeArea limits) 4 e (a % 65536 * 65536 + b % 65536)
+endsTable t limits e a b = put t (edgeArea limits) Column.ends e (a % 65536 * 65536 + b % 65536)
 
 -- One edge more: two components are linked, or the path is condensed.
 unfoldable pub edgeGrown : List ℕ → Limits → ℕ → ℕ → ℕ → Grown

@@ -6,24 +6,26 @@ use mathlib.Core.Path.{_≡_}
 use Prim.Native.Nat.{ℕ, suc, _+_, _*_, _/_, _%_, _≤_, _<_}
 use lib.ListN.{length}
 use Rattle.graph.specs.Below.{tabulate}
-use Rattle.graph.specs.Network.{Network, Edge, Proper, never, edge, touches}
+use Rattle.graph.specs.Network.{Network, Edge, edgeBetween, Proper, edge, touches}
 use Rattle.graph.specs.Groups.{component, bridgeBlock}
 use Rattle.graph.specs.Block.{block, onBlock}
 use Rattle.naming.specs.Rename.{size}
 use Rattle.naming.specs.Book.{Book}
 use Rattle.numbers.specs.declared.Limits.{Limits}
+use Rattle.table.specs.Inside.Column
 use Rattle.table.specs.Inside.Layout.{cell, vertexArea, bridgeBlockArea, edgeArea}
 use Rattle.table.specs.Inside.KindValid.{namesIn, KindValid}
+use Rattle.forest.specs.Rule.{tableRule}
 use Rattle.forest.specs.Inside.Climb.{upOf, depthOf, aboveEdge}
 
 -- The two ends of edge s, kept in one word.
 unfoldable pub endsOf : List ℕ → Limits → ℕ → Edge
 endsOf t limits s =
-    record { left = cell t (edgeArea limits) 4 s / 65536; right = cell t (edgeArea limits) 4 s % 65536 }
+    edgeBetween (cell t (edgeArea limits) Column.ends s / 65536) (cell t (edgeArea limits) Column.ends s % 65536)
 
 -- The network of n vertices and m edges that the table holds.
 unfoldable pub networkOf : Limits → ℕ → ℕ → List ℕ → Network
-networkOf limits n m t = record { rule = never; vertices = n; edges = tabulate m (endsOf t limits) }
+networkOf limits n m t = record { rule = tableRule; vertices = n; edges = tabulate m (endsOf t limits) }
 
 -- The naming book that the table holds.
 unfoldable pub bookOf : Limits → ℕ → ℕ → List ℕ → Book
@@ -57,7 +59,7 @@ pub record ForestValid (t : List ℕ) (limits : Limits) (n m : ℕ) (g : Network
 
 -- The table is long enough, and holds the names, sizes and forest of its network.
 pub record Valid (limits : Limits) (n m : ℕ) (t : List ℕ) : Type 0 where
-  pub long : limits .vertices * 24 + limits .edges * 8 ≤ length t
+  pub long : limits .vertices * Column.perVertex + limits .edges * Column.perEdge ≤ length t
   pub small-vertices : limits .vertices ≤ 4096
   pub small-edges : limits .edges ≤ 8192
   pub vertices-fit : n ≤ limits .vertices

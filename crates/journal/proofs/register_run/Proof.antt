@@ -4,7 +4,7 @@ use borrow.Author.Needs.{needs}
 use lib.ListN.{length}
 use Rattle.commands.specs.Entry.{Buffers}
 use Rattle.numbers.specs.declared.Limits.{Limits}
-use Rattle.journal.specs.Inside.Steps.{capacitiesOf}
+use Rattle.run.specs.Promise.{capacitiesOf}
 use Rattle.journal.proofs.EntryLaws.{work-is-words, promised-at-start, Begins, begins, promised-by-run}
 use Rattle.journal.proofs.register_run.Statement.{statement}
 use Rattle.journal.proofs.register_run.Tie as tie

@@ -7,7 +7,7 @@ use Rattle.graph.proofs.Truth.{true-of-not-false}
 use Rattle.commands.specs.Refusal.{firstThatApplies, refusalNumber}
 use Rattle.commands.specs.Entry.{shortBuffers, startLines, numberOf}
 use Rattle.commands.proofs.Start.{InRange, good-exactly}
-use Rattle.journal.specs.Inside.Steps.{capacitiesOf}
+use Rattle.run.specs.Promise.{capacitiesOf}
 use Rattle.journal.proofs.start_refusal.Statement.{statement}
 use Rattle.journal.proofs.start_refusal.Tie as tie
 

@@ -13,7 +13,7 @@ add-result : tie.Need-add-result
 add-result c = record { fits = omega (arith, c .words-needed .ensures, words-needed (c .before .args .limits)) }
 
 returns : tie.Need-returns
-returns c = rw (c .words-needed .ensures) (work-is-words (c .before .args .limits))
+returns c = omega (arith, c .words-needed .ensures, work-is-words (c .before .args .limits))
 
 pub work-needed-spec : {M : Type 1} → statement M
 work-needed-spec = tie.close (tie.spec words-needed-requires add-result returns)

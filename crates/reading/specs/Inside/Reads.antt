@@ -1,7 +1,11 @@
 -- What reading a command gives: the paper's value for each case of the code's answer.
+use mathlib.Core.Bool.{cond}
+use mathlib.Core.Logic.{_⊎_}
 use mathlib.Core.Option.{Option, none, some}
+use mathlib.Core.Path.{_≡_}
 use Prim.Native.Nat.{ℕ}
-use Rattle.commands.specs.Command.{Command, addCabinet, addSpan, districtName, ringName, sharedMesh, soleSpans, cutCabinets, isSole, Form, unknown, alone, withOne, withTwo, Reading, unknownByte, cutOff, command}
+use lib.Dec.{eqb}
+use Rattle.commands.specs.Command.{Command, addCabinet, addSpan, districtName, ringName, sharedMesh, soleSpans, cutCabinets, isSole, Form, unknown, takes, form, Reading, unknownByte, cutOff, command}
 use Rattle.reading.specs.declared.read.Order.{Order}
 use Rattle.reading.specs.declared.read.Order.the-variants as O
 use Rattle.reading.specs.declared.read.Taken.{Taken}
@@ -24,15 +28,21 @@ readingOf K.Unknown = unknownByte
 readingOf K.CutOff = cutOff
 readingOf (K.Command o width) = command (meaning o) width
 
--- The command that a form makes of one operand, and of two.
-unfoldable pub ofOne : Form → ℕ → Option Command
-ofOne unknown x = none
-ofOne (alone c) x = none
-ofOne (withOne f) x = some (f x)
-ofOne (withTwo f) x = none
+-- The bytes of the commands with one operand, and of those with two.
+abbrev pub OneOperand : ℕ → Type 0
+OneOperand byte = (byte ≡ 3) ⊎ ((byte ≡ 4) ⊎ (byte ≡ 8))
 
-unfoldable pub ofTwo : Form → ℕ → ℕ → Option Command
-ofTwo unknown x y = none
-ofTwo (alone c) x y = none
-ofTwo (withOne f) x y = none
-ofTwo (withTwo f) x y = some (f x y)
+abbrev pub TwoOperands : ℕ → Type 0
+TwoOperands byte = (byte ≡ 2) ⊎ ((byte ≡ 5) ⊎ ((byte ≡ 6) ⊎ (byte ≡ 7)))
+
+-- The command that a form makes of so many operands.
+unfoldable pub made : Form → ℕ → (ℕ → ℕ) → Option Command
+made unknown n x = none
+made (takes k make) n x = cond (eqb k n) (some (make x)) none
+
+-- The byte makes this command of one operand, and of two.
+abbrev pub MadeOfOne : ℕ → ℕ → Command → Type 0
+MadeOfOne byte a c = (x : ℕ → ℕ) → x 0 ≡ a → made (form byte) 1 x ≡ some c
+
+abbrev pub MadeOfTwo : ℕ → ℕ → ℕ → Command → Type 0
+MadeOfTwo byte a b c = (x : ℕ → ℕ) → x 0 ≡ a → x 1 ≡ b → made (form byte) 2 x ≡ some c

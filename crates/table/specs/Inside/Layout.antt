@@ -1,18 +1,22 @@
--- The words of the working table: 24 for every vertex and 8 for every edge, laid out column by column.
+-- The words of the working table, laid out column by column: first the columns of the vertices, then those of the edges.
 use mathlib.Core.List.{List}
 use Prim.Native.Nat.{ℕ, _+_, _*_}
 use lib.ListN.{getD, set}
 use Rattle.numbers.specs.declared.Limits.{Limits}
 use Rattle.table.specs.declared.words.Area.{Area}
+use Rattle.table.specs.Inside.Column
 
+-- The words of the vertices, of which the components have the first columns; those of the bridge-blocks among them; those of the edges, of
+-- which the blocks have the first columns.
 abbrev pub vertexArea : Limits → Area
-vertexArea limits = record { base = 0; size = limits .vertices }
+vertexArea limits = record { base = 0; size = limits .vertices; columns = Column.perComponent }
 
 abbrev pub bridgeBlockArea : Limits → Area
-bridgeBlockArea limits = record { base = limits .vertices * 4; size = limits .vertices }
+bridgeBlockArea limits =
+    record { base = limits .vertices * Column.perComponent; size = limits .vertices; columns = Column.perBridgeBlock }
 
 abbrev pub edgeArea : Limits → Area
-edgeArea limits = record { base = limits .vertices * 24; size = limits .edges }
+edgeArea limits = record { base = limits .vertices * Column.perVertex; size = limits .edges; columns = Column.perBlock }
 
 -- Where the word of an item stands.
 unfoldable pub place : Area → ℕ → ℕ → ℕ

@@ -7,17 +7,18 @@ use lib.Dec.{eqb, leb, ltb}
 use Rattle.table.specs.declared.words.Area.{Area}
 use Rattle.table.specs.declared.merge.Listing.{Listing}
 use Rattle.table.specs.declared.merge.Pass.{Pass}
+use Rattle.table.specs.Inside.Column
 use Rattle.table.specs.Inside.Layout.{cell, put}
 
 -- The name of an item, the size of a named group, and its range.
 abbrev pub nameIn : List ℕ → Area → ℕ → ℕ
-nameIn t area x = cell t area 0 x
+nameIn t area x = cell t area Column.name x
 
 abbrev pub sizeIn : List ℕ → Area → ℕ → ℕ
-sizeIn t area w = cell t area 1 w
+sizeIn t area w = cell t area Column.size w
 
 abbrev pub rangeIn : List ℕ → Area → ℕ → ℕ
-rangeIn t area w = cell t area 2 w
+rangeIn t area w = cell t area Column.range w
 
 -- Item i of a listing.
 abbrev pub itemOf : List ℕ → Listing → ℕ → ℕ
@@ -53,10 +54,18 @@ greatestOf range = range % 65536
 unfoldable pub widened : Pass → ℕ → Pass
 widened p range = record { from = min (p .from) (leastOf range); to = max (p .to) (greatestOf range + 1) }
 
--- A group gives its size to the winner, and keeps none; the winner gives nothing to itself.
+-- A group gives what it has in a column to the winner, and keeps 0.
+unfoldable pub givenIn : List ℕ → Area → ℕ → ℕ → ℕ → List ℕ
+givenIn t area column w name = put (put t area column w ((cell t area column w + cell t area column name) % 2 ^ 32)) area column name 0
+
+-- It gives what it has in k columns, from a column on.
+unfoldable pub givenFrom : List ℕ → Area → ℕ → ℕ → ℕ → ℕ → List ℕ
+givenFrom t area w name column zero = t
+givenFrom t area w name column (suc k) = givenFrom (givenIn t area column w name) area w name (suc column) k
+
+-- It gives its size, and what the columns behind the size have; the winner gives nothing to itself.
 unfoldable pub absorbTable : List ℕ → Area → ℕ → ℕ → List ℕ
-absorbTable t area w name =
-    cond (eqb name w) t (put (put t area 1 w ((sizeIn t area w + sizeIn t area name) % 2 ^ 32)) area 1 name 0)
+absorbTable t area w name = cond (eqb name w) t (givenFrom t area w name Column.size (area .columns - Column.size))
 
 -- The pass is widened to the range of each group that is absorbed.
 unfoldable pub absorbPass : List ℕ → Area → ℕ → ℕ → Pass → Pass
@@ -84,7 +93,7 @@ absorbListed t area l w = absorbFrom t area l w 0 (l .count) noPass
 -- An item whose group has size 0 takes the winner's name and is written down as changed.
 unfoldable pub renameTable : List ℕ → Area → ℕ → ℕ → ℕ → List ℕ
 renameTable t area w x count =
-    cond (eqb (sizeIn t area (nameIn t area x)) 0) (put (put t area 0 x w) area 3 count x) t
+    cond (eqb (sizeIn t area (nameIn t area x)) 0) (put (put t area Column.name x w) area Column.changed count x) t
 
 unfoldable pub renameCount : List ℕ → Area → ℕ → ℕ → ℕ
 renameCount t area x count = cond (eqb (sizeIn t area (nameIn t area x)) 0) (suc count) count
@@ -107,7 +116,7 @@ renamePass t area w p = renameFrom t area w (p .from) (p .to - p .from) 0
 unfoldable pub extended : List ℕ → Area → ℕ → Pass → List ℕ
 extended t area w p =
     let q = widened p (rangeIn t area w) in
-    put t area 2 w (q .from % 65536 * 65536 + (q .to - 1) % 65536)
+    put t area Column.range w (q .from % 65536 * 65536 + (q .to - 1) % 65536)
 
 -- The groups of a listing's items become one: the table, and how many items changed their name.
 unfoldable pub mergeListed : List ℕ → Area → Listing → Renamed

@@ -2,6 +2,7 @@
 use mathlib.Core.Path.{_≡_, sym, _∙_}
 use Prim.Native.Nat.{_+_}
 use native.Mathlib.Numerals.{add-one}
+use native.Mathlib.Omega.{arith}
 use borrow.Author.Needs.{needs}
 use denote.Ref.{now}
 use Rattle.forest.specs.Inside.Climb.{pathVertex}
@@ -40,7 +41,10 @@ set-word-requires : tie.Need-set-word-requires
 set-word-requires c κs = search needs
 
 add-result : tie.Need-add-result
-add-result c = search needs
+add-result c =
+    let at-vertex-area2 = c .before .before .before .before .before .before .before .before .before .before .before .before in
+    let start = at-vertex-area2 .before .before .before .before .before .before in
+    record { fits = omega (arith, start .pre) }
 
 same-length : tie.Need-same-length
 same-length c = search needs

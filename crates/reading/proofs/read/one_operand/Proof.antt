@@ -1,25 +1,26 @@
 -- `read::one_operand` gives the command of 03, 04 or 08.
 use mathlib.Core.Logic.{⊎-elim}
-use mathlib.Core.Path.{refl}
-use Rattle.commands.specs.Command.{form}
-use Rattle.reading.specs.Inside.Reads.{meaning, ofOne}
+use mathlib.Core.Option.{some}
+use mathlib.Core.Path.{ap}
+use Rattle.commands.specs.Command.{isSole, forms, form}
+use Rattle.reading.specs.Inside.Reads.{meaning, made}
 use Rattle.reading.proofs.read.one_operand.Statement.{statement}
 use Rattle.reading.proofs.read.one_operand.Tie as tie
 
 returns : tie.Need-returns
-unfolding form ofOne meaning
-returns c = rw (c .match .keys1) refl
+unfolding forms form made meaning
+returns c x e = rw (c .match .keys1, e)
 
 returns-2 : tie.Need-returns-2
-unfolding form ofOne meaning
-returns-2 c = rw (c .match .keys2) refl
+unfolding forms form made meaning
+returns-2 c x e = rw (c .match .keys2, e)
 
 returns-3 : tie.Need-returns-3
-unfolding form ofOne meaning
-returns-3 c =
+unfolding forms form made meaning
+returns-3 c x e =
     ⊎-elim
-    (λ e. absurd (c .match .rest .0 .1 e))
-    (⊎-elim (λ e. absurd (c .match .rest .1 e)) (λ e. rw e refl))
+    (λ k. absurd (c .match .rest .0 .1 k))
+    (⊎-elim (λ k. absurd (c .match .rest .1 k)) (λ k. rw k (ap (λ a. some (isSole a)) e)))
     (c .before .pre)
 
 pub one-operand-spec : {M : Type 1} → statement M

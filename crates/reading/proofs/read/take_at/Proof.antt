@@ -5,9 +5,9 @@ use Prim.Native.Nat.{_+_}
 use native.Mathlib.Omega.{arith}
 use borrow.Author.Needs.{needs}
 use lib.ListN.{getD, drop}
-use Rattle.commands.specs.Command.{form, readForm, readCommand}
-use Rattle.reading.specs.Inside.Reads.{meaning, readingOf}
-use Rattle.reading.proofs.ReadSteps.{one-of-two, one-of-three, read-unknown}
+use Rattle.commands.specs.Command.{addCabinet, forms, form}
+use Rattle.reading.specs.Inside.Reads.{meaning, readingOf, made}
+use Rattle.reading.proofs.ReadSteps.{one-of-two, one-of-three, read-operands, read-unknown}
 use Rattle.reading.proofs.read.take_at.Statement.{statement}
 use Rattle.reading.proofs.read.take_at.Tie as tie
 
@@ -34,8 +34,11 @@ take-two-requires c κs =
     (⊎-elim (λ w. inl (w .keys2)) (λ w. inr (one-of-three 5 _ (w .2 .left) (w .3 .taken))) (c .match .came), omega arith)
 
 returns : tie.Need-returns
-unfolding readCommand form readForm readingOf meaning
-returns c = rw (c .match .keys1) refl
+unfolding forms form made readingOf meaning
+returns c =
+    let a = c .before .before .before .args in
+    sym
+    (read-operands (getD (a .journal .now) (a .at) 0) (drop (a .at + 1) (a .journal .now)) 0 addCabinet (rw (c .match .keys1) refl) (omega arith))
 
 returns-2 : tie.Need-returns-2
 unfolding readingOf

@@ -1,10 +1,11 @@
 -- `read::take_one` reads a command with one operand, or finds it cut off.
-use mathlib.Core.Path.{sym}
+use mathlib.Core.Path.{sym, _∙_}
 use native.Mathlib.Omega.{arith}
 use borrow.Author.Needs.{needs}
 use lib.ListN.{drop, length-drop}
+use Rattle.commands.specs.Command.{operand}
 use Rattle.reading.specs.Inside.Reads.{meaning, readingOf}
-use Rattle.reading.proofs.ReadSteps.{cut-one, read-one, operand-at}
+use Rattle.reading.proofs.ReadSteps.{width-one, cut-operands, read-operands, operand-at}
 use Rattle.reading.proofs.read.take_one.Statement.{statement}
 use Rattle.reading.proofs.read.take_one.Tie as tie
 
@@ -16,7 +17,7 @@ unfolding readingOf
 returns c =
     let s = c .before .before in
     sym
-    (cut-one (s .args .byte) (drop (s .args .from) (s .args .journal .now)) (s .pre .0)
+    (cut-operands (s .args .byte) (drop (s .args .from) (s .args .journal .now)) 1 (width-one (s .args .byte) (s .pre .0))
     (omega (arith, length-drop (s .args .from) (s .args .journal .now))))
 
 operand-requires : tie.Need-operand-requires
@@ -33,8 +34,8 @@ returns-2 c =
     let l = s .args .journal .now in
     let from = s .args .from in
     sym
-    (read-one (s .args .byte) (drop from l) (meaning (c .one-operand .result))
-    (rw (operand-at l from 0 from (omega arith), ← at-operand .operand .ensures .0) (c .one-operand .ensures))
+    (read-operands (s .args .byte) (drop from l) 1 (meaning (c .one-operand .result))
+    (c .one-operand .ensures (operand (drop from l)) (operand-at l from 0 from (omega arith) ∙ sym (at-operand .operand .ensures .0)))
     (omega (arith, length-drop from l)))
 
 pub take-one-spec : {M : Type 1} → statement M

@@ -1,11 +1,12 @@
 -- `read::take_two` reads a command with two operands, or finds it cut off.
-use mathlib.Core.Path.{sym}
+use mathlib.Core.Path.{sym, _∙_}
 use Prim.Native.Nat.{_+_}
 use native.Mathlib.Omega.{arith}
 use borrow.Author.Needs.{needs}
 use lib.ListN.{drop, length-drop}
+use Rattle.commands.specs.Command.{operand}
 use Rattle.reading.specs.Inside.Reads.{meaning, readingOf}
-use Rattle.reading.proofs.ReadSteps.{cut-two, read-two, operand-at}
+use Rattle.reading.proofs.ReadSteps.{width-two, cut-operands, read-operands, operand-at}
 use Rattle.reading.proofs.read.take_two.Statement.{statement}
 use Rattle.reading.proofs.read.take_two.Tie as tie
 
@@ -17,7 +18,7 @@ unfolding readingOf
 returns c =
     let s = c .before .before in
     sym
-    (cut-two (s .args .byte) (drop (s .args .from) (s .args .journal .now)) (s .pre .0)
+    (cut-operands (s .args .byte) (drop (s .args .from) (s .args .journal .now)) 2 (width-two (s .args .byte) (s .pre .0))
     (omega (arith, length-drop (s .args .from) (s .args .journal .now))))
 
 operand-requires : tie.Need-operand-requires
@@ -41,14 +42,11 @@ returns-2 c =
     let l = s .args .journal .now in
     let from = s .args .from in
     sym
-    (read-two (s .args .byte) (drop from l) (meaning (c .two-operands .result))
-    (rw (
-      operand-at l from 0 from (omega arith),
-      operand-at l from 1 (from + 2) (omega arith),
-      ← at-operand .operand .ensures .0,
-      ← at-operand2 .operand2 .ensures .0,
-    )
-    (c .two-operands .ensures))
+    (read-operands (s .args .byte) (drop from l) 2 (meaning (c .two-operands .result))
+    (c .two-operands .ensures
+    (operand (drop from l))
+    (operand-at l from 0 from (omega arith) ∙ sym (at-operand .operand .ensures .0))
+    (operand-at l from 1 (from + 2) (omega arith) ∙ sym (at-operand2 .operand2 .ensures .0)))
     (omega (arith, length-drop from l)))
 
 pub take-two-spec : {M : Type 1} → statement M

@@ -1,31 +1,32 @@
 -- `read::two_operands` gives the command of 02, 05, 06 or 07.
 use mathlib.Core.Logic.{⊎-elim}
-use mathlib.Core.Path.{refl}
-use Rattle.commands.specs.Command.{form}
-use Rattle.reading.specs.Inside.Reads.{meaning, ofTwo}
+use mathlib.Core.Option.{some}
+use mathlib.Core.Path.{ap₂}
+use Rattle.commands.specs.Command.{cutCabinets, forms, form}
+use Rattle.reading.specs.Inside.Reads.{meaning, made}
 use Rattle.reading.proofs.read.two_operands.Statement.{statement}
 use Rattle.reading.proofs.read.two_operands.Tie as tie
 
 returns : tie.Need-returns
-unfolding form ofTwo meaning
-returns c = rw (c .match .keys1) refl
+unfolding forms form made meaning
+returns c x d e = rw (c .match .keys1, d, e)
 
 returns-2 : tie.Need-returns-2
-unfolding form ofTwo meaning
-returns-2 c = rw (c .match .keys2) refl
+unfolding forms form made meaning
+returns-2 c x d e = rw (c .match .keys2, d, e)
 
 returns-3 : tie.Need-returns-3
-unfolding form ofTwo meaning
-returns-3 c = rw (c .match .keys3) refl
+unfolding forms form made meaning
+returns-3 c x d e = rw (c .match .keys3, d, e)
 
 returns-4 : tie.Need-returns-4
-unfolding form ofTwo meaning
-returns-4 c =
+unfolding forms form made meaning
+returns-4 c x d e =
     ⊎-elim
-    (λ e. absurd (c .match .rest .0 .0 .1 e))
+    (λ k. absurd (c .match .rest .0 .0 .1 k))
     (⊎-elim
-    (λ e. absurd (c .match .rest .0 .1 e))
-    (⊎-elim (λ e. absurd (c .match .rest .1 e)) (λ e. rw e refl)))
+    (λ k. absurd (c .match .rest .0 .1 k))
+    (⊎-elim (λ k. absurd (c .match .rest .1 k)) (λ k. rw k (ap₂ (λ a b. some (cutCabinets a b)) d e))))
     (c .before .pre)
 
 pub two-operands-spec : {M : Type 1} → statement M

@@ -8,21 +8,23 @@ use borrow.Author.Needs.{needs}
 use lib.ListN.{length}
 use lib.Seq.{sets}
 use Rattle.graph.specs.Below.{tabulate}
-use Rattle.commands.specs.Answer.{noticesBytes}
-use Rattle.writing.specs.Inside.Notices.{noticesOf}
+use Rattle.commands.specs.Field.{fieldsBytes}
+use Rattle.commands.specs.Answer.{noticesFields}
+use Rattle.step.specs.Promise.{noticesOf}
+use Rattle.writing.specs.Inside.Notices.{kindOf}
 use Rattle.writing.proofs.WriteSteps.{told-more}
 use Rattle.writing.proofs.notice.put_notices.Statement.{statement}
 use Rattle.writing.proofs.notice.put_notices.Tie as tie
 
 abbrev Inv-loop : tie.InvT-loop
 Inv-loop t shape out₀ at told count i₀ next₀ out i next =
-    (out ≡ sets out₀ at (noticesBytes (noticesOf told shape t i))) × (next ≡ at + 5 * i) × (i ≤ count) × (length out ≡ length out₀)
+    (out ≡ sets out₀ at (fieldsBytes (noticesFields (noticesOf (kindOf told) shape t i)))) × (next ≡ at + 5 * i) × (i ≤ count) × (length out ≡ length out₀)
 
 abbrev μ-loop : tie.MeasureT-loop
 μ-loop t shape out₀ at told count i₀ next₀ out i next = count - i
 
 loop-holds : tie.Need-loop-holds Inv-loop μ-loop
-unfolding tabulate noticesBytes
+unfolding tabulate noticesFields fieldsBytes
 loop-holds c = (refl, omega arith, omega arith, refl)
 
 notice-at-requires : tie.Need-notice-at-requires Inv-loop μ-loop
@@ -48,7 +50,7 @@ loop-again c =
     let a = at-loop .before .before .before .args in
     let v = at-loop .loop in (
       rw (at-put-notice .put-notice .ensures, at-notice-at .notice-at .ensures, v .inv .0, add-one (v .i))
-          (told-more (a .told) (a .shape) (a .t .now) (a .out .now) (a .at) (v .next) (v .i) (v .inv .1)),
+          (told-more (kindOf (a .told)) (a .shape) (a .t .now) (a .out .now) (a .at) (v .next) (v .i) (v .inv .1)),
       omega arith,
       omega arith,
       at-put-notice .put-notice .kept .0 ∙ v .inv .3,

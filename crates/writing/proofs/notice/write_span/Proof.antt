@@ -1,9 +1,7 @@
--- `notice::write_span` writes the answer to an added span, or nothing.
-use Prim.Native.Nat.{_+_, _*_}
+-- `notice::write_span` writes the answer to an added span.
+use Rattle.writing.specs.Inside.Notices.{kindOf}
+use Rattle.writing.proofs.WriteSteps.{span-written}
 use borrow.Author.Needs.{needs}
-use Rattle.writing.specs.Inside.Notices.{noticeCount}
-use Rattle.writing.proofs.Sets.{wrote, wrote-nothing}
-use Rattle.writing.proofs.WriteSteps.{length-span, span-written}
 use Rattle.writing.proofs.notice.write_span.Statement.{statement}
 use Rattle.writing.proofs.notice.write_span.Tie as tie
 
@@ -12,25 +10,6 @@ add-of-cabinets c = search needs
 
 add-total : tie.Need-add-total
 add-total c = search needs
-
-cast-size : tie.Need-cast-size
-cast-size c = search needs
-
-mul-size : tie.Need-mul-size
-mul-size c = search needs
-
-add-size : tie.Need-add-size
-add-size c = search needs
-
-returns : tie.Need-returns
-returns c =
-    let a = c .before .before .before .before .before .before .args in
-    wrote-nothing
-    (a .out .now)
-    _
-    (7 + 5 * noticeCount (a .growth))
-    (length-span (a .shape) (a .t .now) (a .growth) (a .span .0))
-    (c .if1 .taken)
 
 put-head-requires : tie.Need-put-head-requires
 put-head-requires c κs = search needs
@@ -65,28 +44,21 @@ put-notices-requires-3 c κs = search needs
 same-length : tie.Need-same-length
 same-length c = search needs
 
-returns-2 : tie.Need-returns-2
-returns-2 c =
+returns : tie.Need-returns
+unfolding kindOf
+returns c =
     let at-put-notices3 = c .before .before in
     let at-put-notices2 = at-put-notices3 .before .before .before .before in
     let at-put-notices = at-put-notices2 .before .before .before .before .before in
     let at-put-head = at-put-notices .before .before .before .before in
-    let at-if1 = at-put-head .before .before in
-    let a = at-if1 .before .before .before .before .before .before .args in
-    wrote
-    (a .out .now)
-    _
-    (7 + 5 * noticeCount (a .growth))
-    (length-span (a .shape) (a .t .now) (a .growth) (a .span .0))
-    _
-    (at-if1 .if1 .left)
-    (rw (
+    let s = at-put-head .before .before .before .before .before .before .before in
+    rw (
       at-put-notices3 .put-notices3 .ensures,
       at-put-notices2 .put-notices2 .ensures,
       at-put-notices .put-notices .ensures,
       at-put-head .put-head .ensures,
     )
-    (span-written (a .shape) (a .t .now) (a .growth) (a .out .now) (a .span .0)))
+    (span-written (s .args .shape) (s .args .t .now) (s .args .growth) (s .args .out .now) (s .args .span .0))
 
 pub write-span-spec : {M : Type 1} → statement M
 write-span-spec =
@@ -94,10 +66,6 @@ write-span-spec =
     (tie.spec
     add-of-cabinets
     add-total
-    cast-size
-    mul-size
-    add-size
-    returns
     put-head-requires
     put-notices-requires
     cast-put-notices
@@ -109,4 +77,4 @@ write-span-spec =
     add-put-notices-2
     put-notices-requires-3
     same-length
-    returns-2)
+    returns)

@@ -1,6 +1,6 @@
 -- `write::put_item` writes item i of a list that is written down.
 use borrow.Author.Needs.{needs}
-use Rattle.writing.specs.Inside.Writes.{itemAt}
+use Rattle.step.specs.Promise.{itemAt}
 use Rattle.writing.proofs.write.put_item.Statement.{statement}
 use Rattle.writing.proofs.write.put_item.Tie as tie
 

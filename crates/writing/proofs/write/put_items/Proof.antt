@@ -1,5 +1,6 @@
 -- `write::put_items` writes the items of a list one after another, behind the first three bytes. The invariant: the first i items are written,
 -- and the next one goes behind them. The measure is what is left of the count.
+use mathlib.Core.List.{map}
 use mathlib.Core.Path.{_≡_, refl, _∙_}
 use Prim.Native.Nat.{_+_, _*_, _-_, _≤_}
 use native.Mathlib.Numerals.{add-one}
@@ -7,22 +8,23 @@ use native.Mathlib.Omega.{arith}
 use lib.ListN.{length}
 use lib.Seq.{sets}
 use Rattle.graph.specs.Below.{tabulate}
-use Rattle.commands.specs.Bytes.{twoBytesEach}
-use Rattle.writing.specs.Inside.Writes.{itemAt}
+use Rattle.commands.specs.Field.{fieldsBytes}
+use Rattle.step.specs.Promise.{itemAt}
+use Rattle.writing.specs.Inside.Writes.{listField}
 use Rattle.writing.proofs.WriteSteps.{items-more}
 use Rattle.writing.proofs.write.put_items.Statement.{statement}
 use Rattle.writing.proofs.write.put_items.Tie as tie
 
 abbrev Inv-loop : tie.InvT-loop
 Inv-loop t shape out₀ list count i₀ at₀ out i at =
-    (out ≡ sets out₀ 3 (twoBytesEach (tabulate i (itemAt list shape t)))) × (at ≡ 3 + 2 * i) × (i ≤ count)
+    (out ≡ sets out₀ 3 (fieldsBytes (map (listField list) (tabulate i (itemAt list shape t))))) × (at ≡ 3 + 2 * i) × (i ≤ count)
     × (length out ≡ length out₀)
 
 abbrev μ-loop : tie.MeasureT-loop
 μ-loop t shape out₀ list count i₀ at₀ out i at = count - i
 
 loop-holds : tie.Need-loop-holds Inv-loop μ-loop
-unfolding tabulate twoBytesEach
+unfolding tabulate fieldsBytes
 loop-holds c = (refl, refl, omega arith, refl)
 
 put-item-requires : tie.Need-put-item-requires Inv-loop μ-loop
@@ -44,7 +46,7 @@ loop-again c =
     let s = at-loop .before .before .before in
     let v = at-loop .loop in (
       rw (at-put-item .put-item .ensures, v .inv .0, add-one (v .i))
-          (items-more (s .args .out .now) 3 (v .at) (v .i) (itemAt (s .args .list) (s .args .shape) (s .args .t .now)) (v .inv .1)),
+          (items-more (s .args .list) (s .args .out .now) 3 (v .at) (v .i) (itemAt (s .args .list) (s .args .shape) (s .args .t .now)) (v .inv .1)),
       omega arith,
       omega arith,
       at-put-item .put-item .kept .1 .1 .0 ∙ v .inv .3,

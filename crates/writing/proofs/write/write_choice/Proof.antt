@@ -1,16 +1,8 @@
--- `write::write_choice` writes an answer of two bytes and a span, or nothing.
-use mathlib.Core.Path.{refl}
-use borrow.Author.Needs.{needs}
+-- `write::write_choice` writes an answer of two bytes and a span.
 use Rattle.commands.specs.Bytes.{twoBytes}
-use Rattle.writing.proofs.Sets.{wrote, wrote-nothing}
+use borrow.Author.Needs.{needs}
 use Rattle.writing.proofs.write.write_choice.Statement.{statement}
 use Rattle.writing.proofs.write.write_choice.Tie as tie
-
-returns : tie.Need-returns
-unfolding twoBytes
-returns c =
-    let s = c .before .before in
-    wrote-nothing (s .args .out .now) _ 4 refl (c .if1 .taken)
 
 put-byte-requires : tie.Need-put-byte-requires
 put-byte-requires c κs = search needs
@@ -24,18 +16,14 @@ put-two-requires c κs = search needs
 same-length : tie.Need-same-length
 same-length c = search needs
 
-returns-2 : tie.Need-returns-2
+returns : tie.Need-returns
 unfolding twoBytes
-returns-2 c =
+returns c =
     let at-put-two = c .before .before in
     let at-put-byte2 = at-put-two .before .before .before .before in
     let at-put-byte = at-put-byte2 .before .before .before .before in
-    let at-if1 = at-put-byte .before .before in
-    let s = at-if1 .before .before in
-    wrote (s .args .out .now) _ 4 refl _ (at-if1 .if1 .left)
-    (rw (at-put-two .put-two .ensures, at-put-byte2 .put-byte2 .ensures, at-put-byte .put-byte .ensures))
+    rw (at-put-two .put-two .ensures, at-put-byte2 .put-byte2 .ensures, at-put-byte .put-byte .ensures)
 
 pub write-choice-spec : {M : Type 1} → statement M
 write-choice-spec =
-    tie.close
-    (tie.spec returns put-byte-requires put-byte-requires-2 put-two-requires same-length returns-2)
+    tie.close (tie.spec put-byte-requires put-byte-requires-2 put-two-requires same-length returns)

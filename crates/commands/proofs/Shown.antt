@@ -1,0 +1,43 @@
+-- The marked histories and the calls of the entry hold of the definitions: each table is computed at once.
+use mathlib.Core.List.{List, [], _∷_, _++_, map}
+use mathlib.Core.Path.{_≡_, refl, ap}
+use lib.ListN.{replicate}
+use Rattle.commands.specs.Register.{program, programReport}
+use Rattle.commands.specs.Histories.{History, EachShown, histories}
+use Rattle.commands.specs.Histories
+use Rattle.commands.specs.Calls.{sevens, call, atStart, startCalls, stopCalls, cabinetAnswers, acceptedCalls, entered}
+use Rattle.commands.proofs.Computed.{computed}
+
+-- the history that the program makes of the same input
+abbrev made : History → History
+made h = record { input = h .input; output = program (h .input); report = programReport (h .input) }
+
+-- of the whole table the program makes the table
+histories-made : map made histories ≡ histories
+unfolding computed Histories.output Histories.accepted Histories.refusedWith Histories.notice Histories.emptyJournal Histories.triangle Histories.oneSpan Histories.twoSpans Histories.chain Histories.twoMeshes Histories.twoRingsJoined Histories.fromItselfToItself Histories.spanToItself Histories.spanToNowhere Histories.acrossDistricts Histories.cutShort Histories.histories
+histories-made = refl
+
+each-shown : (hs : List History) → map made hs ≡ hs → EachShown hs
+each-shown [] e = tt
+each-shown (h ∷ hs) e =
+    let one : made h ≡ h = cc in
+    (record { output-is = ap (λ k. k .output) one; report-is = ap (λ k. k .report) one }, each-shown hs (cc))
+
+-- every marked history holds of the definitions
+pub histories-shown : EachShown histories
+histories-shown = each-shown histories histories-made
+
+-- The entry returns and leaves so for every call.
+pub calls-shown : map entered (startCalls ++ stopCalls ++ acceptedCalls) ≡ map (λ c. c .outcome) (startCalls ++ stopCalls ++ acceptedCalls)
+unfolding computed sevens call atStart startCalls stopCalls cabinetAnswers acceptedCalls entered
+calls-shown = refl
+
+-- The program writes a place in four bytes: 9 at place 256.
+pub place-shown : program (replicate 257 0x01) ≡ cabinetAnswers 256 ++ 0xFF ∷ 9 ∷ 0 ∷ 0 ∷ 1 ∷ 0 ∷ []
+unfolding computed cabinetAnswers
+place-shown = refl
+
+-- And place 0 for number 3.
+pub long-input-shown : program (replicate 65537 0x01) ≡ 0xFF ∷ 3 ∷ 0 ∷ 0 ∷ 0 ∷ 0 ∷ []
+unfolding computed
+long-input-shown = refl

@@ -1,0 +1,182 @@
+-- Calls of the entry in plain numbers, line by line of the table of causes: what is handed in, what is returned, and what every buffer
+-- then holds.
+use mathlib.Core.List.{List, [], _∷_, _++_}
+use Prim.Native.Nat.{ℕ, zero, suc}
+use lib.ListN.{replicate}
+use Rattle.commands.specs.Refusal.{Capacities}
+use Rattle.commands.specs.Entry.{Buffers, Outcome}
+use Rattle.commands.specs.Register.{register}
+
+-- What the entry is handed, and what it returns and leaves.
+pub record Call : Type 0 where
+  pub capacities : Capacities
+  pub journal : List ℕ
+  pub lent : Buffers
+  pub outcome : Outcome
+
+-- Buffers of these lengths, full of sevens: working table, answers, report.
+unfoldable pub sevens : ℕ → ℕ → ℕ → Buffers
+sevens work answers report = record { work = replicate work 7; answers = replicate answers 7; report = replicate report 7 }
+
+-- C, S, the buffers' lengths and the journal; then the number returned and the working table, answers and report on return.
+unfoldable pub call : ℕ → ℕ → ℕ → ℕ → ℕ → List ℕ → ℕ → List ℕ → List ℕ → List ℕ → Call
+call c s workLength answersLength reportLength journal number work answers report =
+    record {
+      capacities = record { cabinets = c; spans = s };
+      journal = journal;
+      lent = sevens workLength answersLength reportLength;
+      outcome = record { returned = number; buffers = record { work = work; answers = answers; report = report } };
+    }
+
+-- The same, and every buffer is left as it was.
+unfoldable pub atStart : ℕ → ℕ → ℕ → ℕ → ℕ → List ℕ → ℕ → Call
+atStart c s workLength answersLength reportLength journal number =
+    call c s workLength answersLength reportLength journal number (replicate workLength 7) (replicate answersLength 7) (replicate reportLength 7)
+
+-- Returned at the start: only the number. The later lines of the table apply too.
+unfoldable pub startCalls : List Call
+startCalls =
+    -- 1: C or S outside its range
+    atStart 0 1 0 2 5 (replicate 65537 0) 1
+    ∷ atStart 4097 1 0 2 5 (replicate 65537 0) 1
+    ∷ atStart 1 0 0 2 5 (replicate 65537 0) 1
+    ∷ atStart 1 8193 0 2 5 (replicate 65537 0) 1
+    -- 2: working table or report too short
+    ∷ atStart 4096 8192 0 2 6 (replicate 65537 0) 2
+    ∷ atStart 1 1 95 2 6 (replicate 65537 0) 2
+    ∷ atStart 1 1 96 2 5 (replicate 65537 0) 2
+    -- 3: journal longer than 65,536 bytes
+    ∷ atStart 1 1 96 2 6 (replicate 65537 0) 3
+    ∷ []
+
+-- Stopped: W numbers of the working table are 0, the report is filled, earlier answers stand, and the rest is as it was.
+unfoldable pub stopCalls : List Call
+stopCalls =
+    -- 4: command byte not 01 to 08
+    call 1 1 96 2 6 (replicate 65536 0x00) 4 (replicate 96 0) (7 ∷ 7 ∷ []) (4 ∷ 0 ∷ 0 ∷ 0 ∷ 0 ∷ 0 ∷ [])
+    ∷ call 1 1 98 5 8 (0x01 ∷ 0x09 ∷ []) 4
+    (replicate 96 0 ++ 7 ∷ 7 ∷ [])
+    (0x81 ∷ 0 ∷ 0 ∷ 7 ∷ 7 ∷ [])
+    (4 ∷ 1 ∷ 1 ∷ 3 ∷ 1 ∷ 0 ∷ 7 ∷ 7 ∷ [])
+    -- 5: operands cut off by the journal's end, of cabinets not yet given
+    ∷ call 1 1 96 2 6 (0x02 ∷ 0 ∷ 0 ∷ 0 ∷ []) 5 (replicate 96 0) (7 ∷ 7 ∷ []) (5 ∷ 0 ∷ 0 ∷ 0 ∷ 0 ∷ 0 ∷ [])
+    -- 6: a cabinet number not yet given; in the second, equal to the other
+    ∷ call 1 1 96 3 6 (0x01 ∷ 0x02 ∷ 0 ∷ 0 ∷ 0 ∷ 1 ∷ []) 6 (replicate 96 0) (0x81 ∷ 0 ∷ 0 ∷ []) (6 ∷ 1 ∷ 1 ∷ 3 ∷ 1 ∷ 0 ∷ [])
+    ∷ call 1 1 96 3 6 (0x01 ∷ 0x05 ∷ 0 ∷ 1 ∷ 0 ∷ 1 ∷ []) 6 (replicate 96 0) (0x81 ∷ 0 ∷ 0 ∷ []) (6 ∷ 1 ∷ 1 ∷ 3 ∷ 1 ∷ 0 ∷ [])
+    -- 7: a span number not yet given, equal to a cabinet's
+    ∷ call 1 1 96 3 6 (0x01 ∷ 0x08 ∷ 0 ∷ 0 ∷ []) 7 (replicate 96 0) (0x81 ∷ 0 ∷ 0 ∷ []) (7 ∷ 1 ∷ 1 ∷ 3 ∷ 1 ∷ 0 ∷ [])
+    -- 8: 05 with equal cabinets; 02 too, with S spans present
+    ∷ call 1 1 96 3 6 (0x01 ∷ 0x05 ∷ 0 ∷ 0 ∷ 0 ∷ 0 ∷ []) 8 (replicate 96 0) (0x81 ∷ 0 ∷ 0 ∷ []) (8 ∷ 1 ∷ 1 ∷ 3 ∷ 1 ∷ 0 ∷ [])
+    ∷ call 2 1 120 18 6 (0x01 ∷ 0x01 ∷ 0x02 ∷ 0 ∷ 0 ∷ 0 ∷ 1 ∷ 0x02 ∷ 0 ∷ 1 ∷ 0 ∷ 1 ∷ []) 8
+    (replicate 120 0)
+    (0x81 ∷ 0 ∷ 0 ∷ 0x81 ∷ 0 ∷ 1 ∷ 0x82 ∷ 0 ∷ 0 ∷ 0 ∷ 0 ∷ 0 ∷ 1 ∷ 0x01 ∷ 0 ∷ 1 ∷ 0 ∷ 0 ∷ [])
+    (8 ∷ 7 ∷ 3 ∷ 18 ∷ 2 ∷ 1 ∷ [])
+    -- 9: 01 with C cabinets, or 02 with S spans present, and no room for the answer
+    ∷ call 1 1 96 3 6 (0x01 ∷ 0x01 ∷ []) 9 (replicate 96 0) (0x81 ∷ 0 ∷ 0 ∷ []) (9 ∷ 1 ∷ 1 ∷ 3 ∷ 1 ∷ 0 ∷ [])
+    ∷ call 2 1 120 18 6 (0x01 ∷ 0x01 ∷ 0x02 ∷ 0 ∷ 0 ∷ 0 ∷ 1 ∷ 0x02 ∷ 0 ∷ 1 ∷ 0 ∷ 0 ∷ []) 9
+    (replicate 120 0)
+    (0x81 ∷ 0 ∷ 0 ∷ 0x81 ∷ 0 ∷ 1 ∷ 0x82 ∷ 0 ∷ 0 ∷ 0 ∷ 0 ∷ 0 ∷ 1 ∷ 0x01 ∷ 0 ∷ 1 ∷ 0 ∷ 0 ∷ [])
+    (9 ∷ 7 ∷ 3 ∷ 18 ∷ 2 ∷ 1 ∷ [])
+    -- 10: 06 or 07 across districts, and no room for the answer
+    ∷ call 2 1 120 6 6 (0x01 ∷ 0x01 ∷ 0x06 ∷ 0 ∷ 0 ∷ 0 ∷ 1 ∷ []) 10
+    (replicate 120 0)
+    (0x81 ∷ 0 ∷ 0 ∷ 0x81 ∷ 0 ∷ 1 ∷ [])
+    (10 ∷ 2 ∷ 2 ∷ 6 ∷ 2 ∷ 0 ∷ [])
+    ∷ call 2 1 120 6 6 (0x01 ∷ 0x01 ∷ 0x07 ∷ 0 ∷ 0 ∷ 0 ∷ 1 ∷ []) 10
+    (replicate 120 0)
+    (0x81 ∷ 0 ∷ 0 ∷ 0x81 ∷ 0 ∷ 1 ∷ [])
+    (10 ∷ 2 ∷ 2 ∷ 6 ∷ 2 ∷ 0 ∷ [])
+    -- 11: the answer is longer, by one byte, than what is left of the answer buffer
+    ∷ call 1 1 96 2 6 (0x01 ∷ []) 11 (replicate 96 0) (7 ∷ 7 ∷ []) (11 ∷ 0 ∷ 0 ∷ 0 ∷ 0 ∷ 0 ∷ [])
+    ∷ call 2 1 120 17 6 (0x01 ∷ 0x01 ∷ 0x02 ∷ 0 ∷ 0 ∷ 0 ∷ 1 ∷ []) 11
+    (replicate 120 0)
+    (0x81 ∷ 0 ∷ 0 ∷ 0x81 ∷ 0 ∷ 1 ∷ replicate 11 7)
+    (11 ∷ 2 ∷ 2 ∷ 6 ∷ 2 ∷ 0 ∷ [])
+    ∷ []
+
+-- The answers to the first cabinets, up to 256 of them.
+unfoldable pub cabinetAnswers : ℕ → List ℕ
+cabinetAnswers zero = []
+cabinetAnswers (suc k) = cabinetAnswers k ++ 0x81 ∷ 0 ∷ k ∷ []
+
+-- Accepted: 0 is returned and the place is the journal's length. Every kind of answer.
+unfoldable pub acceptedCalls : List Call
+acceptedCalls =
+    -- no command, with room for no answer
+    call 1 1 97 0 6 [] 0 (replicate 96 0 ++ 7 ∷ []) [] (0 ∷ 0 ∷ 0 ∷ 0 ∷ 0 ∷ 0 ∷ [])
+    -- 81 that fits to the byte
+    ∷ call 1 1 96 3 6 (0x01 ∷ []) 0 (replicate 96 0) (0x81 ∷ 0 ∷ 0 ∷ []) (0 ∷ 1 ∷ 1 ∷ 3 ∷ 1 ∷ 0 ∷ [])
+    -- 85 without a mesh
+    ∷ call 2 1 120 10 6 (0x01 ∷ 0x01 ∷ 0x05 ∷ 0 ∷ 0 ∷ 0 ∷ 1 ∷ []) 0
+    (replicate 120 0)
+    (0x81 ∷ 0 ∷ 0 ∷ 0x81 ∷ 0 ∷ 1 ∷ 0x85 ∷ 0 ∷ 0 ∷ 0 ∷ [])
+    (0 ∷ 7 ∷ 3 ∷ 10 ∷ 2 ∷ 0 ∷ [])
+    -- one span: 82 with a district notice, 83, 84, 85 with a mesh, 86 with the span, 87 with none, 88 with 1
+    ∷ call 2 1 120 38 6
+    (0x01
+    ∷ 0x01
+    ∷ 0x02 ∷ 0 ∷ 0 ∷ 0 ∷ 1
+    ∷ 0x03 ∷ 0 ∷ 1
+    ∷ 0x04 ∷ 0 ∷ 1
+    ∷ 0x05 ∷ 0 ∷ 1 ∷ 0 ∷ 0
+    ∷ 0x06 ∷ 0 ∷ 0 ∷ 0 ∷ 1
+    ∷ 0x07 ∷ 0 ∷ 0 ∷ 0 ∷ 1
+    ∷ 0x08 ∷ 0 ∷ 0
+    ∷ [])
+    0
+    (replicate 120 0)
+    (0x81 ∷ 0 ∷ 0
+    ∷ 0x81 ∷ 0 ∷ 1
+    ∷ 0x82 ∷ 0 ∷ 0 ∷ 0 ∷ 0 ∷ 0 ∷ 1 ∷ 0x01 ∷ 0 ∷ 1 ∷ 0 ∷ 0
+    ∷ 0x83 ∷ 0 ∷ 0
+    ∷ 0x84 ∷ 0 ∷ 1
+    ∷ 0x85 ∷ 1 ∷ 0 ∷ 0
+    ∷ 0x86 ∷ 0 ∷ 1 ∷ 0 ∷ 0
+    ∷ 0x87 ∷ 0 ∷ 0
+    ∷ 0x88 ∷ 1
+    ∷ [])
+    (0 ∷ 31 ∷ 9 ∷ 38 ∷ 2 ∷ 1 ∷ [])
+    -- a triangle with a span from it: 82 with ring and mesh notices, 86 and 87 from either side, 88 with 0
+    ∷ call 4 4 192 91 6
+    (0x01
+    ∷ 0x01
+    ∷ 0x01
+    ∷ 0x01
+    ∷ 0x02 ∷ 0 ∷ 0 ∷ 0 ∷ 1
+    ∷ 0x02 ∷ 0 ∷ 1 ∷ 0 ∷ 2
+    ∷ 0x02 ∷ 0 ∷ 2 ∷ 0 ∷ 3
+    ∷ 0x06 ∷ 0 ∷ 3 ∷ 0 ∷ 0
+    ∷ 0x07 ∷ 0 ∷ 3 ∷ 0 ∷ 0
+    ∷ 0x02 ∷ 0 ∷ 0 ∷ 0 ∷ 2
+    ∷ 0x06 ∷ 0 ∷ 0 ∷ 0 ∷ 1
+    ∷ 0x08 ∷ 0 ∷ 1
+    ∷ [])
+    0
+    (replicate 192 0)
+    (0x81 ∷ 0 ∷ 0
+    ∷ 0x81 ∷ 0 ∷ 1
+    ∷ 0x81 ∷ 0 ∷ 2
+    ∷ 0x81 ∷ 0 ∷ 3
+    ∷ 0x82 ∷ 0 ∷ 0 ∷ 0 ∷ 0 ∷ 0 ∷ 1 ∷ 0x01 ∷ 0 ∷ 1 ∷ 0 ∷ 0
+    ∷ 0x82 ∷ 0 ∷ 1 ∷ 0 ∷ 1 ∷ 0 ∷ 1 ∷ 0x01 ∷ 0 ∷ 2 ∷ 0 ∷ 0
+    ∷ 0x82 ∷ 0 ∷ 2 ∷ 0 ∷ 2 ∷ 0 ∷ 1 ∷ 0x01 ∷ 0 ∷ 3 ∷ 0 ∷ 0
+    ∷ 0x86 ∷ 0 ∷ 3 ∷ 0 ∷ 2 ∷ 0 ∷ 1 ∷ 0 ∷ 0
+    ∷ 0x87 ∷ 0 ∷ 2 ∷ 0 ∷ 2 ∷ 0 ∷ 1
+    ∷ 0x82 ∷ 0 ∷ 3 ∷ 0 ∷ 0 ∷ 0 ∷ 3
+    ∷ 0x02 ∷ 0 ∷ 1 ∷ 0 ∷ 0
+    ∷ 0x02 ∷ 0 ∷ 2 ∷ 0 ∷ 0
+    ∷ 0x03 ∷ 0 ∷ 1 ∷ 0 ∷ 0
+    ∷ 0x86 ∷ 0 ∷ 0
+    ∷ 0x88 ∷ 0
+    ∷ [])
+    (0 ∷ 42 ∷ 12 ∷ 91 ∷ 4 ∷ 4 ∷ [])
+    -- a number from 256 on, answered and asked for
+    ∷ call 257 1 6240 774 6 (replicate 257 0x01 ++ 0x03 ∷ 1 ∷ 0 ∷ []) 0
+    (replicate 6240 0)
+    (cabinetAnswers 256 ++ 0x81 ∷ 1 ∷ 0 ∷ 0x83 ∷ 1 ∷ 0 ∷ [])
+    (0 ∷ 260 ∷ 258 ∷ 774 ∷ 257 ∷ 0 ∷ [])
+    ∷ []
+
+-- What the entry returns and leaves for the call.
+unfoldable pub entered : Call → Outcome
+entered c = register (c .capacities) (c .journal) (c .lent)

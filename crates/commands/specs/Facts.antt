@@ -1,0 +1,98 @@
+-- What is to be known of each command, in one place; what it answers and what it leaves.
+use mathlib.Core.List.{List, [], _∷_}
+use mathlib.Core.Option.{Option, none, some}
+use Prim.Native.Nat.{ℕ}
+use Rattle.graph.specs.Network.{Edge, edgeBetween, edgeCount}
+use Rattle.graph.specs.Groups.{bridge}
+use Rattle.graph.specs.Block.{sharedBlock}
+use Rattle.graph.specs.Between.{bridgesBetween, cutsBetween}
+use Rattle.naming.specs.Rename.{nameOf}
+use Rattle.naming.specs.Book.{Book, Addition, vertex, edge, neither, feed}
+use Rattle.naming.specs.State.{State, afterAddition}
+use Rattle.commands.specs.Field.{Field, cabinet, span, byte, fieldsBytes}
+use Rattle.commands.specs.Command.{Command, addCabinet, addSpan, districtName, ringName, sharedMesh, soleSpans, cutCabinets, isSole, commandByte}
+use Rattle.commands.specs.Answer.{Plain, districtNamed, ringNamed, meshShared, noMeshShared, soleSpansAre, cutCabinetsAre, soleIs, Answer, cabinetAdded, spanAdded, plain, notices}
+
+-- What must hold of two cabinets that a command names.
+pub data Demand : Type 0 where
+  differ : ℕ → ℕ → Demand
+  shareDistrict : ℕ → ℕ → Demand
+
+-- A command that adds nothing to the network: its operands, what must hold of them, and its answer from the state.
+pub record PlainCommand : Type 0 where
+  pub operands : List Field
+  pub demands : List Demand
+  pub told : State → Plain
+
+-- A command adds a cabinet; or a span, whose ends are its first operands and must differ, with what operands and demands there are
+-- besides; or nothing.
+pub data Facts : Type 0 where
+  addsCabinet : Facts
+  addsSpan : Edge → List Field → List Demand → Facts
+  addsNothing : PlainCommand → Facts
+
+unfoldable pub asks : List Field → List Demand → (State → Plain) → Facts
+asks operands demands told = addsNothing (record { operands = operands; demands = demands; told = told })
+
+-- The answer to 05: the name of the block that has an edge at each vertex, if there is one.
+unfoldable pub meshAnswer : Book → Option ℕ → Plain
+meshAnswer b none = noMeshShared
+meshAnswer b (some s) = meshShared (nameOf (b .blocks) s)
+
+-- The facts of each command.
+unfoldable pub facts : Command → Facts
+facts addCabinet = addsCabinet
+facts (addSpan a b) = addsSpan (edgeBetween a b) [] []
+facts (districtName a) = asks (cabinet a ∷ []) [] (λ s. districtNamed (nameOf (s .book .components) a))
+facts (ringName a) = asks (cabinet a ∷ []) [] (λ s. ringNamed (nameOf (s .book .bridgeBlocks) a))
+facts (sharedMesh a b) =
+    asks (cabinet a ∷ cabinet b ∷ []) (differ a b ∷ []) (λ s. meshAnswer (s .book) (sharedBlock (s .book .network) a b))
+facts (soleSpans a b) =
+    asks (cabinet a ∷ cabinet b ∷ []) (shareDistrict a b ∷ []) (λ s. soleSpansAre (bridgesBetween (s .book .network) a b))
+facts (cutCabinets a b) =
+    asks (cabinet a ∷ cabinet b ∷ []) (shareDistrict a b ∷ []) (λ s. cutCabinetsAre (cutsBetween (s .book .network) a b))
+facts (isSole x) = asks (span x ∷ []) [] (λ s. soleIs (bridge (s .book .network) x))
+
+-- The operands, in their order.
+unfoldable pub operandsOf : Facts → List Field
+operandsOf addsCabinet = []
+operandsOf (addsSpan e operands demands) = cabinet (e .left) ∷ cabinet (e .right) ∷ operands
+operandsOf (addsNothing q) = q .operands
+
+-- What must hold of them.
+unfoldable pub demandsOf : Facts → List Demand
+demandsOf addsCabinet = []
+demandsOf (addsSpan e operands demands) = differ (e .left) (e .right) ∷ demands
+demandsOf (addsNothing q) = q .demands
+
+-- What the naming book is fed.
+unfoldable pub additionOf : Facts → Addition
+additionOf addsCabinet = vertex
+additionOf (addsSpan e operands demands) = edge e
+additionOf (addsNothing q) = neither
+
+unfoldable pub addition : Command → Addition
+addition c = additionOf (facts c)
+
+-- A command's bytes.
+unfoldable pub commandBytes : Command → List ℕ
+commandBytes c = fieldsBytes (byte (commandByte c) ∷ operandsOf (facts c))
+
+-- The state after a command.
+unfoldable pub after : State → Command → State
+after s c = afterAddition s (addition c)
+
+-- The answer to an added span: its number, its mesh name once it is in, and the notices.
+unfoldable pub spanAnswer : Book → Book → Answer
+spanAnswer b b′ =
+    let new = edgeCount (b .network) in
+    spanAdded new (nameOf (b′ .blocks) new) (notices b b′)
+
+unfoldable pub answerTo : State → Facts → Answer
+answerTo s addsCabinet = cabinetAdded (s .book .network .vertices)
+answerTo s (addsSpan e operands demands) = spanAnswer (s .book) (feed (s .book) (edge e))
+answerTo s (addsNothing q) = plain (q .told s)
+
+-- The answer to a command that is not refused.
+unfoldable pub answer : State → Command → Answer
+answer s c = answerTo s (facts c)

@@ -1,0 +1,85 @@
+-- What a run leaves behind is the same before and after each of its commands.
+use mathlib.Core.List.{List, [], _++_, append-assoc, append-nil}
+use mathlib.Core.Option.{Option}
+use mathlib.Core.Path.{_≡_}
+use Prim.Native.Nat.{ℕ, suc, _+_, _-_, _≤_}
+use native.Mathlib.Nat.{add-zero, le-refl}
+use native.Mathlib.Omega.{arith}
+use lib.ListN.{length, take, drop, length-append, length-drop, take-append-drop, drop-of-length-le}
+use lib.Seq.{drop-drop, take-all, length-take-le, take-append-seam, drop-append-seam}
+use Rattle.naming.specs.Book.{feedAll}
+use Rattle.naming.specs.State.{afterAddition}
+use Rattle.commands.specs.Refusal.{Refusal}
+use Rattle.commands.specs.Answer.{answerBytes}
+use Rattle.commands.specs.Facts.{after}
+use Rattle.commands.specs.Run.{Accepted, Run, andThen, commandsOf, bytesOfAnswers, placeAfter}
+use Rattle.commands.specs.Entry.{over, numberOf}
+use Rattle.forest.specs.Promise.{stateOf, vertices-held, edges-held}
+use Rattle.run.specs.declared.Progress.{Progress}
+use Rattle.run.specs.Promise.{sixNumbers}
+use Rattle.run.specs.Inside.Runs.{writtenBehind, leaves, leavesAfter}
+
+-- nothing written behind leaves the buffer as it is
+nothing-behind : (written : ℕ) (answers : List ℕ) → writtenBehind written [] answers ≡ answers
+unfolding writtenBehind over
+nothing-behind written answers = take-append-drop written answers
+
+-- bytes written over the tail of the buffer stand behind those before it
+pub over-tail : (written : ℕ) (bytes answers tail : List ℕ) → tail ≡ over bytes (take (length answers - written) (drop written answers))
+    → take written answers ++ (tail ++ drop (length answers - written) (drop written answers)) ≡ writtenBehind written bytes answers
+unfolding writtenBehind
+over-tail written bytes answers tail e =
+    let room = length answers - written in
+    let behind = drop written answers in
+    let all : length behind ≤ room = rw (length-drop written answers) (le-refl room) in
+    rw (e, take-all room behind all, drop-of-length-le behind all, append-nil (over bytes behind))
+
+-- bytes behind bytes are those of both
+behind-both : (written : ℕ) (bytes more answers : List ℕ) → written ≤ length answers
+    → writtenBehind written (bytes ++ more) answers
+    ≡ writtenBehind (written + length bytes) more (writtenBehind written bytes answers)
+unfolding writtenBehind over
+behind-both written bytes more answers h =
+    let front = take written answers ++ bytes in
+    let rest = drop (length bytes) (drop written answers) in
+    let long : written + length bytes ≡ length front = omega (arith, length-append (take written answers) bytes, length-take-le written answers h) in
+    rw (
+      long,
+      ← append-assoc (take written answers) bytes rest,
+      take-append-seam front rest,
+      drop-append-seam front rest,
+      drop-drop (length more) (length bytes) (drop written answers),
+      length-append bytes more,
+      append-assoc bytes more (drop (length bytes + length more) (drop written answers)),
+      append-assoc (take written answers) bytes (more ++ drop (length bytes + length more) (drop written answers)),
+    )
+
+-- a run of which nothing is left leaves behind what it has come to
+pub ends-here : (p : Progress) (t answers : List ℕ) (end : Option Refusal) → p .refusal ≡ numberOf end
+    → leaves p answers ≡ leavesAfter p t answers (record { accepted = []; refusal = end })
+unfolding leaves leavesAfter sixNumbers placeAfter bytesOfAnswers commandsOf feedAll
+ends-here p t answers end e =
+    rw (
+      e,
+      edges-held (p .shape) t,
+      vertices-held (p .shape) t,
+      nothing-behind (p .written) answers,
+      add-zero (p .place),
+      add-zero (p .commands),
+      add-zero (p .written),
+    )
+
+-- an accepted command and what is left behind it leave behind what is left from one command further on
+pub goes-further : (p p′ : Progress) (old new answers : List ℕ) (a : Accepted) (rest : Run)
+    → p′ .place ≡ p .place + 1 + a .width → p′ .commands ≡ p .commands + 1 → p′ .written ≡ p .written + length (answerBytes (a .answer))
+    → stateOf (p′ .shape) new ≡ after (stateOf (p .shape) old) (a .command) → p .written ≤ length answers
+    → leavesAfter p′ new (writtenBehind (p .written) (answerBytes (a .answer)) answers) rest ≡ leavesAfter p old answers (andThen a rest)
+unfolding leavesAfter andThen placeAfter bytesOfAnswers commandsOf feedAll after afterAddition
+goes-further p p′ old new answers a rest place commands written state fits =
+    let bytes = answerBytes (a .answer) in
+    let later = rest .accepted in
+    let more = bytesOfAnswers later in
+    let place-is : p′ .place + placeAfter later ≡ p .place + (suc (a .width) + placeAfter later) = omega (arith, place) in
+    let commands-are : p′ .commands + length later ≡ p .commands + suc (length later) = omega (arith, commands) in
+    let written-is : p′ .written + length more ≡ p .written + length (bytes ++ more) = omega (arith, written, length-append bytes more) in
+    rw (place-is, commands-are, written-is, written, state, behind-both (p .written) bytes more answers fits)

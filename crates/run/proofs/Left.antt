@@ -1,0 +1,95 @@
+-- What is left of a run begins with what stands at its place.
+use mathlib.Core.List.{List, [], _∷_}
+use mathlib.Core.Option.{none, some}
+use mathlib.Core.Path.{_≡_, _∙_, ap}
+use Prim.Native.Nat.{ℕ, _+_, _-_, _≤_, _<_}
+use native.Mathlib.Omega.{arith}
+use native.Mathlib.Numerals.{add-one}
+use lib.ListN.{length, drop, getD, drop-of-length-le}
+use lib.Seq.{drop-cons, drop-drop}
+use Rattle.naming.specs.State.{State}
+use Rattle.commands.specs.Command.{Command, unknownByte, cutOff, command}
+use Rattle.commands.specs.Refusal.{Refusal, badByte, cutOperands, noRoom, Capacities, refusalOf}
+use Rattle.commands.specs.Answer.{answerBytes}
+use Rattle.commands.specs.Facts.{after, answer}
+use Rattle.commands.specs.Text.{Read, Text, followedBy, textFrom}
+use Rattle.commands.specs.Run.{stop, andThen, acceptedIn, runWithin}
+use Rattle.commands.proofs.Steps.{text-ends, text-unknown, text-cut-off, text-goes-on, within-ends, within-refuses, within-no-room, within-accepts}
+use Rattle.forest.specs.Promise.{stateOf}
+use Rattle.step.specs.Promise.{capacitiesOf}
+use Rattle.run.specs.declared.Progress.{Progress}
+use Rattle.run.specs.Inside.Runs.{leftOf, readHere}
+
+-- A run at a place of a journal.
+module _ (p : Progress) (journal : List ℕ) (room : ℕ) (t : List ℕ) where
+  -- the state that the table holds, the capacities and the room that is left
+  abbrev stateHere : State
+  stateHere = stateOf (p .shape) t
+
+  abbrev capsHere : Capacities
+  capsHere = capacitiesOf (p .shape .limits)
+
+  -- nothing is left behind the journal's end
+  pub left-at-end : length journal ≤ p .place → leftOf p journal room t ≡ record { accepted = []; refusal = none }
+  unfolding leftOf
+  left-at-end h =
+      rw (drop-of-length-le journal h, text-ends (p .place)) (within-ends (room - p .written) capsHere stateHere none)
+
+  module _ (at-command : p .place < length journal) where
+    -- the byte at the run's place, and those behind it
+    abbrev byteHere : ℕ
+    byteHere = getD journal (p .place) 0
+
+    abbrev bytesBehind : List ℕ
+    bytesBehind = drop (p .place + 1) journal
+
+    -- what is left is the run over the text from there on
+    left-is : (text : Text) → textFrom (p .place) 0 (byteHere ∷ bytesBehind) ≡ text
+        → leftOf p journal room t ≡ runWithin (room - p .written) capsHere stateHere text
+    unfolding leftOf
+    left-is text e = rw (drop-cons journal (p .place) 0 at-command, ← add-one (p .place)) (ap (runWithin (room - p .written) capsHere stateHere) e)
+
+    -- an unknown byte
+    pub left-unknown : readHere p journal ≡ unknownByte → leftOf p journal room t ≡ stop badByte
+    unfolding stop
+    left-unknown e = left-is _ (text-unknown (p .place) byteHere bytesBehind e) ∙ within-ends _ _ _ (some badByte)
+
+    -- cut-off operands
+    pub left-cut-off : readHere p journal ≡ cutOff → leftOf p journal room t ≡ stop cutOperands
+    unfolding stop
+    left-cut-off e = left-is _ (text-cut-off (p .place) byteHere bytesBehind e) ∙ within-ends _ _ _ (some cutOperands)
+
+    module _ (c : Command) (width : ℕ) (reads : readHere p journal ≡ command c width) where
+      -- a command, as it was read
+      abbrev commandHere : Read
+      commandHere = record { command = c; place = p .place; width = width }
+
+      -- the text behind it
+      abbrev textBehind : Text
+      textBehind = textFrom (p .place + 1 + width) 0 (drop (p .place + 1 + width) journal)
+
+      left-command : leftOf p journal room t ≡ runWithin (room - p .written) capsHere stateHere (followedBy commandHere textBehind)
+      left-command =
+          left-is _ (text-goes-on (p .place) byteHere bytesBehind reads ∙ rw (drop-drop width (p .place + 1) journal))
+
+      -- a command that is refused
+      pub left-refused : {q : Refusal} → refusalOf capsHere stateHere c ≡ some q → leftOf p journal room t ≡ stop q
+      left-refused e = left-command ∙ within-refuses _ _ _ commandHere textBehind e
+
+      module _ (not-refused : refusalOf capsHere stateHere c ≡ none) where
+        -- one that is not, without room for its answer
+        pub left-no-room : room - p .written < length (answerBytes (answer stateHere c)) → leftOf p journal room t ≡ stop noRoom
+        left-no-room h = left-command ∙ within-no-room _ _ _ commandHere textBehind not-refused h
+
+        -- one that is answered: what is left behind it is what is left of a run that is so much further
+        pub left-answered : length (answerBytes (answer stateHere c)) ≤ room - p .written → (p′ : Progress) (new : List ℕ)
+            → p′ .shape .limits ≡ p .shape .limits → p′ .place ≡ p .place + 1 + width
+            → p′ .written ≡ p .written + length (answerBytes (answer stateHere c)) → stateOf (p′ .shape) new ≡ after stateHere c
+            → leftOf p journal room t ≡ andThen (acceptedIn stateHere commandHere) (leftOf p′ journal room new)
+        unfolding leftOf
+        left-answered h p′ new limits place written state =
+            let size = length (answerBytes (answer stateHere c)) in
+            let left : room - p′ .written ≡ room - p .written - size = omega (arith, written) in
+            left-command
+            ∙ within-accepts _ _ _ commandHere textBehind not-refused h
+            ∙ rw (left, state, limits, place)

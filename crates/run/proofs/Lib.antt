@@ -1,0 +1,4 @@
+pub mod Course
+pub mod Left
+pub mod Further
+pub mod Whole

@@ -1,0 +1,2 @@
+-- What the code of the run does at each command, in its own types.
+pub mod Runs

@@ -1,0 +1,169 @@
+-- What the operations on the table promise makes each command carried out: the state after it, and the answer from the state before it.
+use mathlib.Core.Bool.{Bool}
+use mathlib.Core.List.{List, map}
+use mathlib.Core.Option.{Option, none, some}
+use mathlib.Core.Path.{_≡_, refl, sym, _∙_, ap}
+use Prim.Native.Nat.{ℕ, _<_}
+use native.Mathlib.Omega.{arith}
+use Rattle.graph.specs.Below.{tabulate}
+use Rattle.graph.specs.Network.{edgeBetween}
+use Rattle.graph.specs.Groups.{bridge}
+use Rattle.graph.specs.Block.{sharedBlock}
+use Rattle.graph.specs.Between.{bridgesBetween, cutsBetween}
+use Rattle.naming.specs.Rename.{Change, nameOf, changesBetween}
+use Rattle.naming.specs.Book.{Book, feed}
+use Rattle.naming.specs.State.{State, afterAddition}
+use Rattle.naming.proofs.Listed.{map-tabulate}
+use Rattle.commands.specs.Field.{Kind, district, ring, mesh}
+use Rattle.commands.specs.Command.{Command, addCabinet, addSpan, districtName, ringName, sharedMesh, soleSpans, cutCabinets, isSole}
+use Rattle.commands.specs.Answer.{changeNotice, changes, notices, plain, soleIs}
+use Rattle.commands.specs.Facts.{asks, meshAnswer, facts, additionOf, addition, after, spanAnswer, answerTo, answer}
+use Rattle.numbers.specs.declared.Vertex.{Vertex}
+use Rattle.forest.specs.declared.Growth.{Growth}
+use Rattle.forest.specs.declared.Shape.{Shape}
+use Rattle.forest.specs.declared.Shared.{Shared}
+use Rattle.forest.specs.declared.VertexGroups.{VertexGroups}
+use Rattle.forest.specs.declared.VertexGroups.the-variants as G
+use Rattle.forest.specs.Promise.{Holds, stateOf, bookIn, networkIn, vertices-held, edges-held, few-vertices, few-edges, same-beyond-refl, oneEdgeMore, VertexAdded, EdgeAdded, ListWritten, vertexNames, sharedName}
+use Rattle.step.specs.declared.Listed.{Listed}
+use Rattle.step.specs.declared.Listed.the-variants as L
+use Rattle.step.specs.declared.Finding.{Finding}
+use Rattle.step.specs.declared.Finding.the-variants as F
+use Rattle.step.specs.declared.Reply.the-variants as R
+use Rattle.step.specs.Promise.{noticeAt, noticeCount, growthNotices, itemAt, nameAnswer, sharedAnswer, listAnswer, findingAnswer, replyAnswer, shapeAfter, Carried}
+use Rattle.step.specs.Inside.Asked.{asksName}
+
+-- a cabinet more
+pub cabinet-carried : (shape : Shape) (old new : List ℕ) → VertexAdded shape old new
+    → Carried shape addCabinet old new (R.Cabinet (record { 0 = shape .vertices }))
+unfolding after addition additionOf facts replyAnswer shapeAfter answer answerTo
+cabinet-carried shape old new a =
+    record {
+      holds = a .holds;
+      state-is = a .state-is;
+      answer-is = rw (vertices-held shape old);
+      fits = tt;
+      same-beyond = a .same-beyond;
+    }
+
+-- A command that leaves the state as it is.
+module _ (shape : Shape) (c : Command) (leaves : (s : State) → after s c ≡ s) where
+  -- with a table that is not touched
+  pub question-carried : (t : List ℕ) (finding : Finding) → Holds shape t → plain (findingAnswer shape t finding) ≡ answer (stateOf shape t) c
+      → Carried shape c t t (R.Found finding)
+  unfolding replyAnswer shapeAfter
+  question-carried t finding holds e =
+      record {
+        holds = holds;
+        state-is = sym (leaves (stateOf shape t));
+        answer-is = e;
+        fits = tt;
+        same-beyond = same-beyond-refl (shape .limits) t;
+      }
+
+  -- with a list written down in it
+  pub list-carried : (old new : List ℕ) (kind : Listed) (count : ℕ) (list : List ℕ)
+      → ListWritten shape old new (itemAt kind shape new) count list → plain (listAnswer kind list) ≡ answer (stateOf shape old) c
+      → Carried shape c old new (R.Found (F.List kind count))
+  unfolding replyAnswer findingAnswer shapeAfter
+  list-carried old new kind count list w e =
+      record {
+        holds = w .holds;
+        state-is = w .state-is ∙ sym (leaves (stateOf shape old));
+        answer-is = ap (λ l. plain (listAnswer kind l)) (w .is-list) ∙ e;
+        fits = tt;
+        same-beyond = w .same-beyond;
+      }
+
+-- 03 and 04: the name of the cabinet's district, and of its ring
+pub name-carried : (shape : Shape) (groups : VertexGroups) (a : ℕ) (t : List ℕ) (name : Vertex) → Holds shape t
+    → name .0 ≡ nameOf (vertexNames groups (bookIn shape t)) a
+    → Carried shape (asksName groups a) t t (R.Found (F.Name groups name))
+unfolding asksName after afterAddition feed addition additionOf facts asks findingAnswer nameAnswer answer answerTo
+name-carried shape G.Components a t name holds e =
+    question-carried shape (districtName a) (λ s. refl) t (F.Name G.Components name) holds (ap (λ n. plain (nameAnswer G.Components n)) e)
+name-carried shape G.BridgeBlocks a t name holds e =
+    question-carried shape (ringName a) (λ s. refl) t (F.Name G.BridgeBlocks name) holds (ap (λ n. plain (nameAnswer G.BridgeBlocks n)) e)
+
+mesh-answer : (b : Book) (o : Option ℕ) → sharedAnswer (sharedName (b .blocks) o) ≡ meshAnswer b o
+unfolding sharedAnswer meshAnswer
+mesh-answer b none = refl
+mesh-answer b (some s) = refl
+
+-- 05: the name of the mesh that two cabinets share
+pub shared-carried : (shape : Shape) (a b : ℕ) (t : List ℕ) (shared : Shared) → Holds shape t
+    → shared ≡ sharedName (bookIn shape t .blocks) (sharedBlock (networkIn shape t) a b)
+    → Carried shape (sharedMesh a b) t t (R.Found (F.Mesh shared))
+unfolding after afterAddition feed addition additionOf facts asks findingAnswer answer answerTo
+shared-carried shape a b t shared holds e =
+    question-carried shape (sharedMesh a b) (λ s. refl) t (F.Mesh shared) holds
+    (ap (λ (x : Shared). plain (sharedAnswer x)) e ∙ ap plain (mesh-answer (bookIn shape t) (sharedBlock (networkIn shape t) a b)))
+
+-- 06: the sole spans between two cabinets
+pub sole-spans-carried : (shape : Shape) (a b : ℕ) (old new : List ℕ) (count : ℕ)
+    → ListWritten shape old new (itemAt L.Spans shape new) count (bridgesBetween (networkIn shape old) a b)
+    → Carried shape (soleSpans a b) old new (R.Found (F.List L.Spans count))
+unfolding after afterAddition feed addition additionOf facts asks listAnswer answer answerTo
+sole-spans-carried shape a b old new count w = list-carried shape (soleSpans a b) (λ s. refl) old new L.Spans count _ w refl
+
+-- 07: the cut cabinets between them
+pub cut-cabinets-carried : (shape : Shape) (a b : ℕ) (old new : List ℕ) (count : ℕ)
+    → ListWritten shape old new (itemAt L.Cabinets shape new) count (cutsBetween (networkIn shape old) a b)
+    → Carried shape (cutCabinets a b) old new (R.Found (F.List L.Cabinets count))
+unfolding after afterAddition feed addition additionOf facts asks listAnswer answer answerTo
+cut-cabinets-carried shape a b old new count w = list-carried shape (cutCabinets a b) (λ s. refl) old new L.Cabinets count _ w refl
+
+-- 08: whether the span is sole
+pub sole-carried : (shape : Shape) (s : ℕ) (t : List ℕ) (sole : Bool) → Holds shape t → sole ≡ bridge (networkIn shape t) s
+    → Carried shape (isSole s) t t (R.Found (F.Sole sole))
+unfolding after afterAddition feed addition additionOf facts asks findingAnswer answer answerTo
+sole-carried shape s t sole holds e =
+    question-carried shape (isSole s) (λ s. refl) t (F.Sole sole) holds (ap (λ x. plain (soleIs x)) e)
+
+-- changes that the table has written down, as notices of a kind, are the paper's changes of that kind
+kind-notices : (kind : Kind) (at : ℕ → Change) (k : ℕ) (old new : List ℕ) → tabulate k at ≡ changesBetween old new
+    → tabulate k (λ i. changeNotice kind (at i)) ≡ changes kind old new
+unfolding changes
+kind-notices kind at k old new are = sym (map-tabulate (changeNotice kind) k at) ∙ ap (map (changeNotice kind)) are
+
+-- A span more.
+module _ (shape : Shape) (a b : ℕ) (old new : List ℕ) (growth : Growth) (added : EdgeAdded shape a b old new growth) where
+  -- its notices are few
+  few-notices : Holds shape old → noticeCount growth < 65536
+  few-notices holds =
+      omega (
+        arith,
+        added .few-components,
+        added .few-bridge-blocks,
+        added .few-blocks,
+        few-vertices shape old holds,
+        few-edges shape old holds,
+      )
+
+  -- those that the table has written down are those of the books before and after
+  all-notices : growthNotices (oneEdgeMore shape) new growth ≡ notices (bookIn shape old) (bookIn (oneEdgeMore shape) new)
+  unfolding notices noticeAt
+  all-notices =
+      rw (
+        kind-notices district _ (growth .components) _ _ (added .components-changed),
+        kind-notices ring _ (growth .«bridge_blocks») _ _ (added .bridge-blocks-changed),
+        kind-notices mesh _ (growth .blocks) _ _ (added .blocks-changed),
+      )
+
+  -- so they and the new span's name are the answer
+  span-answered : replyAnswer (oneEdgeMore shape) new (R.Span (record { 0 = shape .edges }) growth)
+      ≡ spanAnswer (bookIn shape old) (bookIn (oneEdgeMore shape) new)
+  unfolding replyAnswer spanAnswer
+  span-answered = rw (edges-held shape old, added .block-name, all-notices)
+
+  pub span-carried : Holds shape old
+      → Carried shape (addSpan a b) old new (R.Span (record { 0 = shape .edges }) growth)
+  unfolding after addition additionOf facts answer answerTo edgeBetween afterAddition shapeAfter
+  span-carried holds =
+      record {
+        holds = added .holds;
+        state-is = added .state-is;
+        answer-is = span-answered ∙ ap (λ (s : State). spanAnswer (bookIn shape old) (s .book)) (added .state-is);
+        fits = few-notices holds;
+        same-beyond = added .same-beyond;
+      }

@@ -1,0 +1,4 @@
+pub mod Judgements
+pub mod Carries
+pub mod Steps
+pub mod Replies

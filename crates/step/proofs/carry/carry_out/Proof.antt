@@ -1,0 +1,189 @@
+-- `carry::carry_out` carries out the command that an order is.
+use Rattle.reading.specs.Inside.Reads.{meaning}
+use Rattle.step.specs.Inside.Judged.{judgement}
+use Rattle.step.specs.Inside.Asked.{asksName}
+use Rattle.step.proofs.Judgements.{cabinet-passes, span-passes, new-cabinet-passes, pair-passes, different-passes, new-span-passes, district-passes}
+use borrow.Author.Needs.{needs}
+use Rattle.step.proofs.carry.carry_out.Statement.{statement}
+use Rattle.step.proofs.carry.carry_out.Tie as tie
+
+enum-told : tie.Need-enum-told
+enum-told c = search needs
+
+add-cabinet-requires : tie.Need-add-cabinet-requires
+unfolding judgement
+add-cabinet-requires c κs =
+    let s = c .before .before .before .before in
+    (s .pre .0, new-cabinet-passes (s .args .shape) (rw (c .before .enum-told .given .1) at (s .pre .1)))
+
+enum-known-order : tie.Need-enum-known-order
+enum-known-order c = search needs
+
+add-span-requires : tie.Need-add-span-requires
+unfolding judgement
+add-span-requires c κs =
+    let s = c .before .before .before .before .before in
+    let passed = rw (c .before .before .order .given .1) at (s .pre .1) in
+    let both = new-span-passes (s .args .shape) _ _ passed in
+    let apart = different-passes (s .args .shape) _ _ (both .0) in
+    let known = pair-passes (s .args .shape) _ _ (apart .0) in
+    (s .pre .0, both .1, known .0, known .1, apart .1)
+
+enum-known-order-2 : tie.Need-enum-known-order-2
+enum-known-order-2 c = search needs
+
+group-name-requires : tie.Need-group-name-requires
+unfolding judgement
+group-name-requires c κs =
+    let s = c .before .before .before .before .before in
+    let passed = rw (c .before .before .order2 .given .1) at (s .pre .1) in
+    (s .pre .0, cabinet-passes (s .args .shape) _ passed)
+
+enum-known-order-3 : tie.Need-enum-known-order-3
+enum-known-order-3 c = search needs
+
+group-name-requires-2 : tie.Need-group-name-requires-2
+unfolding judgement
+group-name-requires-2 c κs =
+    let s = c .before .before .before .before .before in
+    let passed = rw (c .before .before .order3 .given .1) at (s .pre .1) in
+    (s .pre .0, cabinet-passes (s .args .shape) _ passed)
+
+enum-known-order-4 : tie.Need-enum-known-order-4
+enum-known-order-4 c = search needs
+
+shared-mesh-requires : tie.Need-shared-mesh-requires
+unfolding judgement
+shared-mesh-requires c κs =
+    let s = c .before .before .before .before .before in
+    let passed = rw (c .before .before .order4 .given .1) at (s .pre .1) in
+    let apart = different-passes (s .args .shape) _ _ passed in
+    let known = pair-passes (s .args .shape) _ _ (apart .0) in
+    (s .pre .0, known .0, known .1, apart .1)
+
+enum-known-order-5 : tie.Need-enum-known-order-5
+enum-known-order-5 c = search needs
+
+sole-spans-requires : tie.Need-sole-spans-requires
+unfolding judgement
+sole-spans-requires c κs =
+    let s = c .before .before .before .before .before in
+    let passed = rw (c .before .before .order5 .given .1) at (s .pre .1) in
+    let both = district-passes (s .args .shape) _ _ (s .args .t .now) passed in
+    let known = pair-passes (s .args .shape) _ _ (both .0) in
+    (s .pre .0, known .0, known .1, both .1)
+
+enum-known-order-6 : tie.Need-enum-known-order-6
+enum-known-order-6 c = search needs
+
+cut-cabinets-requires : tie.Need-cut-cabinets-requires
+unfolding judgement
+cut-cabinets-requires c κs =
+    let s = c .before .before .before .before .before in
+    let passed = rw (c .before .before .order6 .given .1) at (s .pre .1) in
+    let both = district-passes (s .args .shape) _ _ (s .args .t .now) passed in
+    let known = pair-passes (s .args .shape) _ _ (both .0) in
+    (s .pre .0, known .0, known .1, both .1)
+
+enum-known-order-7 : tie.Need-enum-known-order-7
+enum-known-order-7 c = search needs
+
+is-sole-requires : tie.Need-is-sole-requires
+unfolding judgement
+is-sole-requires c κs =
+    let s = c .before .before .before .before .before in
+    let passed = rw (c .before .before .order7 .given .1) at (s .pre .1) in
+    (s .pre .0, span-passes (s .args .shape) _ passed)
+
+same-length : tie.Need-same-length
+same-length c = search needs
+
+returns : tie.Need-returns
+unfolding meaning
+returns c = let at-add-cabinet = c .before .before in rw (at-add-cabinet .before .before .enum-told .given .1) (at-add-cabinet .add-cabinet .ensures)
+
+same-length-2 : tie.Need-same-length-2
+same-length-2 c = search needs
+
+returns-2 : tie.Need-returns-2
+unfolding meaning
+returns-2 c = let at-add-span = c .before .before in rw (at-add-span .before .before .before .order .given .1) (at-add-span .add-span .ensures)
+
+same-length-3 : tie.Need-same-length-3
+same-length-3 c = search needs
+
+returns-3 : tie.Need-returns-3
+unfolding meaning asksName
+returns-3 c = rw (c .before .before .before .order2 .given .1) (c .group-name .ensures)
+
+same-length-4 : tie.Need-same-length-4
+same-length-4 c = search needs
+
+returns-4 : tie.Need-returns-4
+unfolding meaning asksName
+returns-4 c = rw (c .before .before .before .order3 .given .1) (c .group-name2 .ensures)
+
+same-length-5 : tie.Need-same-length-5
+same-length-5 c = search needs
+
+returns-5 : tie.Need-returns-5
+unfolding meaning
+returns-5 c = rw (c .before .before .before .order4 .given .1) (c .shared-mesh .ensures)
+
+same-length-6 : tie.Need-same-length-6
+same-length-6 c = search needs
+
+returns-6 : tie.Need-returns-6
+unfolding meaning
+returns-6 c = let at-sole-spans = c .before .before in rw (at-sole-spans .before .before .before .order5 .given .1) (at-sole-spans .sole-spans .ensures)
+
+same-length-7 : tie.Need-same-length-7
+same-length-7 c = search needs
+
+returns-7 : tie.Need-returns-7
+unfolding meaning
+returns-7 c = let at-cut-cabinets = c .before .before in rw (at-cut-cabinets .before .before .before .order6 .given .1) (at-cut-cabinets .cut-cabinets .ensures)
+
+same-length-8 : tie.Need-same-length-8
+same-length-8 c = search needs
+
+returns-8 : tie.Need-returns-8
+unfolding meaning
+returns-8 c = rw (c .before .before .before .order7 .given .1) (c .is-sole .ensures)
+
+pub carry-out-spec : {M : Type 1} → statement M
+carry-out-spec =
+    tie.close
+    (tie.spec
+    enum-told
+    add-cabinet-requires
+    enum-known-order
+    add-span-requires
+    enum-known-order-2
+    group-name-requires
+    enum-known-order-3
+    group-name-requires-2
+    enum-known-order-4
+    shared-mesh-requires
+    enum-known-order-5
+    sole-spans-requires
+    enum-known-order-6
+    cut-cabinets-requires
+    enum-known-order-7
+    is-sole-requires
+    same-length
+    returns
+    same-length-2
+    returns-2
+    same-length-3
+    returns-3
+    same-length-4
+    returns-4
+    same-length-5
+    returns-5
+    same-length-6
+    returns-6
+    same-length-7
+    returns-7
+    same-length-8
+    returns-8)

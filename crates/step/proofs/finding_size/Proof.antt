@@ -1,0 +1,58 @@
+-- `finding_size` counts the bytes of an answer with a finding.
+use Rattle.step.specs.Promise.{findingSize}
+use borrow.Author.Needs.{needs}
+use Rattle.step.proofs.finding_size.Statement.{statement}
+use Rattle.step.proofs.finding_size.Tie as tie
+
+enum-known-finding : tie.Need-enum-known-finding
+enum-known-finding c = search needs
+
+enum-known-finding-2 : tie.Need-enum-known-finding-2
+enum-known-finding-2 c = search needs
+
+enum-known-finding-3 : tie.Need-enum-known-finding-3
+enum-known-finding-3 c = search needs
+
+cast-result : tie.Need-cast-result
+cast-result c = search needs
+
+mul-result : tie.Need-mul-result
+mul-result c = search needs
+
+add-result : tie.Need-add-result
+add-result c = search needs
+
+enum-known-finding-4 : tie.Need-enum-known-finding-4
+enum-known-finding-4 c = search needs
+
+returns : tie.Need-returns
+unfolding findingSize
+returns c = rw (c .before .finding .given .1)
+
+returns-2 : tie.Need-returns-2
+unfolding findingSize
+returns-2 c = rw (c .before .finding2 .given .1)
+
+returns-3 : tie.Need-returns-3
+unfolding findingSize
+returns-3 c = rw (c .before .finding3 .given .1)
+
+returns-4 : tie.Need-returns-4
+unfolding findingSize
+returns-4 c = rw (c .before .finding4 .given .1)
+
+pub finding-size-spec : {M : Type 1} → statement M
+finding-size-spec =
+    tie.close
+    (tie.spec
+    enum-known-finding
+    enum-known-finding-2
+    enum-known-finding-3
+    cast-result
+    mul-result
+    add-result
+    enum-known-finding-4
+    returns
+    returns-2
+    returns-3
+    returns-4)

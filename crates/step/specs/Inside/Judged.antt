@@ -1,0 +1,46 @@
+-- The refusals that the code tests for, by their numbers: 0 is none.
+use mathlib.Core.Bool.{cond}
+use mathlib.Core.List.{List}
+use Prim.Native.Nat.{ℕ}
+use lib.Dec.{eqb, leb, ltb}
+use Rattle.graph.specs.Groups.{component}
+use Rattle.forest.specs.declared.Shape.{Shape}
+use Rattle.forest.specs.Promise.{networkIn}
+use Rattle.reading.specs.declared.read.Order.{Order}
+use Rattle.reading.specs.declared.read.Order.the-variants as O
+
+-- The first of two refusals.
+unfoldable pub firstOf : ℕ → ℕ → ℕ
+firstOf number later = cond (eqb number 0) later number
+
+unfoldable pub cabinetRefusal : Shape → ℕ → ℕ
+cabinetRefusal shape a = cond (ltb a (shape .vertices)) 0 6
+
+unfoldable pub spanRefusal : Shape → ℕ → ℕ
+spanRefusal shape s = cond (ltb s (shape .edges)) 0 7
+
+unfoldable pub pairRefusal : Shape → ℕ → ℕ → ℕ
+pairRefusal shape a b = firstOf (cabinetRefusal shape a) (cabinetRefusal shape b)
+
+unfoldable pub differentRefusal : Shape → ℕ → ℕ → ℕ
+differentRefusal shape a b = firstOf (pairRefusal shape a b) (cond (eqb a b) 8 0)
+
+unfoldable pub newCabinetRefusal : Shape → ℕ
+newCabinetRefusal shape = cond (leb (shape .limits .vertices) (shape .vertices)) 9 0
+
+unfoldable pub newSpanRefusal : Shape → ℕ → ℕ → ℕ
+newSpanRefusal shape a b = firstOf (differentRefusal shape a b) (cond (leb (shape .limits .edges) (shape .edges)) 9 0)
+
+unfoldable pub districtRefusal : Shape → List ℕ → ℕ → ℕ → ℕ
+districtRefusal shape t a b = firstOf (pairRefusal shape a b) (cond (component (networkIn shape t) a b) 0 10)
+
+-- The refusal of each command.
+unfoldable pub judgement : Shape → List ℕ → Order → ℕ
+judgement shape t O.AddCabinet = newCabinetRefusal shape
+judgement shape t (O.AddSpan a b) = newSpanRefusal shape (a .0) (b .0)
+judgement shape t (O.DistrictName a) = cabinetRefusal shape (a .0)
+judgement shape t (O.RingName a) = cabinetRefusal shape (a .0)
+judgement shape t (O.SharedMesh a b) = differentRefusal shape (a .0) (b .0)
+judgement shape t (O.SoleSpans a b) = districtRefusal shape t (a .0) (b .0)
+judgement shape t (O.CutCabinets a b) = districtRefusal shape t (a .0) (b .0)
+judgement shape t (O.IsSole s) = spanRefusal shape (s .0)

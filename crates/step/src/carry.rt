@@ -1,0 +1,107 @@
+// Carrying out a command that meets no refusal: what becomes of the table, and what is to be answered.
+ghost use mathlib.Core.Bool.{true};
+ghost use mathlib.Core.Path.{_≡_};
+ghost use Prim.Native.Nat.{_<_};
+ghost use Rattle.graph.specs.Groups.{component};
+ghost use Rattle.commands.specs.Command.{addCabinet, addSpan, sharedMesh, soleSpans, cutCabinets, isSole};
+ghost use Rattle.forest.specs.Promise.{Holds, networkIn};
+ghost use Rattle.reading.specs.Inside.Reads.{meaning};
+ghost use Rattle.step.specs.Inside.Judged.{judgement};
+ghost use Rattle.step.specs.Promise.{Carried};
+ghost use Rattle.step.specs.Inside.Asked.{asksName};
+use crate::Finding;
+use crate::Listed;
+use crate::Reply;
+use forest::Shape;
+use forest::VertexGroups;
+use forest::add_edge;
+use forest::add_vertex;
+use forest::bridges_between;
+use forest::cuts_between;
+use forest::group_of;
+use forest::is_bridge;
+use forest::shared_block;
+use numbers::Edge;
+use numbers::Vertex;
+use reading::read::Order;
+
+// 01: add a cabinet.
+fn add_cabinet(t: &mut [u32], shape: Shape) -> Reply
+    requires { ⌜ Holds shape (now t) × (shape .vertices < shape .limits .vertices) ⌝ }
+    ensures { λ r. ⌜ Carried shape addCabinet (now (t .entry)) (now (t .exit)) r ⌝ }
+{
+    add_vertex(t, shape);
+    Reply::Cabinet(Vertex(shape.vertices))
+}
+
+// 02: add a span.
+fn add_span(t: &mut [u32], shape: Shape, a: Vertex, b: Vertex) -> Reply
+    requires { ⌜ Holds shape (now t) × (shape .edges < shape .limits .edges) × (a .0 < shape .vertices) × (b .0 < shape .vertices) × (a .0 ≡ b .0 → ⊥) ⌝ }
+    ensures { λ r. ⌜ Carried shape (addSpan (a .0) (b .0)) (now (t .entry)) (now (t .exit)) r ⌝ }
+{
+    let growth = add_edge(t, shape, a, b);
+    Reply::Span(Edge(shape.edges), growth)
+}
+
+// 03 and 04: the name of a cabinet's district, and of its ring.
+fn group_name(t: &[u32], shape: Shape, groups: VertexGroups, a: Vertex) -> Reply
+    requires { ⌜ Holds shape (now t) × (a .0 < shape .vertices) ⌝ }
+    ensures { λ r. ⌜ Carried shape (asksName groups (a .0)) (now (t .entry)) (now (t .entry)) r ⌝ }
+{
+    let group = group_of(t, shape, groups, a);
+    let name = group.name;
+    Reply::Found(Finding::Name(groups, name))
+}
+
+// 05: the mesh that two cabinets share.
+fn shared_mesh(t: &[u32], shape: Shape, a: Vertex, b: Vertex) -> Reply
+    requires { ⌜ Holds shape (now t) × (a .0 < shape .vertices) × (b .0 < shape .vertices) × (a .0 ≡ b .0 → ⊥) ⌝ }
+    ensures { λ r. ⌜ Carried shape (sharedMesh (a .0) (b .0)) (now (t .entry)) (now (t .entry)) r ⌝ }
+{
+    let shared = shared_block(t, shape, a, b);
+    Reply::Found(Finding::Mesh(shared))
+}
+
+// 06: the sole spans between two cabinets.
+fn sole_spans(t: &mut [u32], shape: Shape, a: Vertex, b: Vertex) -> Reply
+    requires { ⌜ Holds shape (now t) × (a .0 < shape .vertices) × (b .0 < shape .vertices) × (component (networkIn shape (now t)) (a .0) (b .0) ≡ true) ⌝ }
+    ensures { λ r. ⌜ Carried shape (soleSpans (a .0) (b .0)) (now (t .entry)) (now (t .exit)) r ⌝ }
+{
+    let count = bridges_between(t, shape, a, b);
+    Reply::Found(Finding::List(Listed::Spans, count))
+}
+
+// 07: the cut cabinets between two cabinets.
+fn cut_cabinets(t: &mut [u32], shape: Shape, a: Vertex, b: Vertex) -> Reply
+    requires { ⌜ Holds shape (now t) × (a .0 < shape .vertices) × (b .0 < shape .vertices) × (component (networkIn shape (now t)) (a .0) (b .0) ≡ true) ⌝ }
+    ensures { λ r. ⌜ Carried shape (cutCabinets (a .0) (b .0)) (now (t .entry)) (now (t .exit)) r ⌝ }
+{
+    let count = cuts_between(t, shape, a, b);
+    Reply::Found(Finding::List(Listed::Cabinets, count))
+}
+
+// 08: whether a span is sole between its ends.
+fn is_sole(t: &[u32], shape: Shape, s: Edge) -> Reply
+    requires { ⌜ Holds shape (now t) × (s .0 < shape .edges) ⌝ }
+    ensures { λ r. ⌜ Carried shape (isSole (s .0)) (now (t .entry)) (now (t .entry)) r ⌝ }
+{
+    let sole = is_bridge(t, shape, s);
+    Reply::Found(Finding::Sole(sole))
+}
+
+// A command that meets no refusal.
+pub(crate) fn carry_out(t: &mut [u32], shape: Shape, order: Order) -> Reply
+    requires { ⌜ Holds shape (now t) × (judgement shape (now t) order ≡ 0) ⌝ }
+    ensures { λ r. ⌜ Carried shape (meaning order) (now (t .entry)) (now (t .exit)) r ⌝ }
+{
+    match order {
+        Order::AddCabinet => add_cabinet(t, shape),
+        Order::AddSpan(a, b) => add_span(t, shape, a, b),
+        Order::DistrictName(a) => group_name(t, shape, VertexGroups::Components, a),
+        Order::RingName(a) => group_name(t, shape, VertexGroups::BridgeBlocks, a),
+        Order::SharedMesh(a, b) => shared_mesh(t, shape, a, b),
+        Order::SoleSpans(a, b) => sole_spans(t, shape, a, b),
+        Order::CutCabinets(a, b) => cut_cabinets(t, shape, a, b),
+        Order::IsSole(s) => is_sole(t, shape, s),
+    }
+}

@@ -1,0 +1,104 @@
+-- `write_finding` writes the answer with a finding.
+use Rattle.commands.specs.Bytes.{twoBytes}
+use Rattle.commands.specs.Field.{fieldBytes, fieldsBytes}
+use Rattle.commands.specs.Answer.{plainFields, answerFields, answerBytes}
+use Rattle.step.specs.Promise.{findingAnswer, findingSize}
+use Rattle.writing.proofs.WriteSteps.{flag-byte, name-bytes}
+use borrow.Author.Needs.{needs}
+use Rattle.writing.proofs.write_finding.Statement.{statement}
+use Rattle.writing.proofs.write_finding.Tie as tie
+
+enum-known-finding : tie.Need-enum-known-finding
+enum-known-finding c = search needs
+
+name-code-requires : tie.Need-name-code-requires
+name-code-requires c κs = search needs
+
+write-cabinet-requires : tie.Need-write-cabinet-requires
+unfolding findingSize
+write-cabinet-requires c κs = let s = c .before .before .before .before .before .before .before in rw (c .before .before .before .finding .given .1) at (s .pre)
+
+enum-known-finding-2 : tie.Need-enum-known-finding-2
+enum-known-finding-2 c = search needs
+
+write-shared-requires : tie.Need-write-shared-requires
+unfolding findingSize
+write-shared-requires c κs = let s = c .before .before .before .before .before .before in rw (c .before .before .finding2 .given .1) at (s .pre)
+
+enum-known-finding-3 : tie.Need-enum-known-finding-3
+enum-known-finding-3 c = search needs
+
+write-list-requires : tie.Need-write-list-requires
+unfolding findingSize
+write-list-requires c κs = let s = c .before .before .before .before .before .before in rw (c .before .before .finding3 .given .1) at (s .pre)
+
+enum-known-finding-4 : tie.Need-enum-known-finding-4
+enum-known-finding-4 c = search needs
+
+cast-write-flag : tie.Need-cast-write-flag
+cast-write-flag c = search needs
+
+write-flag-requires : tie.Need-write-flag-requires
+write-flag-requires c κs = search needs
+
+same-length : tie.Need-same-length
+same-length c = search needs
+
+returns : tie.Need-returns
+unfolding findingAnswer answerBytes answerFields plainFields fieldsBytes fieldBytes twoBytes
+returns c =
+    let at-write-cabinet = c .before .before in
+    let at-name-code = at-write-cabinet .before in
+    rw
+    (at-name-code .before .before .before .finding .given .1, name-bytes _ _, ← at-name-code .name-code .ensures)
+    (at-write-cabinet .write-cabinet .ensures)
+
+same-length-2 : tie.Need-same-length-2
+same-length-2 c = search needs
+
+returns-2 : tie.Need-returns-2
+unfolding findingAnswer
+returns-2 c =
+    let at-write-shared = c .before .before in
+    rw (at-write-shared .before .before .before .finding2 .given .1) (at-write-shared .write-shared .ensures)
+
+same-length-3 : tie.Need-same-length-3
+same-length-3 c = search needs
+
+returns-3 : tie.Need-returns-3
+unfolding findingAnswer
+returns-3 c =
+    let at-write-list = c .before .before in
+    rw (at-write-list .before .before .before .finding3 .given .1) (at-write-list .write-list .ensures)
+
+same-length-4 : tie.Need-same-length-4
+same-length-4 c = search needs
+
+returns-4 : tie.Need-returns-4
+unfolding findingAnswer answerBytes answerFields plainFields fieldsBytes fieldBytes twoBytes
+returns-4 c =
+    let at-write-flag = c .before .before in
+    rw (at-write-flag .before .before .before .finding4 .given .1, ← flag-byte _) (at-write-flag .write-flag .ensures)
+
+pub write-finding-spec : {M : Type 1} → statement M
+write-finding-spec =
+    tie.close
+    (tie.spec
+    enum-known-finding
+    name-code-requires
+    write-cabinet-requires
+    enum-known-finding-2
+    write-shared-requires
+    enum-known-finding-3
+    write-list-requires
+    enum-known-finding-4
+    cast-write-flag
+    write-flag-requires
+    same-length
+    returns
+    same-length-2
+    returns-2
+    same-length-3
+    returns-3
+    same-length-4
+    returns-4)
