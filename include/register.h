@@ -1,8 +1,9 @@
 /*
  * The plant register: districts, rings and meshes from a journal of spans.
  *
- * Link with libjournal.a. One call runs one journal from an empty network, with buffers that the
- * caller lends for the time of the call. Nothing is kept between calls.
+ * Link with libjournal.a. One call of register_run runs one journal from an empty network, with
+ * buffers that the caller lends for the time of the call. A call of register_forecast before it gives
+ * a length of the answer buffer that suffices. Nothing is kept between calls.
  */
 #ifndef REGISTER_H
 #define REGISTER_H
@@ -22,7 +23,8 @@ extern "C" {
 /* The least length of the working table, in numbers of 32 bits, for capacities c and s. */
 #define REGISTER_WORK(c, s) (24u * (size_t)(c) + 8u * (size_t)(s) + 64u)
 
-/* The bytes of stack that a call takes are fewer than this, whatever the capacities. */
+/* The bytes of stack that a call of either function takes are fewer than this, whatever the
+   capacities. */
 #define REGISTER_STACK 4096u
 
 /* The least length of the report, and the place of each of its numbers. */
@@ -36,14 +38,16 @@ enum {
     REGISTER_REPORT_SPANS = 5     /* spans present */
 };
 
-/* The returned numbers. Where several causes apply, the least of these is returned. */
+/* The returned numbers. A run knows all of them, a forecast 0, 3, 4 and 5. Where several causes apply
+   at the start, or to the command at which a run or a forecast stops, the least of these is
+   returned. */
 enum {
     REGISTER_ACCEPTED = 0,
-    /* Refused at the start: only the number is returned, all buffers are as before. */
+    /* Refused at the start. From a run: only the number is returned, all buffers are as before. */
     REGISTER_BAD_CAPACITY = 1, /* c not from 1 to 4,096, or s not from 1 to 8,192 */
     REGISTER_SHORT_BUFFER = 2, /* working table or report too short */
     REGISTER_LONG_JOURNAL = 3, /* journal longer than 65,536 bytes */
-    /* Stopped at a command: the report is filled, the answers before it stand. */
+    /* Stopped at a command. From a run: the report is filled, the answers before it stand. */
     REGISTER_BAD_COMMAND = 4,       /* command byte not 01 to 08 */
     REGISTER_CUT_OFF = 5,           /* operands cut off by the journal's end */
     REGISTER_UNKNOWN_CABINET = 6,   /* a cabinet number not yet given */
@@ -81,6 +85,53 @@ uint32_t register_run(uint32_t c, uint32_t s,
                       uint32_t *work, size_t work_len,
                       uint8_t *answers, size_t answers_len,
                       uint32_t *report, size_t report_len);
+
+/*
+ * Forecasts a sufficient length of the answer buffer, from the journal alone, without running it.
+ *
+ * journal   The commands, journal_len bytes. It is only read.
+ * place     Filled on every return: the journal's length if it is accepted, the refused command's
+ *           first byte for 4 and 5, and 0 for 3.
+ * length    Filled on every return: a sufficient length if the journal is accepted, and 0 if it is
+ *           refused.
+ *
+ * The journal's pointer must be good for its length; a null pointer is allowed where that is 0. place
+ * and length may hold anything before the call. They must be good, aligned for uint32_t, and overlap
+ * neither each other nor the journal. Nothing else is written.
+ *
+ * With an answer buffer of this length or more, a run of an accepted journal never returns
+ * REGISTER_NO_ROOM, whatever the capacities:
+ *
+ *     uint32_t place, length;
+ *     if (register_forecast(journal, journal_len, &place, &length) == REGISTER_ACCEPTED) {
+ *         uint8_t *answers = malloc(length);
+ *         if (answers != NULL || length == 0)
+ *             number = register_run(c, s, journal, journal_len, work, work_len, answers, length,
+ *                                   report, report_len);
+ *     }
+ *
+ * The length is generous: it goes by how many commands there are of each kind, and a run mostly takes
+ * far less. It always fits 32 bits; for a long journal with many questions 06 or 07 it can be some
+ * hundred million bytes.
+ *
+ * The journal is read and not run. The first command with an unknown byte or with cut-off operands is
+ * refused, even where a run would stop earlier for another cause. A journal that is accepted here may
+ * be refused by a run for another cause.
+ *
+ * Where 4 or 5 is returned, the journal's first *place bytes are accepted by a second call. With the
+ * length that it gives, a run of the WHOLE journal never returns REGISTER_NO_ROOM either. So for the
+ * answers before the damaged place:
+ *
+ *     number = register_forecast(journal, journal_len, &place, &length);
+ *     if (number == REGISTER_BAD_COMMAND || number == REGISTER_CUT_OFF)
+ *         register_forecast(journal, place, &place, &length);
+ *
+ * REGISTER_STACK bytes of stack must be there.
+ *
+ * Returns 0 if the journal is accepted, else the number of the refusal, 3, 4 or 5.
+ */
+uint32_t register_forecast(const uint8_t *journal, size_t journal_len,
+                           uint32_t *place, uint32_t *length);
 
 #ifdef __cplusplus
 }

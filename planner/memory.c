@@ -4,9 +4,10 @@
  *     memory fences [JOURNALS]
  *     memory heap [JOURNALS]
  *
- * Runs random journals, and one with all cabinets and spans, each several times: with ample room for
- * the answers, with room to the byte, with one byte less, and refused at the start. Every buffer has
- * just the length that is told.
+ * Forecasts and runs random journals, and the longest one with all cabinets and spans, each several
+ * times: with the room for the answers that is forecast, with room to the byte, with one byte less,
+ * refused at the start, and cut short. Every buffer has just the length that is told. With the room
+ * that is forecast, for the journal or up to its damaged place, no run may return 11.
  *
  * Between fences a buffer lies against a page that must not be touched, once with its end and once
  * with its beginning; the journal can only be read. A touch beyond is told, with its place. In the
@@ -14,7 +15,7 @@
  * checker, which sees a touch beyond a block and a decision that depends on what was never set.
  *
  * However the buffers lie and whatever they hold, the returned number, the report and the answers
- * must be the same. Exits with 0 if they are.
+ * must be the same, and so must the number, place and length of a forecast. Exits with 0 if they are.
  */
 #define _GNU_SOURCE
 #include "register.h"
@@ -27,11 +28,12 @@
 #include <sys/mman.h>
 #include <unistd.h>
 
-enum { SMALL_CABINETS = 24, SMALL_COMMANDS = 80, SMALL_ROOM = 1 << 16, LARGE_ROOM = 1 << 20 };
+enum { SMALL_CABINETS = 24, SMALL_COMMANDS = 80, MOST_ROOM = 1 << 21, MOST_CUT = 5 };
+enum { LONGEST = REGISTER_LONGEST_JOURNAL, TOO_LONG = LONGEST + 1, FAR_TOO_LONG = 2 * LONGEST };
 
 /* ---- The journal ---- */
 
-static uint8_t journal[REGISTER_LONGEST_JOURNAL + 1];
+static uint8_t journal[FAR_TOO_LONG];
 static size_t journal_length;
 static unsigned cabinets, spans;
 static uint64_t random_state;
@@ -98,7 +100,8 @@ static void small_journal(unsigned seed)
         put(below(256));
 }
 
-/* All cabinets in a chain, its lists, the span that closes it, and spans until there are no more. */
+/* All cabinets in a chain, its lists, the span that closes it, spans until there are no more, and
+   questions until the journal is as long as it may be. */
 static void large_journal(void)
 {
     unsigned most = REGISTER_MOST_CABINETS;
@@ -116,19 +119,22 @@ static void large_journal(void)
         unsigned a = below(most);
         command(0x02, 2, a, (a + 1 + below(most - 1)) % most);
     }
+    while (journal_length < LONGEST)
+        command(0x05, 2, 0, 1);
 }
 
 /* ---- The buffers ---- */
 
-enum buffer { JOURNAL, WORK, ANSWERS, REPORT, BUFFERS };
+enum buffer { JOURNAL, WORK, ANSWERS, REPORT, PLACE, LENGTH, BUFFERS };
 enum place { AT_THE_END, AT_THE_START, IN_THE_HEAP };
 
-static const char *const names[BUFFERS] = {"journal", "working table", "answers", "report"};
+static const char *const names[BUFFERS] = {"journal", "working table", "answers", "report",
+                                           "forecast's place", "forecast's length"};
 
 /* The pages of a buffer, between two fences. */
 static struct { uint8_t *low, *high; } pages[BUFFERS];
 
-/* What is lent in the run under way, for telling where a touch was. */
+/* What is lent in the call under way, for telling where a touch was. */
 static uint8_t *lent[BUFFERS];
 
 static int make_pages(enum buffer buffer, size_t bytes)
@@ -156,15 +162,18 @@ static void *lend(enum buffer buffer, size_t bytes, enum place place, int held)
 
 static void give_back(enum place place)
 {
-    for (int buffer = 0; buffer < BUFFERS; buffer++)
+    for (int buffer = 0; buffer < BUFFERS; buffer++) {
         if (place == IN_THE_HEAP)
             free(lent[buffer]);
+        lent[buffer] = NULL;
+    }
 }
 
+/* What may be done to the journal between fences; in the heap, anything. */
 static void allow_journal(int protection)
 {
     size_t bytes = (size_t)(pages[JOURNAL].high - pages[JOURNAL].low);
-    if (mprotect(pages[JOURNAL].low, bytes, protection) != 0)
+    if (fences && mprotect(pages[JOURNAL].low, bytes, protection) != 0)
         abort();
 }
 
@@ -193,7 +202,8 @@ static void tell_touch(void)
     ptrdiff_t page = sysconf(_SC_PAGESIZE);
     printf("journal %u: a touch", journal_number);
     for (int buffer = 0; buffer < BUFFERS; buffer++)
-        if (touched >= pages[buffer].low - page && touched < pages[buffer].high + page)
+        if (lent[buffer] != NULL && touched >= pages[buffer].low - page
+            && touched < pages[buffer].high + page)
             printf(" of the %s at byte %td", names[buffer], touched - lent[buffer]);
     printf(" that is not allowed\n");
 }
@@ -239,7 +249,7 @@ struct outcome {
     int cleared;
 };
 
-static unsigned calls_made;
+static unsigned runs_made, forecasts_made;
 
 static uint64_t digest(const uint8_t *answers, size_t length)
 {
@@ -269,7 +279,7 @@ static struct outcome run(const struct call *call, enum place place, int held)
     outcome.number = register_run(call->c, call->s, own_journal, call->journal, work, call->work,
                                   answers, call->answers, report, call->report);
     allow_journal(PROT_READ | PROT_WRITE);
-    calls_made++;
+    runs_made++;
     if (outcome.number == REGISTER_ACCEPTED || outcome.number > REGISTER_LONG_JOURNAL) {
         memcpy(outcome.report, report, sizeof outcome.report);
         outcome.answers = digest(answers, report[REGISTER_REPORT_ANSWERS]);
@@ -288,18 +298,20 @@ static int same(const struct outcome *one, const struct outcome *other)
         && other->cleared;
 }
 
+/* Where the buffers lie between fences, and what they hold. */
+static const struct { enum place place; int held; } ways[] = {
+    {AT_THE_END, 0x00}, {AT_THE_END, 0xFF}, {AT_THE_START, 0x00}, {AT_THE_START, 0x01}};
+
 /* Runs in every place and with several contents, or twice in the heap; the outcomes must agree. */
 static int agree(const struct call *call, struct outcome *outcome)
 {
-    static const struct { enum place place; int held; } ways[] = {
-        {AT_THE_END, 0xFF}, {AT_THE_START, 0x00}, {AT_THE_START, 0x01}};
     if (!fences) {
         *outcome = run(call, IN_THE_HEAP, 0);
         struct outcome again = run(call, IN_THE_HEAP, 0);
         return same(outcome, &again);
     }
-    *outcome = run(call, AT_THE_END, 0x00);
-    for (size_t i = 0; i < sizeof ways / sizeof ways[0]; i++) {
+    *outcome = run(call, ways[0].place, ways[0].held);
+    for (size_t i = 1; i < sizeof ways / sizeof ways[0]; i++) {
         struct outcome other = run(call, ways[i].place, ways[i].held);
         if (!same(outcome, &other))
             return 0;
@@ -313,14 +325,96 @@ static int returns(struct call call, uint32_t number)
     return agree(&call, &outcome) && outcome.number == number;
 }
 
-/* The journal with ample room, with room to the byte, with a byte less, and refused at the start. */
-static int run_journal(size_t ample)
+/* ---- Forecasts ---- */
+
+struct forecast {
+    uint32_t number, place, length;
+};
+
+static struct forecast forecast(size_t journal_bytes, enum place at, int held)
 {
-    const struct call call = {cabinets, spans, journal_length, REGISTER_WORK(cabinets, spans),
-                              ample, REGISTER_REPORT};
-    struct call exact = call, no_room, no_table, no_report, no_cabinets, too_long;
+    struct forecast outcome;
+    uint8_t *own_journal = lend(JOURNAL, journal_bytes, at, held);
+    uint32_t *place = lend(PLACE, sizeof *place, at, held);
+    uint32_t *length = lend(LENGTH, sizeof *length, at, held);
+    memcpy(own_journal, journal, journal_bytes);
+    allow_journal(PROT_READ);
+    outcome.number = register_forecast(own_journal, journal_bytes, place, length);
+    allow_journal(PROT_READ | PROT_WRITE);
+    forecasts_made++;
+    outcome.place = *place;
+    outcome.length = *length;
+    give_back(at);
+    return outcome;
+}
+
+static int same_forecast(const struct forecast *one, const struct forecast *other)
+{
+    return one->number == other->number && one->place == other->place
+        && one->length == other->length;
+}
+
+/* Forecasts so many bytes of the journal, with the same places and contents as in runs. */
+static int forecasts_agree(size_t journal_bytes, struct forecast *outcome)
+{
+    if (!fences) {
+        *outcome = forecast(journal_bytes, IN_THE_HEAP, 0);
+        struct forecast again = forecast(journal_bytes, IN_THE_HEAP, 0);
+        return same_forecast(outcome, &again);
+    }
+    *outcome = forecast(journal_bytes, ways[0].place, ways[0].held);
+    for (size_t i = 1; i < sizeof ways / sizeof ways[0]; i++) {
+        struct forecast other = forecast(journal_bytes, ways[i].place, ways[i].held);
+        if (!same_forecast(outcome, &other))
+            return 0;
+    }
+    return 1;
+}
+
+static int forecasts(size_t journal_bytes, struct forecast wanted)
+{
+    struct forecast outcome;
+    return forecasts_agree(journal_bytes, &outcome) && same_forecast(&outcome, &wanted);
+}
+
+/* The room that is forecast for so many bytes of the journal or, where these are damaged, for those
+   before the damaged place. */
+static int forecast_room(size_t journal_bytes, size_t *room)
+{
+    struct forecast whole, before;
+    if (!forecasts_agree(journal_bytes, &whole))
+        return 0;
+    before = whole;
+    if (whole.number == REGISTER_BAD_COMMAND || whole.number == REGISTER_CUT_OFF) {
+        if (whole.length != 0 || whole.place >= journal_bytes)
+            return 0;
+        journal_bytes = whole.place;
+        if (!forecasts_agree(journal_bytes, &before))
+            return 0;
+    }
+    *room = before.length;
+    return before.number == REGISTER_ACCEPTED && before.place == journal_bytes
+        && *room <= MOST_ROOM;
+}
+
+/* ---- Every journal ---- */
+
+/* Runs so many bytes of the journal with the room that is forecast, which must suffice. */
+static int run_in_forecast_room(size_t journal_bytes, struct call *call, struct outcome *outcome)
+{
+    *call = (struct call){cabinets, spans, journal_bytes, REGISTER_WORK(cabinets, spans), 0,
+                          REGISTER_REPORT};
+    return forecast_room(journal_bytes, &call->answers) && agree(call, outcome)
+        && outcome->number != REGISTER_NO_ROOM;
+}
+
+/* The journal with the room that is forecast, with room to the byte, with a byte less, and refused
+   at the start. */
+static int run_journal(void)
+{
+    struct call exact, no_room, no_table, no_report, no_cabinets, too_long;
     struct outcome wanted, outcome;
-    if (!agree(&call, &wanted))
+    if (!run_in_forecast_room(journal_length, &exact, &wanted))
         return 0;
     exact.answers = wanted.report[REGISTER_REPORT_ANSWERS];
     no_room = no_table = no_report = no_cabinets = too_long = exact;
@@ -328,30 +422,56 @@ static int run_journal(size_t ample)
     no_table.work--;
     no_report.report--;
     no_cabinets.c = 0;
-    too_long.journal = sizeof journal;
+    too_long.journal = TOO_LONG;
     return agree(&exact, &outcome) && same(&outcome, &wanted)
         && returns(no_room, REGISTER_NO_ROOM) && returns(no_table, REGISTER_SHORT_BUFFER)
         && returns(no_report, REGISTER_SHORT_BUFFER)
         && returns(no_cabinets, REGISTER_BAD_CAPACITY) && returns(too_long, REGISTER_LONG_JOURNAL);
 }
 
+/* The journal without its last byte, or the last few: operands may be cut off. */
+static int run_cut_short(void)
+{
+    struct call call;
+    struct outcome outcome;
+    return run_in_forecast_room(journal_length - 1 - journal_number % MOST_CUT, &call, &outcome);
+}
+
+/* The longest journal of one command alone, damaged in its last byte, and longer ones. */
+static int forecast_longest(void)
+{
+    const struct forecast all = {REGISTER_ACCEPTED, LONGEST, 10682368};
+    const struct forecast cut_off = {REGISTER_CUT_OFF, LONGEST - 1, 0};
+    const struct forecast unknown = {REGISTER_BAD_COMMAND, LONGEST - 1, 0};
+    const struct forecast too_long = {REGISTER_LONG_JOURNAL, 0, 0};
+    memset(journal, 0x01, sizeof journal);
+    if (!forecasts(LONGEST, all) || !forecasts(TOO_LONG, too_long)
+        || !forecasts(FAR_TOO_LONG, too_long))
+        return 0;
+    journal[LONGEST - 1] = 0x02;
+    if (!forecasts(LONGEST, cut_off))
+        return 0;
+    journal[LONGEST - 1] = 0xFF;
+    return forecasts(LONGEST, unknown) && forecasts(TOO_LONG, too_long);
+}
+
 static int run_all(unsigned journals)
 {
     for (journal_number = 0; journal_number < journals; journal_number++) {
         small_journal(journal_number);
-        if (!run_journal(SMALL_ROOM))
+        if (!run_journal() || !run_cut_short())
             return 0;
     }
     large_journal();
-    return run_journal(LARGE_ROOM);
+    return run_journal() && run_cut_short() && forecast_longest();
 }
 
 static int make_all_pages(void)
 {
     size_t work = REGISTER_WORK(REGISTER_MOST_CABINETS, REGISTER_MOST_SPANS);
     return make_pages(JOURNAL, sizeof journal) && make_pages(WORK, work * sizeof(uint32_t))
-        && make_pages(ANSWERS, LARGE_ROOM)
-        && make_pages(REPORT, REGISTER_REPORT * sizeof(uint32_t));
+        && make_pages(ANSWERS, MOST_ROOM) && make_pages(REPORT, REGISTER_REPORT * sizeof(uint32_t))
+        && make_pages(PLACE, sizeof(uint32_t)) && make_pages(LENGTH, sizeof(uint32_t));
 }
 
 int main(int count, char **words)
@@ -378,10 +498,11 @@ int main(int count, char **words)
         return 1;
     }
     if (!run_all(journals)) {
-        printf("journal %u: the outcomes differ\n", journal_number);
+        printf("journal %u: the outcomes differ, or are not what they must be\n", journal_number);
         return 1;
     }
-    printf("%u journals, %u calls %s: no touch beyond the buffers, all outcomes agree\n",
-           journals + 1, calls_made, fences ? "between fences" : "in the heap");
+    printf("%u journals, %u runs and %u forecasts %s: no touch beyond the buffers, all outcomes "
+           "agree\n", journals + 1, runs_made, forecasts_made,
+           fences ? "between fences" : "in the heap");
     return 0;
 }

@@ -1,20 +1,23 @@
 /*
- * A small shift planner. It writes a journal, has it run by the register in one call with its own
- * buffers, and reads the answers. It keeps a name for each cabinet and span from the notices alone,
- * and holds each name that it asked for (03, 04 and 05) against its own, and each new number against
- * the next one. It prints the names, and exits with 1 if any two differ.
+ * A small shift planner. It writes a journal, sets aside as much room for the answers as the register
+ * forecasts, has the journal run by the register in one call with its own buffers, and reads the
+ * answers. It keeps a name for each cabinet and span from the notices alone, and holds each name that
+ * it asked for (03, 04 and 05) against its own, and each new number against the next one. It prints
+ * the names, and exits with 1 if any two differ.
  */
 #include "register.h"
 
 #include <stdio.h>
+#include <stdlib.h>
 
-enum { CABINETS = 64, SPANS = 128, ANSWER_BYTES = 1 << 20, NO_NAME = 0xFFFF };
+enum { CABINETS = 64, SPANS = 128, NO_NAME = 0xFFFF };
 
 /* The planner's own buffers. */
 static uint8_t journal[REGISTER_LONGEST_JOURNAL];
 static size_t journal_length;
 static uint32_t work[REGISTER_WORK(CABINETS, SPANS)];
-static uint8_t answers[ANSWER_BYTES];
+static uint8_t *answers;
+static uint32_t answers_length;
 static uint32_t report[REGISTER_REPORT];
 
 /* The spans as entered, for reading the answers to 05. */
@@ -91,6 +94,41 @@ static void write_journal(unsigned villages)
         add_span(3 * village + 1, 3 * ((village + 1) % villages));
         ask_all(cabinets);
     }
+}
+
+/* ---- Having it run ---- */
+
+/* Sets aside the answer buffer with the length that is forecast for the journal; 0 if it cannot. */
+static int make_room(void)
+{
+    uint32_t place;
+    uint32_t number = register_forecast(journal, journal_length, &place, &answers_length);
+    if (number != REGISTER_ACCEPTED) {
+        printf("no forecast: %u at byte %u\n", (unsigned)number, (unsigned)place);
+        return 0;
+    }
+    /* For length 0 a null pointer may come, and will do. */
+    answers = malloc(answers_length);
+    if (answers == NULL && answers_length > 0) {
+        printf("no memory for %u bytes of answers\n", (unsigned)answers_length);
+        return 0;
+    }
+    return 1;
+}
+
+/* Runs the journal; 0 if it is refused, which for want of room it cannot be. */
+static int run_journal(void)
+{
+    uint32_t number = register_run(CABINETS, SPANS, journal, journal_length,
+                                   work, sizeof work / sizeof work[0],
+                                   answers, answers_length,
+                                   report, sizeof report / sizeof report[0]);
+    if (number == REGISTER_NO_ROOM)
+        printf("%u bytes were forecast, and do not suffice\n", (unsigned)answers_length);
+    else if (number != REGISTER_ACCEPTED)
+        printf("refused: %u at byte %u\n", (unsigned)number,
+               (unsigned)report[REGISTER_REPORT_PLACE]);
+    return number == REGISTER_ACCEPTED;
 }
 
 /* ---- Reading the answers ---- */
@@ -198,6 +236,18 @@ static int read_answer(void)
     }
 }
 
+/* Reads all answers; 0 if one does not answer its command. */
+static int read_answers(void)
+{
+    while (answered_at < report[REGISTER_REPORT_ANSWERS]) {
+        if (!read_answer()) {
+            printf("no answer at byte %zu\n", answered_at);
+            return 0;
+        }
+    }
+    return 1;
+}
+
 static void print_names(void)
 {
     printf("cabinet  district learnt asked  ring learnt asked\n");
@@ -212,22 +262,13 @@ static void print_names(void)
 int main(void)
 {
     write_journal(5);
-    uint32_t number = register_run(CABINETS, SPANS, journal, journal_length,
-                                   work, sizeof work / sizeof work[0],
-                                   answers, sizeof answers,
-                                   report, sizeof report / sizeof report[0]);
-    if (number != REGISTER_ACCEPTED) {
-        printf("refused: %u at byte %u\n", (unsigned)number,
-               (unsigned)report[REGISTER_REPORT_PLACE]);
+    int all_read = make_room() && run_journal() && read_answers();
+    free(answers);
+    if (!all_read)
         return 1;
-    }
-    while (answered_at < report[REGISTER_REPORT_ANSWERS]) {
-        if (!read_answer()) {
-            printf("no answer at byte %zu\n", answered_at);
-            return 1;
-        }
-    }
     print_names();
+    printf("%u bytes of room were forecast for the answers, %u were taken\n",
+           (unsigned)answers_length, (unsigned)report[REGISTER_REPORT_ANSWERS]);
     printf("%u commands, %u notices read, %u names and numbers compared, %u differ\n",
            (unsigned)report[REGISTER_REPORT_COMMANDS], notices_read, compared, differences);
     return differences != 0 || asked_at != journal_length

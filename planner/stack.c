@@ -3,10 +3,10 @@
  *
  *     stack BYTES [CABINETS]
  *
- * Runs the journals that make the register climb longest, in a thread with a stack of BYTES bytes
- * and a page below it that must not be touched. Prints the bytes that the calls took, and exits with
- * 0 if they are fewer than the header tells. With too small a stack it ends by a signal; run it with
- * falling sizes to find the least, which no thread's stack may go below.
+ * Forecasts the longest journals, then runs those that make the register climb longest, in a thread
+ * with a stack of BYTES bytes and a page below it that must not be touched. Prints the bytes that the
+ * calls took, and exits with 0 if they are fewer than the header tells. With too small a stack it
+ * ends by a signal; run it with falling sizes to find the least, which no thread's stack may go below.
  *
  * The stack is filled with a pattern first; what a call took is counted from the lowest byte that
  * lost the pattern up to the frame that made the call.
@@ -23,7 +23,7 @@
 
 enum { PATTERN = 0xA5, ANSWER_BYTES = 1 << 20 };
 
-static uint8_t journal[REGISTER_LONGEST_JOURNAL];
+static uint8_t journal[REGISTER_LONGEST_JOURNAL + 1];
 static size_t journal_length;
 static uint32_t work[REGISTER_WORK(REGISTER_MOST_CABINETS, REGISTER_MOST_SPANS)];
 static uint8_t answers[ANSWER_BYTES];
@@ -31,7 +31,7 @@ static uint32_t report[REGISTER_REPORT];
 
 static unsigned cabinets = REGISTER_MOST_CABINETS;
 static uint8_t *stack_low;
-static size_t stack_taken;
+static size_t runs_took, forecasts_took;
 static int failed;
 
 /* ---- The journals ---- */
@@ -93,7 +93,7 @@ static void two_chains(void)
     ask_and_close(0, half);
 }
 
-/* ---- The runs ---- */
+/* ---- The calls ---- */
 
 static size_t untouched(const uint8_t *below)
 {
@@ -101,6 +101,14 @@ static size_t untouched(const uint8_t *below)
     while (stack_low + count < below && stack_low[count] == PATTERN)
         count++;
     return count;
+}
+
+/* Notes what a call from this frame took, if it is the most so far. */
+static void note(const uint8_t *frame, size_t *most)
+{
+    size_t taken = (size_t)(frame - stack_low) - untouched(frame);
+    if (taken > *most)
+        *most = taken;
 }
 
 static void run_one(const char *name, void (*write_journal)(void))
@@ -111,18 +119,45 @@ static void run_one(const char *name, void (*write_journal)(void))
                                    work, sizeof work / sizeof work[0],
                                    answers, sizeof answers,
                                    report, sizeof report / sizeof report[0]);
-    size_t taken = (size_t)(&here - stack_low) - untouched(&here);
+    note(&here, &runs_took);
     if (number != REGISTER_ACCEPTED || report[REGISTER_REPORT_SPANS] != cabinets) {
         printf("%s: refused: %u at byte %u\n", name, (unsigned)number,
                (unsigned)report[REGISTER_REPORT_PLACE]);
         failed = 1;
     }
-    if (taken > stack_taken)
-        stack_taken = taken;
 }
 
-static void *run_all(void *unused)
+/* Forecasts a journal of one byte again and again. */
+static void forecast_one(unsigned byte, size_t length, uint32_t wanted)
 {
+    uint8_t here;
+    uint32_t place, room;
+    memset(journal, (int)byte, length);
+    uint32_t number = register_forecast(journal, length, &place, &room);
+    note(&here, &forecasts_took);
+    if (number != wanted) {
+        printf("forecast of %zu bytes %02X: %u\n", length, byte, (unsigned)number);
+        failed = 1;
+    }
+}
+
+/* The longest journals of each command, one byte longer than whole commands, and too long. */
+static void forecast_all(void)
+{
+    size_t longest = REGISTER_LONGEST_JOURNAL;
+    forecast_one(0x01, longest, REGISTER_ACCEPTED);
+    for (unsigned byte = 0x02; byte <= 0x08; byte++) {
+        forecast_one(byte, longest - 1, REGISTER_ACCEPTED);
+        forecast_one(byte, longest, REGISTER_CUT_OFF);
+    }
+    forecast_one(0x00, longest, REGISTER_BAD_COMMAND);
+    forecast_one(0x01, longest + 1, REGISTER_LONG_JOURNAL);
+}
+
+/* The forecasts come first, on a stack that no run has touched. */
+static void *call_all(void *unused)
+{
+    forecast_all();
     run_one("chain from the first", chain_from_the_first);
     run_one("chain from the last", chain_from_the_last);
     run_one("two chains", two_chains);
@@ -150,7 +185,7 @@ static int run_with_stack(size_t bytes)
         return 0;
     if (pthread_attr_setstack(&attributes, stack_low, bytes) != 0)
         return 0;
-    if (pthread_create(&thread, &attributes, run_all, NULL) != 0)
+    if (pthread_create(&thread, &attributes, call_all, NULL) != 0)
         return 0;
     return pthread_join(thread, NULL) == 0;
 }
@@ -170,7 +205,8 @@ int main(int count, char **words)
         fprintf(stderr, "no thread with a stack of %zu bytes\n", bytes);
         return 2;
     }
-    printf("stack of %zu bytes, %u cabinets: %s; the calls took %zu bytes of the %u told\n", bytes,
-           cabinets, failed ? "refused" : "run", stack_taken, REGISTER_STACK);
-    return failed || stack_taken >= REGISTER_STACK;
+    printf("stack of %zu bytes, %u cabinets: %s; the runs took %zu bytes, the forecasts %zu, of the "
+           "%u told\n", bytes, cabinets, failed ? "refused" : "run", runs_took, forecasts_took,
+           REGISTER_STACK);
+    return failed || runs_took >= REGISTER_STACK || forecasts_took >= REGISTER_STACK;
 }

@@ -1,6 +1,6 @@
 //! A case: one call of the register, with its capacities, journal and lengths of buffers.
 
-use crate::engine::{work_needed, REPORT_NUMBERS};
+use crate::engine::{work_needed, Forecast, REPORT_NUMBERS};
 use crate::second::Second;
 
 #[derive(Clone, Debug)]
@@ -17,6 +17,8 @@ pub struct Case {
     /// The bytes that the answer buffer must begin with and the report, where they are known
     /// beforehand.
     pub left: Option<(Vec<u8>, [u32; REPORT_NUMBERS])>,
+    /// The journal's forecast, where it is known beforehand.
+    pub forecast: Option<Forecast>,
 }
 
 impl Case {
@@ -37,6 +39,7 @@ impl Case {
             report: REPORT_NUMBERS,
             returned: None,
             left: None,
+            forecast: None,
         }
     }
 
@@ -50,6 +53,12 @@ impl Case {
         self.answers = answers.len();
         self.returned = Some(report[0]);
         self.left = Some((answers, report));
+        self
+    }
+
+    /// This number, place and length must be forecast.
+    pub fn forecasts(mut self, [number, place, length]: [u32; 3]) -> Case {
+        self.forecast = Some(Forecast { number, place, length });
         self
     }
 

@@ -1,4 +1,6 @@
-//! One case run by an engine and by the second implementation, and every byte compared.
+//! One case run and forecast by an engine and by the second implementation, and every byte compared.
+
+mod forecast;
 
 use crate::cases::{hex, Case};
 use crate::engine::{Call, Engine};
@@ -17,6 +19,11 @@ pub struct Tally {
     pub returned: [usize; 12],
     pub commands: usize,
     pub notices: usize,
+    /// How often each number from 0 to 5 was returned by a forecast.
+    pub forecast: [usize; 6],
+    /// Runs with exactly the room that was forecast, by the number that the journal's forecast
+    /// returned: 0, or 4 and 5 with the room for the commands before the damaged place.
+    pub exact: [usize; 6],
 }
 
 /// The buffers of one call, each between guards, with random contents.
@@ -30,10 +37,8 @@ struct Lent {
 
 impl Lent {
     fn new(case: &Case, random: &mut Random) -> Lent {
-        let mut journal = bytes(case.journal.len(), random);
-        inner(&mut journal).copy_from_slice(&case.journal);
         Lent {
-            journal,
+            journal: guarded(&case.journal, random),
             work: table(case.work, random),
             answers: bytes(case.answers, random),
             report: words(case.report, random),
@@ -51,6 +56,13 @@ impl Lent {
             report: inner(&mut self.report),
         }
     }
+}
+
+/// These bytes between guards.
+fn guarded(held: &[u8], random: &mut Random) -> Vec<u8> {
+    let mut guarded = bytes(held.len(), random);
+    inner(&mut guarded).copy_from_slice(held);
+    guarded
 }
 
 fn bytes(length: usize, random: &mut Random) -> Vec<u8> {
@@ -89,7 +101,8 @@ pub fn compare(
     seed: u64,
     tally: &mut Tally,
 ) -> Result<(), String> {
-    let lent = Lent::new(case, &mut Random::new(seed));
+    let random = &mut Random::new(seed);
+    let lent = Lent::new(case, random);
     let mut got = lent.clone();
     let number = engine.run(got.call(case));
     let mut planner = Planner::new(inner(&mut got.answers));
@@ -106,7 +119,7 @@ pub fn compare(
     tally.returned[number as usize] += 1;
     tally.commands += read.commands;
     tally.notices += read.notices;
-    Ok(())
+    forecast::compare(engine, second, case, random, tally)
 }
 
 /// The planner has read as many commands and bytes as the report counts; none, if the start

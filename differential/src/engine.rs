@@ -1,4 +1,5 @@
-//! What every implementation of the register offers: the one call of document 01.
+//! What every implementation of the register offers: the run of document 01, and the forecast of
+//! document 02's first request.
 
 /// The call: the capacities C and S, the journal, and the buffers that the caller lends.
 pub struct Call<'a> {
@@ -10,12 +11,26 @@ pub struct Call<'a> {
     pub report: &'a mut [u32],
 }
 
-/// Runs one journal from an empty network.
+/// What a forecast gives.
+#[derive(Clone, Copy, PartialEq, Eq, Debug)]
+pub struct Forecast {
+    /// 0 if the journal is accepted.
+    pub number: u32,
+    /// The journal's length, or the refused command's first byte; 0 for number 3.
+    pub place: u32,
+    /// A length of the answer buffer that suffices; 0 on a refusal.
+    pub length: u32,
+}
+
 pub trait Engine {
     fn name(&self) -> &'static str;
 
-    /// Returns 0, or the number of the refusal.
+    /// Runs one journal from an empty network. Returns 0, or the number of the refusal.
     fn run(&self, call: Call) -> u32;
+
+    /// Forecasts the length of the answer buffer from the journal alone. Returns 0, or the number
+    /// of the refusal; the caller's place and length are filled either way.
+    fn forecast(&self, journal: &[u8], place: &mut u32, length: &mut u32) -> u32;
 }
 
 pub const MOST_CABINETS: u32 = 4096;
@@ -26,6 +41,27 @@ pub const REPORT_NUMBERS: usize = 6;
 /// W: the numbers of the working table that a run uses, for capacities inside their ranges.
 pub fn work_needed(c: u32, s: u32) -> usize {
     24 * c as usize + 8 * s as usize + 64
+}
+
+impl Forecast {
+    pub fn accepted(journal: &[u8], length: usize) -> Forecast {
+        Forecast { number: 0, place: fit(journal.len()), length: fit(length) }
+    }
+
+    pub fn refused(number: u32, place: usize) -> Forecast {
+        Forecast { number, place: fit(place), length: 0 }
+    }
+
+    /// Fills the caller's place and length. Gives the number that is returned.
+    pub fn tell(self, place: &mut u32, length: &mut u32) -> u32 {
+        *place = self.place;
+        *length = self.length;
+        self.number
+    }
+}
+
+fn fit(number: usize) -> u32 {
+    u32::try_from(number).expect("every place and length of a forecast fits 32 bits")
 }
 
 impl Call<'_> {

@@ -1,10 +1,14 @@
 //! Engines that are wrong on purpose. The comparison must find each of them.
 
+mod forecast;
+
 use crate::engine::{work_needed, Call, Engine};
 use crate::kinds::KINDS;
 use crate::second::book::Fault;
 use crate::second::Second;
 use std::ops::BitXor;
+
+pub use forecast::TOO_SMALL;
 
 /// What a right run left, with the number that it returned.
 struct Left<'a> {
@@ -90,11 +94,17 @@ impl Engine for Spoiled {
         (self.0 .1)(&mut left);
         left.number
     }
+
+    fn forecast(&self, journal: &[u8], place: &mut u32, length: &mut u32) -> u32 {
+        Second::new().forecast(journal, place, length)
+    }
 }
 
-/// Engines that the comparison with the second implementation must find.
-pub fn engines() -> Vec<(String, Box<dyn Engine>)> {
-    let mut engines: Vec<(String, Box<dyn Engine>)> = Vec::new();
+type Named = (String, Box<dyn Engine>);
+
+/// Engines that the comparison with the second implementation must find by their runs.
+pub fn engines() -> Vec<Named> {
+    let mut engines: Vec<Named> = Vec::new();
     let against = against_demand_3().into_iter().map(|(fault, _)| fault);
     for fault in KINDS.into_iter().map(Fault::GreatestName).chain(against) {
         engines.push((format!("{fault:?}"), Box::new(Second::with_fault(fault))));
@@ -102,6 +112,17 @@ pub fn engines() -> Vec<(String, Box<dyn Engine>)> {
     for spoil in SPOILS {
         engines.push((spoil.0.to_string(), Box::new(Spoiled(spoil))));
     }
+    engines
+}
+
+/// Engines that the comparison with the second implementation must find by their forecasts.
+pub fn forecasts() -> Vec<Named> {
+    let wrong = forecast::TOO_SMALL.into_iter().chain(forecast::WRONG);
+    let mut engines: Vec<Named> = Vec::new();
+    for (name, misforecast) in wrong {
+        engines.push((name.to_string(), Box::new(Second::with_misforecast(misforecast))));
+    }
+    engines.push((forecast::Unfilled.name().to_string(), Box::new(forecast::Unfilled)));
     engines
 }
 

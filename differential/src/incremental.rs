@@ -1,10 +1,12 @@
 //! The register by the method of the proved one, written by hand over ordinary arrays: names with
 //! sizes and ranges, and one block forest. Not proved.
 
+mod forecast;
 mod forest;
 mod naming;
 
 use crate::engine::{Call, Engine, REPORT_NUMBERS};
+use forecast::forecast;
 use forest::Forest;
 
 pub struct Incremental;
@@ -236,5 +238,9 @@ impl Engine for Incremental {
         };
         let report = run.all();
         call.ends(report)
+    }
+
+    fn forecast(&self, journal: &[u8], place: &mut u32, length: &mut u32) -> u32 {
+        forecast(journal).tell(place, length)
     }
 }

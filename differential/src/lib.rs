@@ -1,6 +1,7 @@
-//! Second implementations of document 01, and what is needed to compare an engine with them.
+//! Second implementations of document 01 and of document 02's first request, and what is needed to
+//! compare an engine with them.
 //!
-//! - `second`: document 01 restated; everything is computed anew after each command.
+//! - `second`: the documents restated; everything is computed anew after each command.
 //! - `literal`: the definitions word for word, for small networks; `second` is tested against it.
 //! - `incremental`: the method of the proved register, written by hand over ordinary arrays.
 //! - `register`: the proved register itself, behind the feature of that name.
@@ -12,6 +13,7 @@ pub mod cases;
 pub mod compare;
 pub mod engine;
 pub mod faults;
+pub mod forecasts;
 pub mod histories;
 pub mod incremental;
 pub mod journals;

@@ -10,7 +10,7 @@ use differential::compare::{compare, Tally};
 use differential::engine::Engine;
 use differential::incremental::Incremental;
 use differential::second::Second;
-use differential::{faults, histories, journals, program, refusals};
+use differential::{faults, forecasts, histories, journals, program, refusals};
 use std::process::ExitCode;
 use std::time::{Duration, Instant};
 
@@ -109,6 +109,7 @@ impl Test {
         self.cases(&histories::unmarked(), seed);
         self.cases(&refusals::all(), seed);
         self.cases(&refusals::empty_buffers(), seed);
+        self.cases(&forecasts::known(), seed);
         for (cabinets, spans) in [(2, 0), (2, 3), (3, 3), (3, 4), (4, 3), (4, 4)] {
             journals::every_list(cabinets, spans, &mut |case| self.given(&case, seed));
         }
@@ -132,10 +133,16 @@ impl Test {
         }
     }
 
-    /// Every number that the table knows must have been returned by some case.
+    /// Every number that the table knows must have been returned by some run, and every one that
+    /// the forecast knows by some forecast, with runs in the room forecast unless it is 3.
     fn every_number(&mut self) {
-        if let Some(missing) = self.tally.returned.iter().position(|&count| count == 0) {
-            self.fault.get_or_insert(format!("no case returned {missing}"));
+        let Tally { returned, forecast, exact, .. } = &self.tally;
+        let runs = (0..=11).map(|number| ("run", number, returned[number]));
+        let forecasts = [0, 3, 4, 5].map(|number| ("forecast", number, forecast[number]));
+        let exact = [0, 4, 5].map(|number| ("run in the room forecast", number, exact[number]));
+        let mut all = runs.chain(forecasts).chain(exact);
+        if let Some((what, number, _)) = all.find(|&(_, _, count)| count == 0) {
+            self.fault.get_or_insert(format!("no {what} for number {number}"));
         }
     }
 
@@ -143,13 +150,20 @@ impl Test {
         if let Some(fault) = &self.fault {
             return Err(fault.clone());
         }
-        let Tally { journals, returned, commands, notices } = self.tally;
+        let Tally { journals, returned, commands, notices, forecast, exact } = self.tally;
         Ok(format!(
             "{} equals second, every byte: {journals} journals ({} accepted to the end, refused by \
-             1 to 11: {:?}), {commands} commands, {notices} notices",
+             1 to 11: {:?}), {commands} commands, {notices} notices; {} forecasts ({} accepted, \
+             refused by 3 to 5: {:?}), {} runs with exactly the room forecast, {} of them of \
+             damaged journals",
             self.engine.name(),
             returned[0],
-            &returned[1..]
+            &returned[1..],
+            forecast.iter().sum::<usize>(),
+            forecast[0],
+            &forecast[3..],
+            exact.iter().sum::<usize>(),
+            exact[4] + exact[5]
         ))
     }
 }
@@ -160,7 +174,7 @@ fn null_pointers(seed: u64) -> Result<String, String> {
     let mut test = Test::new(Box::new(differential::register::Register { null_if_empty: true }));
     test.cases(&refusals::empty_buffers(), seed);
     test.result()?;
-    Ok(format!("; {} calls with null for empty buffers", test.tally.journals))
+    Ok(format!("; {} cases with null for empty buffers", test.tally.journals))
 }
 
 #[cfg(not(feature = "register"))]
@@ -169,31 +183,47 @@ fn null_pointers(_: u64) -> Result<String, String> {
 }
 
 /// Every fault put in on purpose must be found: an engine's by the comparison with the second
-/// implementation, and one that both have by demand 3.
+/// implementation, and one that both have by demand 3 or by a run with exactly the room forecast.
 fn seeded_bugs(seed: u64) -> Result<String, String> {
     let mut found = 0;
-    for (name, engine) in faults::engines() {
+    let runs = faults::engines().into_iter().map(|named| (", second ", named));
+    let forecasts = faults::forecasts().into_iter().map(|named| ("the forecast is", named));
+    for (said, (name, engine)) in runs.chain(forecasts) {
         let mut test = Test::new(engine);
         test.cases(&refusals::all(), seed);
-        found_by("differs: ", &name, test, seed)?;
+        found_by(said, &name, test, seed)?;
         found += 1;
     }
     for (fault, said) in faults::against_demand_3() {
-        let mut test = Test::new(Box::new(Second::with_fault(fault)));
-        test.second = Second::with_fault(fault);
+        let test = in_both(|| Second::with_fault(fault));
         found_by(said, &format!("{fault:?} in both"), test, seed)?;
+        found += 1;
+    }
+    for (name, misforecast) in faults::TOO_SMALL {
+        let mut test = in_both(|| Second::with_misforecast(misforecast));
+        test.cases(&histories::marked(), seed);
+        found_by("bytes of room that are forecast", &format!("{name} in both"), test, seed)?;
         found += 1;
     }
     Ok(format!("{found} faults put in on purpose, ties broken the other way among them, are found"))
 }
 
-/// Random journals until the fault is found; what is said of it must hold these words.
+/// The engine and the second implementation with the same fault.
+fn in_both(second: impl Fn() -> Second) -> Test {
+    let mut test = Test::new(Box::new(second()));
+    test.second = second();
+    test
+}
+
+/// Random journals until these words are said of the fault.
 fn found_by(said: &str, name: &str, mut test: Test, seed: u64) -> Result<(), String> {
-    test.random(seed, RANDOM_JOURNALS);
-    match test.fault {
-        Some(fault) if fault.contains(said) => Ok(()),
-        _ => Err(format!("not found: {name}")),
+    for seed in seed..seed + RANDOM_JOURNALS {
+        test.random(seed, 1);
+        if test.fault.take().is_some_and(|fault| fault.contains(said)) {
+            return Ok(());
+        }
     }
+    Err(format!("not found: {name}"))
 }
 
 fn run(wish: Wish) -> Result<String, String> {

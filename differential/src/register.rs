@@ -1,4 +1,4 @@
-//! The proved register, behind the function that it offers to C.
+//! The proved register, behind the functions that it offers to C.
 
 #![allow(unsafe_code)]
 
@@ -17,6 +17,13 @@ extern "C" {
         answers_len: usize,
         report: *mut u32,
         report_len: usize,
+    ) -> u32;
+
+    fn register_forecast(
+        journal: *const u8,
+        journal_len: usize,
+        place: *mut u32,
+        length: *mut u32,
     ) -> u32;
 }
 
@@ -60,5 +67,12 @@ impl Engine for Register {
                 report.len(),
             )
         }
+    }
+
+    fn forecast(&self, journal: &[u8], place: &mut u32, length: &mut u32) -> u32 {
+        let pointer = self.pointer(journal.as_ptr().cast_mut(), journal.len());
+        // The journal's pointer is good for its length, or of any kind if that is 0. The two
+        // numbers are aligned, and overlap neither each other nor the journal.
+        unsafe { register_forecast(pointer, journal.len(), place, length) }
     }
 }

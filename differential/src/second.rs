@@ -1,18 +1,25 @@
 //! A second implementation of document 01, to compare others with. After each command everything
-//! is computed anew from the list of spans; nothing is kept but the naming book.
+//! is computed anew from the list of spans; nothing is kept but the naming book. The forecast is
+//! that of document 02's first request.
 
 pub mod book;
 pub mod command;
+pub mod forecast;
 pub mod groups;
 
-use crate::engine::{Call, Engine, REPORT_NUMBERS};
+use crate::engine::{Call, Engine, Forecast, REPORT_NUMBERS};
 use book::{Book, Fault};
 use command::{answer, feed, read, refusal, Capacities, Command};
+use forecast::forecast;
 
 #[derive(Default)]
 pub struct Second {
     fault: Option<Fault>,
+    misforecast: Option<Misforecast>,
 }
+
+/// A fault put in on purpose: what is forecast for a journal in place of its right forecast.
+pub type Misforecast = fn(&[u8], Forecast) -> Forecast;
 
 /// What a run that was not refused at the start comes to.
 #[derive(Default)]
@@ -41,7 +48,12 @@ impl Second {
 
     /// The same with a fault.
     pub fn with_fault(fault: Fault) -> Second {
-        Second { fault: Some(fault) }
+        Second { fault: Some(fault), misforecast: None }
+    }
+
+    /// The same with a fault in the forecast.
+    pub fn with_misforecast(misforecast: Misforecast) -> Second {
+        Second { fault: None, misforecast: Some(misforecast) }
     }
 
     /// Runs a journal from an empty network. Each accepted command is shown to `watch`.
@@ -134,5 +146,11 @@ impl Engine for Second {
 
     fn run(&self, call: Call) -> u32 {
         self.run_watched(call, &mut |_| ())
+    }
+
+    fn forecast(&self, journal: &[u8], place: &mut u32, length: &mut u32) -> u32 {
+        let right = forecast(journal);
+        let told = self.misforecast.map_or(right, |spoil| spoil(journal, right));
+        told.tell(place, length)
     }
 }

@@ -14,7 +14,7 @@ use Rattle.naming.specs.State.{State}
 use Rattle.commands.specs.Command.{Command, form, Reading, unknownByte, cutOff, command, readCommand}
 use Rattle.commands.specs.Facts.{Demand, differ, shareDistrict, facts, demandsOf}
 use Rattle.commands.specs.Refusal.{Refusal, badByte, cutOperands, unknownCabinet, unknownSpan, equalCabinets, full, twoDistricts, refusalNumber, Capacities, cabinetsKnown, spansKnown, met, cause, meets, isFull, lines, refusalOf}
-use Rattle.commands.proofs.Reading.{isCommand, widthOf, unknown-exactly, operands-known, unknown-byte, cut-off}
+use Rattle.commands.proofs.Reading.{isCommand, widthOf, no-command-exactly, cut-off-exactly}
 use Rattle.commands.proofs.Steps.{RefusedFor, for-byte, for-operands, for-command}
 use Rattle.commands.proofs.Table.{given-exactly, stage, Between, given-between, NoneOf, none-exactly}
 
@@ -145,17 +145,9 @@ module _ (caps : Capacities) (s : State) where
   -- bad byte: the byte is no command's
   pub bad-byte-exactly : (byte : ℕ) (bytes : List ℕ)
       → RefusedFor caps s (readCommand byte bytes) badByte ↔ (isCommand byte ≡ false)
-  unfolding readCommand
-  bad-byte-exactly byte bytes =
-      Iff·trans
-      (on-unknown-byte, λ e. rw e for-byte)
-      (Iff·trans (unknown-byte (form byte) bytes) (unknown-exactly byte))
+  bad-byte-exactly byte bytes = Iff·trans (on-unknown-byte, λ e. rw e for-byte) (no-command-exactly byte bytes)
 
   -- cut operands: the byte is a command's, and its operands are longer than what follows
   pub cut-operands-exactly : (byte : ℕ) (bytes : List ℕ) → RefusedFor caps s (readCommand byte bytes) cutOperands
       ↔ ((isCommand byte ≡ true) × (length bytes < widthOf (form byte)))
-  unfolding readCommand
-  cut-operands-exactly byte bytes =
-      Iff·trans
-      (on-cut-off, λ e. rw e for-operands)
-      (Iff·trans (cut-off (form byte) bytes) (λ h. (operands-known byte (length bytes) h, h), λ h. h .1))
+  cut-operands-exactly byte bytes = Iff·trans (on-cut-off, λ e. rw e for-operands) (cut-off-exactly byte bytes)

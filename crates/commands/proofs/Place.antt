@@ -15,6 +15,7 @@ use Rattle.commands.specs.Answer.{answerBytes}
 use Rattle.commands.specs.Text.{textOf}
 use Rattle.commands.specs.Run.{Accepted, Run, runText, fitting, runWithin, bytesOfAnswers, placeAfter}
 use Rattle.commands.proofs.Cases.{impossible}
+use Rattle.commands.proofs.Placed.{Stands}
 use Rattle.commands.proofs.Room.{RoomForAll, CutAt, cut-where-no-room, all-fit-whole, cut-at-stop, cut-before-end, Prefix, fitting-is-prefix}
 use Rattle.commands.proofs.Steps.{RefusedFor, WasAccepted, RunsTo, ends, refuses, accepts, run-takes-steps, accepted-width-fits}
 use Rattle.commands.proofs.StateAfter.{stateFed, fed-none, fed-more}
@@ -36,11 +37,8 @@ unfolding placeAfter
 next-place a later byte bytes = rw (suc-add (a .width) (placeAfter later)) (sym (drop-drop (placeAfter later) (a .width) bytes))
 
 -- where the accepted commands end, in the state after them, stands a command that is refused
-pub record RefusedAt (caps : Capacities) (s : State) (journal : List ℕ) (l : List Accepted) (r : Refusal) : Type 0 where
-  pub byte : ℕ
-  pub bytes : List ℕ
-  pub at-place : drop (placeAfter l) journal ≡ byte ∷ bytes
-  pub refuses : RefusedFor caps (stateFed s l) (readCommand byte bytes) r
+abbrev pub RefusedAt : Capacities → State → List ℕ → List Accepted → Refusal → Type 0
+RefusedAt caps s journal l r = Stands (placeAfter l) journal (λ byte bytes. RefusedFor caps (stateFed s l) (readCommand byte bytes) r)
 
 -- the journal ends where the accepted commands end, or a command is refused there
 abbrev pub StopsAt : Capacities → State → List ℕ → List Accepted → Option Refusal → Type 0
@@ -52,7 +50,7 @@ pub stops-at-place : (caps : Capacities) {s : State} {journal : List ℕ} {l : L
     → RunsTo caps s journal l end → StopsAt caps s journal l end
 unfolding placeAfter
 stops-at-place caps none ends = refl
-stops-at-place caps (some r) (refuses {s = s} e) = record { byte = _; bytes = _; at-place = refl; refuses = rw (fed-none s) e }
+stops-at-place caps (some r) (refuses {s = s} e) = record { byte = _; bytes = _; at-place = refl; is-so = rw (fed-none s) e }
 stops-at-place caps none (accepts {s = s} {byte = byte} {bytes = bytes} {a = a} {later = later} e rest) =
     omega (arith, accepted-width-fits caps s byte bytes a e, simp length-drop at (stops-at-place caps none rest))
 stops-at-place caps (some r) (accepts {s = s} {byte = byte} {bytes = bytes} {a = a} {later = later} e rest) =
@@ -61,7 +59,7 @@ stops-at-place caps (some r) (accepts {s = s} {byte = byte} {bytes = bytes} {a =
       byte = there .byte;
       bytes = there .bytes;
       at-place = next-place a later byte bytes ∙ there .at-place;
-      refuses = rw (fed-more s a later) (there .refuses);
+      is-so = rw (fed-more s a later) (there .is-so);
     }
 
 -- accepted command k stands at its place, and is accepted in the state after the k commands before it
@@ -128,7 +126,7 @@ module _ (caps : Capacities) (s : State) (journal : List ℕ) where
           let there = stops-at-place caps (some q) steps in
           let same : there .byte ∷ there .bytes ≡ at .byte ∷ at .bytes = sym (there .at-place) ∙ at .at-place in
           let read : readCommand (there .byte) (there .bytes) ≡ readCommand (at .byte) (at .bytes) = cc in
-          ap some (refused-for-one caps _ (rw read at (there .refuses)) (at .refuses))
+          ap some (refused-for-one caps _ (rw read at (there .is-so)) (at .is-so))
 
   -- every accepted command stands where those before it end
   pub each-at-its-place : (k : ℕ) → k < length (runText caps s (textOf journal) .accepted)
@@ -160,7 +158,8 @@ place-of-first zero l = omega arith
 place-of-first (suc n) [] = omega arith
 place-of-first (suc n) (a ∷ l) = omega (arith, place-of-first n l)
 
-place-of-prefix : (l m : List Accepted) → Prefix l m → placeAfter l ≤ placeAfter m
+-- so do those of a list that begins it
+pub place-of-prefix : (l m : List Accepted) → Prefix l m → placeAfter l ≤ placeAfter m
 place-of-prefix l m p = omega (arith, place-of-first (length l) m, ap placeAfter (p .same))
 
 -- the run from a state over a journal, with so much room

@@ -1,12 +1,35 @@
--- Places in a text: each command stands where the one before it ends, and the start changes nothing but the places. For the requests that
--- read a journal without running it (1, 7, 9).
+-- Places in a journal: what stands at one; each command of a text stands where the one before it ends, and the start changes nothing but
+-- the places.
 use mathlib.Core.List.{List, [], _∷_, map}
+use mathlib.Core.Logic.{_↔_}
+use mathlib.Core.Option.{some}
 use mathlib.Core.Path.{_≡_, refl, ap, subst}
-use Prim.Native.Nat.{ℕ, zero, suc, _+_}
+use Prim.Native.Nat.{ℕ, zero, suc, _+_, _<_}
 use native.Mathlib.Nat.{add-suc}
 use native.Mathlib.Omega.{arith}
+use lib.ListN.{length, take, drop, getElem?, length-drop}
 use Rattle.commands.specs.Command.{Reading, unknownByte, cutOff, command, readCommand}
-use Rattle.commands.specs.Text.{Read, Text, endsWith, followedBy, textFrom}
+use Rattle.commands.specs.Text.{Read, Text, endsWith, followedBy, textFrom, placeBehind}
+use Rattle.commands.proofs.Cases.{impossible}
+
+-- at the place of the journal stands a byte with those behind it, of which this is so
+pub record Stands (place : ℕ) (journal : List ℕ) (Is : ℕ → List ℕ → Type 0) : Type 0 where
+  pub byte : ℕ
+  pub bytes : List ℕ
+  pub at-place : drop place journal ≡ byte ∷ bytes
+  pub is-so : Is byte bytes
+
+-- then the place is before the journal's end
+pub stands-in-journal : (place : ℕ) (journal : List ℕ) (Is : ℕ → List ℕ → Type 0) → Stands place journal Is → place < length journal
+stands-in-journal place journal Is at = omega (arith, ap length (at .at-place), length-drop place journal)
+
+-- where two things agree of all bytes, the one stands there exactly if the other does
+pub stands-exactly : (place : ℕ) (journal : List ℕ) (Is Was : ℕ → List ℕ → Type 0)
+    → ((byte : ℕ) (bytes : List ℕ) → Is byte bytes ↔ Was byte bytes) → Stands place journal Is ↔ Stands place journal Was
+stands-exactly place journal Is Was f = (
+  λ at. record { byte = at .byte; bytes = at .bytes; at-place = at .at-place; is-so = f (at .byte) (at .bytes) .0 (at .is-so) },
+  λ at. record { byte = at .byte; bytes = at .bytes; at-place = at .at-place; is-so = f (at .byte) (at .bytes) .1 (at .is-so) },
+)
 
 -- the first command stands at the place, and each other one where the one before it ends
 abbrev pub PlacedFrom : ℕ → List Read → Type 0
@@ -30,6 +53,14 @@ text-placed place zero (byte ∷ bytes) = go (λ k. text-placed (suc place) k by
         rw
         (e, textFrom)
         (omega arith, subst (λ p. PlacedFrom p (textFrom (suc place) width bytes .commands)) (omega arith) (later width))
+
+-- so command k stands behind the k commands before it
+pub placed-behind : (place k : ℕ) (l : List Read) (r : Read) → PlacedFrom place l → getElem? l k ≡ some r
+    → r .place ≡ place + placeBehind (take k l)
+unfolding placeBehind
+placed-behind place k [] r placed e = impossible (cc)
+placed-behind place zero (x ∷ l) r placed e = let same : x ≡ r = cc in omega (arith, placed .0, ap (λ (q : Read). q .place) same)
+placed-behind place (suc k) (x ∷ l) r placed e = omega (arith, placed-behind (place + 1 + x .width) k l r (placed .1) e)
 
 -- a text so many places further on
 unfoldable pub furtherOn : ℕ → Text → Text

@@ -1,7 +1,7 @@
 -- What is read at a place of a journal: an unknown byte, operands cut off, or a command with all its operands.
 use mathlib.Core.Bool.{Bool, true, false, _&&_, and-false, true≢false}
 use mathlib.Core.List.{List}
-use mathlib.Core.Logic.{_↔_, _⊎_, inl, inr}
+use mathlib.Core.Logic.{_↔_, Iff·trans, _⊎_, inl, inr}
 use mathlib.Core.Path.{_≡_, refl, sym, ap}
 use Prim.Native.Nat.{ℕ, _*_, _≤_, _<_}
 use native.Mathlib.Omega.{arith}
@@ -110,6 +110,18 @@ cut-off f bytes = (to (readForm f bytes) (reads f bytes), from (readForm f bytes
     from unknownByte (reads-unknown d) l = absurd (omega (arith, nothing-to-cut d))
     from cutOff (reads-cut k h) l = refl
     from (command c w) (reads-command k h) l = absurd (omega arith)
+
+-- an unknown byte is read exactly where the byte is no command's
+pub no-command-exactly : (byte : ℕ) (bytes : List ℕ) → (readCommand byte bytes ≡ unknownByte) ↔ (isCommand byte ≡ false)
+unfolding readCommand
+no-command-exactly byte bytes = Iff·trans (unknown-byte (form byte) bytes) (unknown-exactly byte)
+
+-- operands are cut off exactly where the byte is a command's and its operands are longer than what follows
+pub cut-off-exactly : (byte : ℕ) (bytes : List ℕ)
+    → (readCommand byte bytes ≡ cutOff) ↔ ((isCommand byte ≡ true) × (length bytes < widthOf (form byte)))
+unfolding readCommand
+cut-off-exactly byte bytes =
+    Iff·trans (cut-off (form byte) bytes) (λ h. (operands-known byte (length bytes) h, h), λ h. h .1)
 
 read-whole : (f : Form) (bytes : List ℕ) (c : Command) (width : ℕ) → readForm f bytes ≡ command c width
     → (width ≡ widthOf f) × (widthOf f ≤ length bytes)

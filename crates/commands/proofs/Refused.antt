@@ -12,16 +12,14 @@ use Rattle.commands.specs.Refusal.{Refusal, Capacities, refusalOf}
 use Rattle.commands.specs.Run.{Accepted, placeAfter}
 use Rattle.commands.proofs.Steps.{RefusedFor, for-byte, for-operands, for-command}
 use Rattle.commands.proofs.StateAfter.{stateFed}
+use Rattle.commands.proofs.Placed.{Stands, stands-exactly}
 use Rattle.commands.proofs.Place.{RefusedAt}
 use Rattle.commands.proofs.Table.{stage}
 use Rattle.commands.proofs.Causes.{table-decides}
 
 -- where the accepted commands end, a byte with those behind it for which the cause is there
-pub record ByteAt (journal : List ℕ) (l : List Accepted) (Cause : ℕ → List ℕ → Type 0) : Type 0 where
-  pub byte : ℕ
-  pub bytes : List ℕ
-  pub at-place : drop (placeAfter l) journal ≡ byte ∷ bytes
-  pub cause : Cause byte bytes
+abbrev pub ByteAt : List ℕ → List Accepted → (ℕ → List ℕ → Type 0) → Type 0
+ByteAt journal l Cause = Stands (placeAfter l) journal Cause
 
 -- where the accepted commands end, a command read whole, with all its operands, for which the cause is there
 pub record CommandAt (journal : List ℕ) (l : List Accepted) (Cause : Command → Type 0) : Type 0 where
@@ -51,10 +49,8 @@ module _ (caps : Capacities) (s : State) (journal : List ℕ) (l : List Accepted
   pub byte-refused-exactly : (Cause : ℕ → List ℕ → Type 0)
       → ((byte : ℕ) (bytes : List ℕ) → RefusedFor caps (stateFed s l) (readCommand byte bytes) r ↔ Cause byte bytes)
       → RefusedAt caps s journal l r ↔ ByteAt journal l Cause
-  byte-refused-exactly Cause f = (
-    λ at. record { byte = at .byte; bytes = at .bytes; at-place = at .at-place; cause = f (at .byte) (at .bytes) .0 (at .refuses) },
-    λ at. record { byte = at .byte; bytes = at .bytes; at-place = at .at-place; refuses = f (at .byte) (at .bytes) .1 (at .cause) },
-  )
+  byte-refused-exactly Cause f =
+      stands-exactly (placeAfter l) journal (λ byte bytes. RefusedFor caps (stateFed s l) (readCommand byte bytes) r) Cause f
 
   -- a command read whole is refused exactly for its cause
   pub command-refused-exactly : (Cause : Command → Type 0) → 2 ≤ stage r
@@ -62,7 +58,7 @@ module _ (caps : Capacities) (s : State) (journal : List ℕ) (l : List Accepted
       → RefusedAt caps s journal l r ↔ CommandAt journal l Cause
   command-refused-exactly Cause h f = (
     λ at.
-        let there = was-whole caps (stateFed s l) h (at .refuses) in
+        let there = was-whole caps (stateFed s l) h (at .is-so) in
         record {
           byte = at .byte;
           bytes = at .bytes;
@@ -77,7 +73,7 @@ module _ (caps : Capacities) (s : State) (journal : List ℕ) (l : List Accepted
           byte = at .byte;
           bytes = at .bytes;
           at-place = at .at-place;
-          refuses =
+          is-so =
               rw (at .is-read) (table-decides caps (stateFed s l) (at .this) (at .width) r .1 (f (at .this) .1 (at .cause)));
         },
   )

@@ -9,42 +9,18 @@ use lib.ListN.{length}
 use Rattle.graph.specs.Network.{Rule, edgeCount, addVertex, addEdge}
 use Rattle.graph.proofs.Joined.{edge-count-more}
 use Rattle.naming.specs.Book.{Book, Addition, vertex, edge, neither, emptyBook, enterVertex, enterEdge, feed, feedAll}
+use Rattle.naming.specs.State.{State, emptyState}
 use Rattle.commands.specs.Command.{Command}
 use Rattle.commands.specs.Facts.{addition}
+use Rattle.commands.specs.Forecast.{isCabinet, isSpan, countAdding, cabinetCommands, spanCommands}
 use Rattle.commands.specs.Run.{Run, commandsOf, bytesOfAnswers, placeAfter}
 use Rattle.commands.specs.Entry.{bookAfter, numberOf, reportOf}
-
--- the addition is a cabinet
-unfoldable pub isCabinet : Addition → Bool
-isCabinet vertex = true
-isCabinet (edge e) = false
-isCabinet neither = false
-
--- the addition is a span
-unfoldable pub isSpan : Addition → Bool
-isSpan vertex = false
-isSpan (edge e) = true
-isSpan neither = false
-
--- the command adds a cabinet
-unfoldable pub addsCabinet : Command → Bool
-addsCabinet c = isCabinet (addition c)
-
--- the command adds a span
-unfoldable pub addsSpan : Command → Bool
-addsSpan c = isSpan (addition c)
-
--- how many of the commands pass the test
-unfoldable pub countThat : (Command → Bool) → List Command → ℕ
-countThat p [] = 0
-countThat p (c ∷ cs) =
-    let rest = countThat p cs in
-    cond (p c) (suc rest) rest
+use Rattle.commands.proofs.StateAfter.{stateAfter, book-fed, book-after-commands}
 
 -- a number of a book that every addition which passes the test raises by one, and no other changes, counts the commands that add such
 counts : (p : Addition → Bool) (size : Book → ℕ) → ((b : Book) (a : Addition) → size (feed b a) ≡ cond (p a) (suc (size b)) (size b))
-    → (b : Book) (cs : List Command) → size (feedAll b (map addition cs)) ≡ size b + countThat (λ c. p (addition c)) cs
-unfolding feedAll countThat
+    → (b : Book) (cs : List Command) → size (feedAll b (map addition cs)) ≡ size b + countAdding p cs
+unfolding feedAll countAdding
 counts p size step b [] = sym (add-zero (size b))
 counts p size step b (c ∷ cs) =
     counts p size step (feed b (addition c)) cs
@@ -52,7 +28,7 @@ counts p size step b (c ∷ cs) =
     ∙ move (p (addition c)) (size b) later
   where
     later : ℕ
-    later = countThat (λ c. p (addition c)) cs
+    later = countAdding p cs
 
     move : (t : Bool) (n m : ℕ) → cond t (suc n) n + m ≡ n + cond t (suc m) m
     move true n m = omega arith
@@ -70,15 +46,33 @@ span-step b vertex = refl
 span-step b (edge e) = edge-count-more (b .network) e
 span-step b neither = refl
 
--- the cabinets are the accepted commands that add one
-pub cabinets-counted : (rule : Rule) (cs : List Command) → bookAfter rule cs .network .vertices ≡ countThat addsCabinet cs
-unfolding bookAfter emptyBook addsCabinet
-cabinets-counted rule cs = counts isCabinet (λ b. b .network .vertices) cabinet-step (emptyBook rule) cs ∙ zero-add (countThat addsCabinet cs)
+-- after commands there are as many cabinets more as commands that add one
+pub cabinets-after : (s : State) (cs : List Command)
+    → stateAfter s cs .book .network .vertices ≡ s .book .network .vertices + cabinetCommands cs
+unfolding cabinetCommands
+cabinets-after s cs = rw (book-fed s cs) (counts isCabinet (λ b. b .network .vertices) cabinet-step (s .book) cs)
 
--- the spans are the accepted commands that add one
-pub spans-counted : (rule : Rule) (cs : List Command) → edgeCount (bookAfter rule cs .network) ≡ countThat addsSpan cs
-unfolding bookAfter emptyBook edgeCount addsSpan
-spans-counted rule cs = counts isSpan (λ b. edgeCount (b .network)) span-step (emptyBook rule) cs ∙ zero-add (countThat addsSpan cs)
+-- and as many spans more as commands that add one
+pub spans-after : (s : State) (cs : List Command) → edgeCount (stateAfter s cs .book .network) ≡ edgeCount (s .book .network) + spanCommands cs
+unfolding spanCommands
+spans-after s cs = rw (book-fed s cs) (counts isSpan (λ b. edgeCount (b .network)) span-step (s .book) cs)
+
+-- so from an empty network the cabinets are the commands that add one
+pub cabinets-from-none : (rule : Rule) (cs : List Command) → stateAfter (emptyState rule) cs .book .network .vertices ≡ cabinetCommands cs
+unfolding emptyState emptyBook
+cabinets-from-none rule cs = cabinets-after (emptyState rule) cs ∙ zero-add (cabinetCommands cs)
+
+-- and so are the spans
+pub spans-from-none : (rule : Rule) (cs : List Command) → edgeCount (stateAfter (emptyState rule) cs .book .network) ≡ spanCommands cs
+unfolding emptyState emptyBook edgeCount
+spans-from-none rule cs = spans-after (emptyState rule) cs ∙ zero-add (spanCommands cs)
+
+-- the book's cabinets and spans are the accepted commands that add one
+pub cabinets-counted : (rule : Rule) (cs : List Command) → bookAfter rule cs .network .vertices ≡ cabinetCommands cs
+cabinets-counted rule cs = rw (← book-after-commands rule cs) (cabinets-from-none rule cs)
+
+pub spans-counted : (rule : Rule) (cs : List Command) → edgeCount (bookAfter rule cs .network) ≡ spanCommands cs
+spans-counted rule cs = rw (← book-after-commands rule cs) (spans-from-none rule cs)
 
 -- the report: refusal, place, commands accepted, answer bytes, cabinets and spans
 pub report-is : (rule : Rule) (run : Run) → reportOf rule run
@@ -86,8 +80,8 @@ pub report-is : (rule : Rule) (run : Run) → reportOf rule run
     ∷ placeAfter (run .accepted)
     ∷ length (run .accepted)
     ∷ length (bytesOfAnswers (run .accepted))
-    ∷ countThat addsCabinet (commandsOf run)
-    ∷ countThat addsSpan (commandsOf run)
+    ∷ cabinetCommands (commandsOf run)
+    ∷ spanCommands (commandsOf run)
     ∷ []
 unfolding reportOf
 report-is rule run = rw (cabinets-counted rule (commandsOf run), spans-counted rule (commandsOf run))

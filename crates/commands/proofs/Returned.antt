@@ -53,7 +53,7 @@ module _ (room : ℕ) (caps : Capacities) (s : State) (journal : List ℕ) where
           → RoomForAll room (all .accepted) ⊎ CutAt room (all .accepted) → CutAt room (all .accepted)
       go e (inl w) =
           let at = refused-at-place caps s journal (rw (all-fit-whole room (all .accepted) (all .refusal) w) at e) in
-          absurd (omega (arith, refused-stage caps _ (at .refuses) .to))
+          absurd (omega (arith, refused-stage caps _ (at .is-so) .to))
       go e (inr c) = c
 
   -- it ends in any other way exactly if all answers fit and the run without regard to room ends so
@@ -81,7 +81,7 @@ module _ (room : ℕ) (caps : Capacities) (s : State) (journal : List ℕ) where
       go : StopsWithin room caps s journal (runWithin room caps s (textOf journal)) → Between 1 3 r
       go (inl stops) =
           let at : RefusedAt caps s journal (runWithin room caps s (textOf journal) .accepted) r = rw e at stops in
-          let n = refused-stage caps _ (at .refuses) in
+          let n = refused-stage caps _ (at .is-so) in
           record { from = omega arith; to = omega arith }
       go (inr n) = let same : noRoom ≡ r = cc (n .0) in subst (Between 1 3) same (record { from = omega arith; to = omega arith })
 

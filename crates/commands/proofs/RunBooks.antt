@@ -74,7 +74,8 @@ Answered caps s [] = Unit
 Answered caps s (a ∷ later) =
     (refusalOf caps s (a .command) ≡ none) × (a .answer ≡ answer s (a .command)) × Answered caps (after s (a .command)) later
 
-steps-answered : (caps : Capacities) {s : State} {journal : List ℕ} {l : List Accepted} {end : Option Refusal}
+-- so it is with every list of steps
+pub steps-answered : (caps : Capacities) {s : State} {journal : List ℕ} {l : List Accepted} {end : Option Refusal}
     → RunsTo caps s journal l end → Answered caps s l
 steps-answered caps ends = tt
 steps-answered caps (refuses f) = tt
@@ -85,7 +86,7 @@ first-answered caps s l w zero = tt
 first-answered caps s [] w (suc k) = tt
 first-answered caps s (a ∷ later) w (suc k) = (w .0, w .1, first-answered caps (after s (a .command)) later (w .2) k)
 
--- so it is with the accepted commands of every run
+-- and with the accepted commands of every run
 pub run-answered : (room : ℕ) (caps : Capacities) (s : State) (journal : List ℕ) → Answered caps s (runWithin room caps s (textOf journal) .accepted)
 run-answered room caps s journal =
     subst

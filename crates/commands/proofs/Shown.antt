@@ -1,11 +1,12 @@
--- The marked histories and the calls of the entry hold of the definitions: each table is computed at once.
+-- The marked histories, the calls of the run's entry and the forecasts hold of the definitions: each table is computed at once.
 use mathlib.Core.List.{List, [], _∷_, _++_, map}
 use mathlib.Core.Path.{_≡_, refl, ap}
 use lib.ListN.{replicate}
 use Rattle.commands.specs.Register.{program, programReport}
+use Rattle.commands.specs.Forecast.{forecast}
 use Rattle.commands.specs.Histories.{History, EachShown, histories}
 use Rattle.commands.specs.Histories
-use Rattle.commands.specs.Calls.{sevens, call, atStart, startCalls, stopCalls, cabinetAnswers, acceptedCalls, entered}
+use Rattle.commands.specs.Calls.{sevens, call, atStart, startCalls, stopCalls, cabinetAnswers, acceptedCalls, entered, foretold, forecasts}
 use Rattle.commands.proofs.Computed.{computed}
 
 -- the history that the program makes of the same input
@@ -41,3 +42,8 @@ place-shown = refl
 pub long-input-shown : program (replicate 65537 0x01) ≡ 0xFF ∷ 3 ∷ 0 ∷ 0 ∷ 0 ∷ 0 ∷ []
 unfolding computed
 long-input-shown = refl
+
+-- So much is forecast of each journal.
+pub forecasts-shown : map (λ f. forecast (f .journal)) forecasts ≡ map (λ f. f .forecast) forecasts
+unfolding computed foretold forecasts
+forecasts-shown = refl

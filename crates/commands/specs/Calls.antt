@@ -1,13 +1,14 @@
--- Calls of the entry in plain numbers, line by line of the table of causes: what is handed in, what is returned, and what every buffer
--- then holds.
+-- Calls of the entries in plain numbers. Of the run, line by line of the table of causes: what is handed in, what is returned, and what
+-- every buffer then holds. Of the forecast: journals, and what is returned.
 use mathlib.Core.List.{List, [], _∷_, _++_}
 use Prim.Native.Nat.{ℕ, zero, suc}
 use lib.ListN.{replicate}
 use Rattle.commands.specs.Refusal.{Capacities}
 use Rattle.commands.specs.Entry.{Buffers, Outcome}
 use Rattle.commands.specs.Register.{register}
+use Rattle.commands.specs.Forecast.{Forecast}
 
--- What the entry is handed, and what it returns and leaves.
+-- What the run's entry is handed, and what it returns and leaves.
 pub record Call : Type 0 where
   pub capacities : Capacities
   pub journal : List ℕ
@@ -177,6 +178,60 @@ acceptedCalls =
     (0 ∷ 260 ∷ 258 ∷ 774 ∷ 257 ∷ 0 ∷ [])
     ∷ []
 
--- What the entry returns and leaves for the call.
+-- What the run's entry returns and leaves for the call.
 unfoldable pub entered : Call → Outcome
 entered c = register (c .capacities) (c .journal) (c .lent)
+
+-- A journal, and what is forecast of it.
+pub record Foretold : Type 0 where
+  pub journal : List ℕ
+  pub forecast : Forecast
+
+-- The journal; then the number returned, the place and the length.
+unfoldable pub foretold : List ℕ → ℕ → ℕ → ℕ → Foretold
+foretold journal number place length = record { journal = journal; forecast = record { number = number; place = place; length = length } }
+
+unfoldable pub forecasts : List Foretold
+forecasts =
+    -- no command
+    foretold [] 0 0 0
+    -- cabinets alone: L(1) is 0, L(2) and L(3) are 1, L(4) is 2
+    ∷ foretold (0x01 ∷ []) 0 1 3
+    ∷ foretold (replicate 2 0x01) 0 2 26
+    ∷ foretold (replicate 3 0x01) 0 3 39
+    ∷ foretold (replicate 4 0x01) 0 4 92
+    -- spans alone, between cabinets that are not there: a run is refused with 6
+    ∷ foretold (0x02 ∷ 0 ∷ 0 ∷ 0 ∷ 1 ∷ []) 0 5 7
+    ∷ foretold (0x02 ∷ 0 ∷ 0 ∷ 0 ∷ 1 ∷ 0x02 ∷ 0 ∷ 0 ∷ 0 ∷ 1 ∷ []) 0 10 24
+    -- the triangle
+    ∷ foretold
+    (0x01 ∷ 0x01 ∷ 0x01 ∷ 0x02 ∷ 0 ∷ 0 ∷ 0 ∷ 1 ∷ 0x02 ∷ 0 ∷ 1 ∷ 0 ∷ 2 ∷ 0x02 ∷ 0 ∷ 2 ∷ 0 ∷ 0 ∷ [])
+    0
+    18
+    75
+    -- each question where there is nothing
+    ∷ foretold (0x03 ∷ 0 ∷ 0 ∷ []) 0 3 3
+    ∷ foretold (0x04 ∷ 0 ∷ 0 ∷ []) 0 3 3
+    ∷ foretold (0x05 ∷ 0 ∷ 0 ∷ 0 ∷ 1 ∷ []) 0 5 4
+    ∷ foretold (0x06 ∷ 0 ∷ 0 ∷ 0 ∷ 1 ∷ []) 0 5 3
+    ∷ foretold (0x07 ∷ 0 ∷ 0 ∷ 0 ∷ 1 ∷ []) 0 5 3
+    ∷ foretold (0x08 ∷ 0 ∷ 0 ∷ []) 0 3 2
+    -- 06 and 07 before three cabinets and one span: 3 and 2 for the span, 3 and 6 for the cabinets
+    ∷ foretold
+    (0x06 ∷ 0 ∷ 0 ∷ 0 ∷ 1 ∷ 0x07 ∷ 0 ∷ 0 ∷ 0 ∷ 1 ∷ 0x01 ∷ 0x01 ∷ 0x01 ∷ 0x02 ∷ 0 ∷ 0 ∷ 0 ∷ 1 ∷ [])
+    0
+    18
+    60
+    -- the longest journal, whose last question has no operands, and one byte less
+    ∷ foretold (replicate 65536 0x03) 5 65535 0
+    ∷ foretold (replicate 65535 0x03) 0 65535 65535
+    -- 3: a journal too long, of bytes that are no command's
+    ∷ foretold (replicate 65537 0x00) 3 0 0
+    -- 4: an unknown byte, alone, behind a command, and behind one that a run refuses with 7
+    ∷ foretold (0x00 ∷ []) 4 0 0
+    ∷ foretold (0x01 ∷ 0x09 ∷ 0x01 ∷ []) 4 1 0
+    ∷ foretold (0x08 ∷ 0 ∷ 5 ∷ 0xFF ∷ []) 4 3 0
+    -- 5: operands cut off, alone, and behind a command that a run refuses with 8
+    ∷ foretold (0x02 ∷ 0 ∷ 0 ∷ []) 5 0 0
+    ∷ foretold (0x01 ∷ 0x02 ∷ 0 ∷ 0 ∷ 0 ∷ 0 ∷ 0x07 ∷ 0 ∷ 0 ∷ 0 ∷ []) 5 6 0
+    ∷ []

@@ -1,7 +1,7 @@
 -- What is to be known of each command, in one place; what it answers and what it leaves.
 use mathlib.Core.List.{List, [], _∷_}
 use mathlib.Core.Option.{Option, none, some}
-use Prim.Native.Nat.{ℕ}
+use Prim.Native.Nat.{ℕ, _+_, _*_}
 use Rattle.graph.specs.Network.{Edge, edgeBetween, edgeCount}
 use Rattle.graph.specs.Groups.{bridge}
 use Rattle.graph.specs.Block.{sharedBlock}
@@ -18,11 +18,13 @@ pub data Demand : Type 0 where
   differ : ℕ → ℕ → Demand
   shareDistrict : ℕ → ℕ → Demand
 
--- A command that adds nothing to the network: its operands, what must hold of them, and its answer from the state.
+-- A command that adds nothing to the network: its operands, what must hold of them, its answer from the state, and the length in
+-- bytes that document 02 allows it, where there are at most so many cabinets and so many spans (`plain-no-longer`: it never exceeds it).
 pub record PlainCommand : Type 0 where
   pub operands : List Field
   pub demands : List Demand
   pub told : State → Plain
+  pub longest : ℕ → ℕ → ℕ
 
 -- A command adds a cabinet; or a span, whose ends are its first operands and must differ, with what operands and demands there are
 -- besides; or nothing.
@@ -31,8 +33,9 @@ pub data Facts : Type 0 where
   addsSpan : Edge → List Field → List Demand → Facts
   addsNothing : PlainCommand → Facts
 
-unfoldable pub asks : List Field → List Demand → (State → Plain) → Facts
-asks operands demands told = addsNothing (record { operands = operands; demands = demands; told = told })
+unfoldable pub asks : List Field → List Demand → (State → Plain) → (ℕ → ℕ → ℕ) → Facts
+asks operands demands told longest =
+    addsNothing (record { operands = operands; demands = demands; told = told; longest = longest })
 
 -- The answer to 05: the name of the block that has an edge at each vertex, if there is one.
 unfoldable pub meshAnswer : Book → Option ℕ → Plain
@@ -43,15 +46,29 @@ meshAnswer b (some s) = meshShared (nameOf (b .blocks) s)
 unfoldable pub facts : Command → Facts
 facts addCabinet = addsCabinet
 facts (addSpan a b) = addsSpan (edgeBetween a b) [] []
-facts (districtName a) = asks (cabinet a ∷ []) [] (λ s. districtNamed (nameOf (s .book .components) a))
-facts (ringName a) = asks (cabinet a ∷ []) [] (λ s. ringNamed (nameOf (s .book .bridgeBlocks) a))
+facts (districtName a) =
+    asks (cabinet a ∷ []) [] (λ s. districtNamed (nameOf (s .book .components) a)) (λ cabinets spans. 3)
+facts (ringName a) =
+    asks (cabinet a ∷ []) [] (λ s. ringNamed (nameOf (s .book .bridgeBlocks) a)) (λ cabinets spans. 3)
 facts (sharedMesh a b) =
-    asks (cabinet a ∷ cabinet b ∷ []) (differ a b ∷ []) (λ s. meshAnswer (s .book) (sharedBlock (s .book .network) a b))
+    asks
+    (cabinet a ∷ cabinet b ∷ [])
+    (differ a b ∷ [])
+    (λ s. meshAnswer (s .book) (sharedBlock (s .book .network) a b))
+    (λ cabinets spans. 4)
 facts (soleSpans a b) =
-    asks (cabinet a ∷ cabinet b ∷ []) (shareDistrict a b ∷ []) (λ s. soleSpansAre (bridgesBetween (s .book .network) a b))
+    asks
+    (cabinet a ∷ cabinet b ∷ [])
+    (shareDistrict a b ∷ [])
+    (λ s. soleSpansAre (bridgesBetween (s .book .network) a b))
+    (λ cabinets spans. 3 + 2 * spans)
 facts (cutCabinets a b) =
-    asks (cabinet a ∷ cabinet b ∷ []) (shareDistrict a b ∷ []) (λ s. cutCabinetsAre (cutsBetween (s .book .network) a b))
-facts (isSole x) = asks (span x ∷ []) [] (λ s. soleIs (bridge (s .book .network) x))
+    asks
+    (cabinet a ∷ cabinet b ∷ [])
+    (shareDistrict a b ∷ [])
+    (λ s. cutCabinetsAre (cutsBetween (s .book .network) a b))
+    (λ cabinets spans. 3 + 2 * cabinets)
+facts (isSole x) = asks (span x ∷ []) [] (λ s. soleIs (bridge (s .book .network) x)) (λ cabinets spans. 2)
 
 -- The operands, in their order.
 unfoldable pub operandsOf : Facts → List Field

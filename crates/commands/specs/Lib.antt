@@ -8,6 +8,7 @@ pub mod Text
 pub mod Run
 pub mod Entry
 pub mod Register
+pub mod Forecast
 pub mod Decode
 pub mod NameList
 pub mod WholeRun

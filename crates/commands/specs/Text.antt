@@ -1,7 +1,7 @@
 -- A journal as the commands that its bytes spell, whatever a run makes of them.
 use mathlib.Core.List.{List, [], _∷_, _++_}
 use mathlib.Core.Option.{Option, none, some}
-use Prim.Native.Nat.{ℕ, zero, suc}
+use Prim.Native.Nat.{ℕ, zero, suc, _+_}
 use Rattle.commands.specs.Command.{Command, unknownByte, cutOff, command, readCommand}
 use Rattle.commands.specs.Facts.{commandBytes}
 use Rattle.commands.specs.Refusal.{Refusal, badByte, cutOperands}
@@ -38,6 +38,11 @@ textFrom place zero (byte ∷ bytes) =
 
 unfoldable pub textOf : List ℕ → Text
 textOf journal = textFrom 0 0 journal
+
+-- The journal's bytes that the commands took: where what is behind them begins.
+unfoldable pub placeBehind : List Read → ℕ
+placeBehind [] = 0
+placeBehind (r ∷ later) = suc (r .width) + placeBehind later
 
 -- The bytes of commands, one after another.
 unfoldable pub journalBytes : List Command → List ℕ

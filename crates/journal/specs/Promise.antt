@@ -1,12 +1,14 @@
--- What the entry promises, in every case and with nothing required of its caller.
+-- What the entries promise, in every case and with nothing required of their caller.
 use mathlib.Core.List.{List}
+use mathlib.Core.Logic.{_⊎_}
 use mathlib.Core.Path.{_≡_}
 use Prim.Native.Nat.{ℕ}
-use lib.ListN.{length}
+use lib.ListN.{length, take}
 use Rattle.commands.specs.Refusal.{Capacities}
 use Rattle.commands.specs.Entry.{Buffers, wholeRun, acceptedCommands}
 use Rattle.commands.specs.Register.{registerRule, register}
 use Rattle.commands.specs.WholeRun.{WholeRunClaim}
+use Rattle.commands.specs.Forecast.{forecast, Suffices}
 
 -- For these capacities, this journal and these buffers: the returned number and every buffer are those of the register, and the
 -- whole-run claim holds of the accepted commands and of the answer buffer as it stands on return.
@@ -19,3 +21,15 @@ pub record RegisterPromise (caps : Capacities) (journal : List ℕ) (lent : Buff
       registerRule
       (acceptedCommands (wholeRun registerRule caps journal (length (lent .work)) (length (lent .answers)) (length (lent .report))))
       (left .answers)
+
+-- For this journal: the returned number and the two numbers that are written are those of the forecast, and the length suffices.
+pub record ForecastPromise (journal : List ℕ) (returned place room : ℕ) : Type 0 where
+  pub returned-is : returned ≡ forecast journal .number
+  pub place-is : place ≡ forecast journal .place
+  pub length-is : room ≡ forecast journal .length
+  -- a run of a journal that it accepts never gives 11 with that much
+  pub suffices : returned ≡ 0 → Suffices journal room
+  -- a journal that it refuses with 4 or 5: it accepts the bytes before that place, and no run of the whole journal gives 11 with the
+  -- length for these
+  pub suffices-before : (returned ≡ 4) ⊎ (returned ≡ 5)
+      → (forecast (take place journal) .number ≡ 0) × Suffices journal (forecast (take place journal) .length)

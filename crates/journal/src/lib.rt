@@ -1,11 +1,12 @@
-// The entry that a planner calls: the refusals before the journal is read, the run, and the report.
+// The entries that a planner calls. Of a run: the refusals before the journal is read, the run, and the report. Of the forecast: its three numbers.
 ghost use mathlib.Core.Bool.{not};
 ghost use mathlib.Core.Path.{_≡_};
 ghost use Rattle.commands.specs.Refusal.{firstThatApplies};
 ghost use Rattle.commands.specs.Entry.{workNeeded, goodCapacities, startLines, numberOf, over};
 ghost use Rattle.run.specs.Promise.{capacitiesOf, sixNumbers};
 ghost use Rattle.journal.specs.Inside.Report.{Reportable};
-ghost use Rattle.journal.specs.Promise.{RegisterPromise};
+ghost use Rattle.journal.specs.Promise.{RegisterPromise, ForecastPromise};
+use forecast::forecast_of;
 use forest::clear;
 use forest::words_needed;
 use numbers::Limits;
@@ -99,4 +100,16 @@ pub extern "C" fn register_run(
     clear(work, work_needed(limits));
     fill_report(report, p);
     p.refusal
+}
+
+// Forecasts a length of the answer buffer that suffices for a journal, and tells a place: the journal's length, where it cannot be read, or 0 if it is
+// too long.
+#[no_mangle]
+pub extern "C" fn register_forecast(journal: &[u8], place: &mut u32, length: &mut u32) -> u32
+    ensures { λ r. ⌜ ForecastPromise (now (journal .entry)) r (now (place .exit)) (now (length .exit)) ⌝ }
+{
+    let f = forecast_of(journal);
+    *place = f.place;
+    *length = f.length;
+    f.number
 }

@@ -10,6 +10,5 @@ pub mod Single
 pub mod Doubling
 pub mod Advance
 pub mod Log
-pub mod LogMonotone
 pub mod Bound
 pub mod Book

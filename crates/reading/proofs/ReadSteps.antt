@@ -1,6 +1,6 @@
 -- What is read of a command by its byte: the bytes of commands with one operand and with two, and where the operands stand.
 use mathlib.Core.Bool.{true, false, _&&_, and-false}
-use mathlib.Core.List.{List}
+use mathlib.Core.List.{List, [], _∷_}
 use mathlib.Core.Logic.{_⊎_, inl, inr, ⊎-elim}
 use mathlib.Core.Option.{none, some}
 use mathlib.Core.Path.{_≡_, refl, ap, ap₂, _∙_}
@@ -11,10 +11,11 @@ use lib.ListN.{length, getD, drop}
 use lib.Seq.{getD-drop}
 use Rattle.commands.specs.Bytes.{number}
 use Rattle.graph.proofs.Truth.{true-or-false, eqb-eq}
-use Rattle.commands.specs.Command.{Command, Form, unknown, takes, forms, form, operand, unknownByte, cutOff, command, readForm, readCommand}
+use Rattle.commands.specs.Command.{Command, Form, unknown, takes, forms, form, operand, Reading, unknownByte, cutOff, command, readForm, readCommand}
 use Rattle.commands.proofs.Cases.{le-or-gt, gt-leb, impossible}
-use Rattle.commands.proofs.Reading.{widthOf, long-enough, cut-off, unknown-byte, unknown-exactly, known-bytes}
-use Rattle.reading.specs.Inside.Reads.{OneOperand, TwoOperands, made}
+use Rattle.commands.proofs.ByPlace.{each-at, _also_}
+use Rattle.commands.proofs.Reading.{widthOf, long-enough, too-short, cut-off, unknown-byte, unknown-exactly, known-bytes}
+use Rattle.reading.specs.Inside.Reads.{OneOperand, TwoOperands, made, formWidth, badByte, cutShort, whole, passOver}
 
 -- a number in a pair of numbers or in three, one after another
 pub one-of-two : (low n : ℕ) → low ≤ n → n < low + 2 → (n ≡ low) ⊎ (n ≡ low + 1)
@@ -83,3 +84,73 @@ operand-at journal from k place e =
     ap₂ number
     (getD-drop from journal (2 * k) 0 ∙ ap (λ (i : ℕ). getD journal i 0) (let d : from + 2 * k ≡ place = omega arith in d))
     (getD-drop from journal (2 * k + 1) 0 ∙ ap (λ (i : ℕ). getD journal i 0) (let d : from + (2 * k + 1) ≡ place + 1 = omega arith in d))
+
+-- Operands that are passed over.
+module _ (byte : ℕ) (bytes : List ℕ) (width : ℕ) (wide : formWidth (form byte) ≡ some width) where
+  pub passed-whole : width ≤ length bytes → passOver byte (readCommand byte bytes) ≡ whole byte width
+  unfolding readCommand formWidth passOver
+  passed-whole h = go (form byte) wide
+    where
+      go : (f : Form) → formWidth f ≡ some width → passOver byte (readForm f bytes) ≡ whole byte width
+      go unknown e = impossible (cc)
+      go (takes n make) e =
+          let same : 2 * n ≡ width = cc in
+          rw (long-enough n make bytes (omega arith)) (ap (whole byte) same)
+
+  pub passed-cut : length bytes < width → passOver byte (readCommand byte bytes) ≡ cutShort
+  unfolding readCommand formWidth passOver
+  passed-cut h = go (form byte) wide
+    where
+      go : (f : Form) → formWidth f ≡ some width → passOver byte (readForm f bytes) ≡ cutShort
+      go unknown e = impossible (cc)
+      go (takes n make) e =
+          let same : 2 * n ≡ width = cc in
+          rw (too-short n make bytes (omega arith))
+
+-- the table of widths has that of each command byte
+pub widths-are : (byte : ℕ) → 1 ≤ byte → byte ≤ 8 → formWidth (form byte) ≡ some (getD (0 ∷ 0 ∷ 4 ∷ 2 ∷ 2 ∷ 4 ∷ 4 ∷ 4 ∷ 2 ∷ []) byte 0)
+unfolding form forms formWidth
+widths-are =
+    each-at
+    (λ byte f. 1 ≤ byte → byte ≤ 8 → formWidth f ≡ some (getD (0 ∷ 0 ∷ 4 ∷ 2 ∷ 2 ∷ 4 ∷ 4 ∷ 4 ∷ 2 ∷ []) byte 0))
+    forms
+    unknown
+    ((λ l h. absurd (omega arith))
+    also (λ l h. refl)
+    also (λ l h. refl)
+    also (λ l h. refl)
+    also (λ l h. refl)
+    also (λ l h. refl)
+    also (λ l h. refl)
+    also (λ l h. refl)
+    also (λ l h. refl)
+    also tt)
+    (λ byte k l h. absurd (omega arith))
+
+-- a command whose operands were passed over: it was read, and has the byte
+pub record CommandPassed (byte : ℕ) (reading : Reading) (passed width : ℕ) : Type 0 where
+  pub this : Command
+  pub is-read : reading ≡ command this width
+  pub its-byte : passed ≡ byte
+
+pub command-passed : (byte : ℕ) (reading : Reading) (passed width : ℕ) → whole passed width ≡ passOver byte reading
+    → CommandPassed byte reading passed width
+unfolding passOver
+command-passed byte unknownByte passed width e = impossible (cc)
+command-passed byte cutOff passed width e = impossible (cc)
+command-passed byte (command c w) passed width e =
+    let same : w ≡ width = cc in
+    record { this = c; is-read = ap (command c) same; its-byte = cc }
+
+-- nothing else is passed over so
+pub unknown-passed : (byte : ℕ) (reading : Reading) → badByte ≡ passOver byte reading → reading ≡ unknownByte
+unfolding passOver
+unknown-passed byte unknownByte e = refl
+unknown-passed byte cutOff e = impossible (cc)
+unknown-passed byte (command c w) e = impossible (cc)
+
+pub cut-passed : (byte : ℕ) (reading : Reading) → cutShort ≡ passOver byte reading → reading ≡ cutOff
+unfolding passOver
+cut-passed byte unknownByte e = impossible (cc)
+cut-passed byte cutOff e = refl
+cut-passed byte (command c w) e = impossible (cc)

@@ -28,19 +28,25 @@ use denote.Struct.Laws as LL
 use denote.Struct.Rest.{own-open, own-shut}
 use borrow.Fn.World.{World}
 use Rattle.commands.specs.Command.{readCommand}
-use Rattle.reading.specs.Inside.Reads.{readingOf}
+use Rattle.reading.specs.Inside.Reads.{readingOf, passingOf, passOver}
 use Rattle.reading.specs.declared.reader.Reader.{Reader}
 use Rattle.reading.specs.declared.read.Taken.{Taken}
+use Rattle.reading.specs.declared.read.Passed.{Passed}
 use Rattle.reading.proofs.reader.Reader as T
 use Rattle.reading.proofs.reader.Reader.Laws as T′
 use Rattle.reading.proofs.read.Taken as S
 use Rattle.reading.proofs.read.Taken.Laws as S′
+use Rattle.reading.proofs.read.Passed as Q
+use Rattle.reading.proofs.read.Passed.Laws as Q′
 use Rattle.reading.proofs.read.take_at as take-at
+use Rattle.reading.proofs.read.pass_at as pass-at
 use Rattle.reading.proofs.reader.reader_at as reader-at
 use Rattle.reading.proofs.reader.place as place
 use Rattle.reading.proofs.reader.take as take
+use Rattle.reading.proofs.reader.pass as pass
 use Rattle.reading.proofs.reader.further as further
 use Rattle.reading.proofs.reader.taken_at as taken-at
+use Rattle.reading.proofs.reader.passed_at as passed-at
 use Rattle.reading.proofs.reader.place_after as place-after
 use Rattle.reading.proofs.ReaderWalk.{Known, Promise, nothing, that, W}
 
@@ -132,6 +138,34 @@ taken-at-promise = record {
   says = λ κs a t. Read (now (a .0)) (a .1 .0) t;
 }
 
+-- the same, the operands passed over
+abbrev pub PassedOver : List ℕ → ℕ → Passed → Type 0
+PassedOver journal at t = passingOf t ≡ passOver (getD journal at 0) (readCommand (getD journal at 0) (drop (at + 1) journal))
+
+abbrev pub pass-at-promise : Promise
+pass-at-promise = record {
+  ended = pass-at.ended;
+  params = (bytes, (count, tt));
+  asks = λ κs a. that (a .1 .0 < length (now (a .0)));
+  says = λ κs a t. PassedOver (now (a .0)) (a .1 .0) t;
+}
+
+abbrev pub pass-promise : Promise
+pass-promise = record {
+  ended = pass.ended;
+  params = (reader, tt);
+  asks = λ κs a. that (a .0 .at < length (now (a .0 .journal)));
+  says = λ κs a t. PassedOver (now (a .0 .journal)) (a .0 .at) t;
+}
+
+abbrev pub passed-at-promise : Promise
+passed-at-promise = record {
+  ended = passed-at.ended;
+  params = (bytes, (count, tt));
+  asks = λ κs a. that (a .1 .0 < length (now (a .0)));
+  says = λ κs a t. PassedOver (now (a .0)) (a .1 .0) t;
+}
+
 abbrev pub place-after-promise : Promise
 place-after-promise = record {
   ended = place-after.ended;
@@ -155,6 +189,9 @@ module _ (w : World) where
 
   pub taken-typed : (t : Taken) (u : Val) → Is S.the-row t (u ∷ []) → Holds (hasTy S′.mir u) × WT u
   taken-typed t u is = EL.lawful S.the-type S′.the-laws 𝓤 H (𝓖 .A) (W w) tt .typed t (u ∷ []) is .0
+
+  pub passed-typed : (t : Passed) (u : Val) → Is Q.the-row t (u ∷ []) → Holds (hasTy Q′.mir u) × WT u
+  passed-typed t u is = EL.lawful Q.the-type Q′.the-laws 𝓤 H (𝓖 .A) (W w) tt .typed t (u ∷ []) is .0
 
   abbrev pub counts : ℕ → Fml
   counts n = owns (usize ∷ []) (n, tt) (uint-vals w64 n, tt)

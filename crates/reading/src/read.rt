@@ -4,7 +4,9 @@ ghost use Prim.Native.Nat.{_+_, _<_, _≤_};
 ghost use lib.ListN.{length, getD, drop};
 ghost use Rattle.commands.specs.Bytes.{number};
 ghost use Rattle.commands.specs.Command.{readCommand};
-ghost use Rattle.reading.specs.Inside.Reads.{meaning, readingOf, OneOperand, TwoOperands, MadeOfOne, MadeOfTwo};
+ghost use Rattle.commands.specs.Command.{form};
+ghost use Rattle.reading.specs.Inside.Reads.{meaning, readingOf, OneOperand, TwoOperands, MadeOfOne, MadeOfTwo, formWidth, passingOf, passOver};
+ghost use mathlib.Core.Option.{some};
 use numbers::Edge;
 use numbers::Vertex;
 
@@ -97,5 +99,44 @@ pub(crate) fn take_at(journal: &[u8], at: usize) -> Taken
         2 | 5..=7 => take_two(journal, byte, at + 1),
         3..=4 | 8 => take_one(journal, byte, at + 1),
         _ => Taken::Unknown,
+    }
+}
+
+// What stands at a place of the journal where the operands are not looked at: as above, but of a command its byte and the number of its
+// operands' bytes.
+pub enum Passed {
+    Unknown,
+    CutOff,
+    Command(u8, usize),
+}
+
+// The number of the operands' bytes, by the command byte.
+const WIDTHS: [usize; 9] = [0, 0, 4, 2, 2, 4, 4, 4, 2];
+
+// A command with so many bytes of operands, from a place on.
+fn pass_over(journal: &[u8], byte: u8, from: usize, width: usize) -> Passed
+    requires { ⌜ (formWidth (form byte) ≡ some width) × (from ≤ length (now journal)) ⌝ }
+    ensures { λ r. ⌜ passingOf r ≡ passOver byte (readCommand byte (drop from (now (journal .entry)))) ⌝ }
+{
+    if journal.len() - from < width {
+        return Passed::CutOff;
+    }
+    Passed::Command(byte, width)
+}
+
+// What stands at a place of the journal, the operands passed over. The commands that come in long rows have arms of their own.
+pub(crate) fn pass_at(journal: &[u8], at: usize) -> Passed
+    requires { ⌜ at < length (now journal) ⌝ }
+    ensures { λ r. ⌜ passingOf r ≡ passOver (getD (now (journal .entry)) at 0) (readCommand (getD (now (journal .entry)) at 0) (drop (at + 1) (now (journal .entry)))) ⌝ }
+{
+    let byte = journal[at];
+    match byte {
+        1 => Passed::Command(byte, 0),
+        2 => pass_over(journal, byte, at + 1, 4),
+        3..=8 => {
+            let i = byte as usize;
+            pass_over(journal, byte, at + 1, WIDTHS[i])
+        }
+        _ => Passed::Unknown,
     }
 }

@@ -1,12 +1,14 @@
 // The reader over the caller's journal: the caller's own bytes and a place among them. Nothing is copied. The functions over it are thin, since each
-// is proved by hand: `take` leaves the reading to `read::take_at`. Whoever runs a journal calls `taken_at` and `place_after`, whose parameters are
-// plain.
+// is proved by hand: `take` and `pass` leave the reading to `read::take_at` and `read::pass_at`. Whoever reads a journal calls `taken_at` or `passed_at`, and
+// `place_after`, whose parameters are plain.
 ghost use mathlib.Core.Path.{_≡_};
 ghost use Prim.Native.Nat.{_+_, _<_, _≤_};
 ghost use lib.ListN.{length, getD, drop};
 ghost use Rattle.commands.specs.Command.{readCommand};
-ghost use Rattle.reading.specs.Inside.Reads.{readingOf};
+ghost use Rattle.reading.specs.Inside.Reads.{readingOf, passingOf, passOver};
+use crate::read::Passed;
 use crate::read::Taken;
+use crate::read::pass_at;
 use crate::read::take_at;
 
 pub struct Reader<'a> {
@@ -36,6 +38,14 @@ pub(crate) fn take<'a>(r: Reader<'a>) -> Taken
     take_at(r.journal, r.at)
 }
 
+// The same, the operands passed over.
+pub(crate) fn pass<'a>(r: Reader<'a>) -> Passed
+    requires { ⌜ r .at < length (now (r .journal)) ⌝ }
+    ensures { λ t. ⌜ passingOf t ≡ passOver (getD (now (r .entry .journal)) (r .entry .at) 0) (readCommand (getD (now (r .entry .journal)) (r .entry .at) 0) (drop (r .entry .at + 1) (now (r .entry .journal)))) ⌝ }
+{
+    pass_at(r.journal, r.at)
+}
+
 // The reader one command further: past the command byte and its operands' bytes.
 pub(crate) fn further<'a>(r: Reader<'a>, width: usize) -> Reader<'a>
     requires { ⌜ r .at + 1 + width ≤ length (now (r .journal)) ⌝ }
@@ -53,6 +63,14 @@ pub fn taken_at(journal: &[u8], at: usize) -> Taken
     ensures { λ r. ⌜ readingOf r ≡ readCommand (getD (now (journal .entry)) at 0) (drop (at + 1) (now (journal .entry))) ⌝ }
 {
     take(reader_at(journal, at))
+}
+
+// The same, the operands passed over.
+pub fn passed_at(journal: &[u8], at: usize) -> Passed
+    requires { ⌜ at < length (now journal) ⌝ }
+    ensures { λ r. ⌜ passingOf r ≡ passOver (getD (now (journal .entry)) at 0) (readCommand (getD (now (journal .entry)) at 0) (drop (at + 1) (now (journal .entry)))) ⌝ }
+{
+    pass(reader_at(journal, at))
 }
 
 // The place of the command after one at a place, with so many bytes of operands.

@@ -4,7 +4,7 @@ use mathlib.Core.Option.{Option, none, some}
 use mathlib.Core.Path.{_≡_, refl, sym, _∙_, ap, subst}
 use Prim.Native.Nat.{ℕ, _+_, _-_, _≤_}
 use native.Mathlib.Omega.{arith}
-use lib.ListN.{length, drop, getD, length-drop}
+use lib.ListN.{length}
 use Rattle.graph.proofs.Truth.{eq-eqb, ne-eqb}
 use Rattle.commands.specs.Command.{Command, unknownByte, cutOff, command}
 use Rattle.commands.specs.Refusal.{Refusal, badByte, cutOperands, noRoom, refusalNumber, refusalOf}
@@ -13,7 +13,6 @@ use Rattle.commands.specs.Facts.{answer}
 use Rattle.commands.specs.Run.{stop, acceptedIn}
 use Rattle.commands.specs.Entry.{numberOf}
 use Rattle.commands.proofs.Cases.{impossible}
-use Rattle.commands.proofs.Reading.{operands-fit}
 use Rattle.commands.proofs.Table.{number-above-zero}
 use Rattle.forest.specs.declared.Shape.{Shape}
 use Rattle.forest.specs.Promise.{stateOf, SameBeyond, same-beyond-refl}
@@ -106,15 +105,6 @@ module _ (p : Progress) (journal old answers : List ℕ) (under : Underway p jou
       refused-on p′ old answers cutOperands (left-cut-off p journal (length answers) old (under .at-command) reads) e refl (same-beyond-refl _ old)
 
   module _ (c : Command) (width : ℕ) (reads : readHere p journal ≡ command c width) where
-    -- the operands stand in the journal
-    pub operands-stand : p .place + 1 + width ≤ length journal
-    operands-stand =
-        omega (
-          arith,
-          under .at-command,
-          simp length-drop at (operands-fit (getD journal (p .place) 0) (drop (p .place + 1) journal) c width reads),
-        )
-
     -- a step that is refused
     pub step-refused-on : (p′ : Progress) (new : List ℕ) (number : ℕ) → StepPromise (p .shape) c old new (S.Refused number)
         → p′ ≡ refusedProgress p number → RunOn p p′ journal old new answers answers

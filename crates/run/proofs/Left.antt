@@ -1,12 +1,10 @@
 -- What is left of a run begins with what stands at its place.
-use mathlib.Core.List.{List, [], _∷_}
+use mathlib.Core.List.{List, []}
 use mathlib.Core.Option.{none, some}
 use mathlib.Core.Path.{_≡_, _∙_, ap}
 use Prim.Native.Nat.{ℕ, _+_, _-_, _≤_, _<_}
 use native.Mathlib.Omega.{arith}
-use native.Mathlib.Numerals.{add-one}
-use lib.ListN.{length, drop, getD, drop-of-length-le}
-use lib.Seq.{drop-cons, drop-drop}
+use lib.ListN.{length, drop}
 use Rattle.naming.specs.State.{State}
 use Rattle.commands.specs.Command.{Command, unknownByte, cutOff, command}
 use Rattle.commands.specs.Refusal.{Refusal, badByte, cutOperands, noRoom, Capacities, refusalOf}
@@ -14,7 +12,8 @@ use Rattle.commands.specs.Answer.{answerBytes}
 use Rattle.commands.specs.Facts.{after, answer}
 use Rattle.commands.specs.Text.{Read, Text, followedBy, textFrom}
 use Rattle.commands.specs.Run.{stop, andThen, acceptedIn, runWithin}
-use Rattle.commands.proofs.Steps.{text-ends, text-unknown, text-cut-off, text-goes-on, within-ends, within-refuses, within-no-room, within-accepts}
+use Rattle.commands.proofs.Steps.{within-ends, within-refuses, within-no-room, within-accepts}
+use Rattle.commands.proofs.TextAt.{textHere, text-at-end, text-at-unknown, text-at-cut-off, text-at-command}
 use Rattle.forest.specs.Promise.{stateOf}
 use Rattle.step.specs.Promise.{capacitiesOf}
 use Rattle.run.specs.declared.Progress.{Progress}
@@ -29,35 +28,25 @@ module _ (p : Progress) (journal : List ℕ) (room : ℕ) (t : List ℕ) where
   abbrev capsHere : Capacities
   capsHere = capacitiesOf (p .shape .limits)
 
+  -- what is left is the run over the text from there on
+  left-is : (text : Text) → textHere journal (p .place) ≡ text → leftOf p journal room t ≡ runWithin (room - p .written) capsHere stateHere text
+  unfolding leftOf
+  left-is text e = ap (runWithin (room - p .written) capsHere stateHere) e
+
   -- nothing is left behind the journal's end
   pub left-at-end : length journal ≤ p .place → leftOf p journal room t ≡ record { accepted = []; refusal = none }
-  unfolding leftOf
-  left-at-end h =
-      rw (drop-of-length-le journal h, text-ends (p .place)) (within-ends (room - p .written) capsHere stateHere none)
+  left-at-end h = left-is _ (text-at-end journal (p .place) h) ∙ within-ends _ _ _ none
 
   module _ (at-command : p .place < length journal) where
-    -- the byte at the run's place, and those behind it
-    abbrev byteHere : ℕ
-    byteHere = getD journal (p .place) 0
-
-    abbrev bytesBehind : List ℕ
-    bytesBehind = drop (p .place + 1) journal
-
-    -- what is left is the run over the text from there on
-    left-is : (text : Text) → textFrom (p .place) 0 (byteHere ∷ bytesBehind) ≡ text
-        → leftOf p journal room t ≡ runWithin (room - p .written) capsHere stateHere text
-    unfolding leftOf
-    left-is text e = rw (drop-cons journal (p .place) 0 at-command, ← add-one (p .place)) (ap (runWithin (room - p .written) capsHere stateHere) e)
-
     -- an unknown byte
     pub left-unknown : readHere p journal ≡ unknownByte → leftOf p journal room t ≡ stop badByte
     unfolding stop
-    left-unknown e = left-is _ (text-unknown (p .place) byteHere bytesBehind e) ∙ within-ends _ _ _ (some badByte)
+    left-unknown e = left-is _ (text-at-unknown journal (p .place) at-command e) ∙ within-ends _ _ _ (some badByte)
 
     -- cut-off operands
     pub left-cut-off : readHere p journal ≡ cutOff → leftOf p journal room t ≡ stop cutOperands
     unfolding stop
-    left-cut-off e = left-is _ (text-cut-off (p .place) byteHere bytesBehind e) ∙ within-ends _ _ _ (some cutOperands)
+    left-cut-off e = left-is _ (text-at-cut-off journal (p .place) at-command e) ∙ within-ends _ _ _ (some cutOperands)
 
     module _ (c : Command) (width : ℕ) (reads : readHere p journal ≡ command c width) where
       -- a command, as it was read
@@ -69,8 +58,7 @@ module _ (p : Progress) (journal : List ℕ) (room : ℕ) (t : List ℕ) where
       textBehind = textFrom (p .place + 1 + width) 0 (drop (p .place + 1 + width) journal)
 
       left-command : leftOf p journal room t ≡ runWithin (room - p .written) capsHere stateHere (followedBy commandHere textBehind)
-      left-command =
-          left-is _ (text-goes-on (p .place) byteHere bytesBehind reads ∙ rw (drop-drop width (p .place + 1) journal))
+      left-command = left-is _ (text-at-command journal (p .place) at-command c width reads)
 
       -- a command that is refused
       pub left-refused : {q : Refusal} → refusalOf capsHere stateHere c ≡ some q → leftOf p journal room t ≡ stop q

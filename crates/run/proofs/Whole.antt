@@ -16,7 +16,7 @@ use Rattle.commands.specs.Entry.{reportOf, over, bookAfter, numberOf}
 use Rattle.commands.specs.Register.{registerRule}
 use Rattle.commands.proofs.Place.{place-within-journal}
 use Rattle.commands.proofs.RunBooks.{empty-sound}
-use Rattle.commands.proofs.RunBound.{run-short}
+use Rattle.commands.proofs.ForecastRoom.{run-answers-fit}
 use Rattle.commands.proofs.WholeRun.{register-mates}
 use Rattle.numbers.specs.declared.Limits.{Limits}
 use Rattle.forest.specs.declared.Shape.{Shape}
@@ -145,11 +145,11 @@ module _ (limits : Limits) (journal old oldAnswers : List ℕ) where
       let place : p .place ≡ placeAfter (whole .accepted) = cc numbers in
       let written : p .written ≡ length (bytesOfAnswers (whole .accepted)) = cc numbers in
       let within = place-within-journal (length oldAnswers) (capacitiesOf limits) (emptyState registerRule) journal in
-      let bound = run-short (capacitiesOf limits) few-vertices few-edges (length oldAnswers) (emptyState registerRule) journal (empty-sound (capacitiesOf limits) registerRule register-mates) in
+      let bound = run-answers-fit registerRule register-mates (capacitiesOf limits) (length oldAnswers) journal short in
       record {
         numbers-are = numbers;
         answers-are = ap (λ (b : Behind). b .answers) left;
         same-beyond = far .same-beyond;
         place-fits = omega (arith, place, within);
-        written-fits = omega (arith, written, bound, within);
+        written-fits = omega (arith, written, bound);
       }

@@ -1,17 +1,21 @@
-//! Measures the engines against each other: journals of several shapes at three sizes.
+//! Measures the engines against each other: runs of journals of several shapes at three sizes, and
+//! forecasts of long journals.
 //!
-//!     bench [--quick]     with --quick one run of each, for a look
-//!     bench --only SHAPE  the last engine alone, on this shape at the greatest size, for two
-//!                         seconds: for a profiler
+//!     bench [--quick]             with --quick one run of each, for a look
+//!     bench --forecast [--quick]  the forecasts alone
+//!     bench --only SHAPE          the last engine alone, on this shape at the greatest size, for
+//!                                 two seconds: for a profiler
 //!
 //! All figures come from one process. Times are for looking; the ratios are what is compared.
 
-use differential::engine::{work_needed, Call, Engine, REPORT_NUMBERS};
+use differential::engine::{work_needed, Call, Engine, LONGEST_JOURNAL, REPORT_NUMBERS};
 use differential::incremental::Incremental;
 use differential::journals::Writer;
 use differential::layouts::{self, Layout};
 use differential::random::Random;
+use differential::second::forecast::counts;
 use differential::second::Second;
+use std::hint::black_box;
 use std::time::{Duration, Instant};
 
 const SIZES: [usize; 3] = [256, 1024, 4096];
@@ -84,6 +88,42 @@ fn wide_ranges(cabinets: usize) -> Writer {
     layout.spans.extend((0..half).map(|i| (i, cabinets - 1 - i)));
     layout.spans.extend((1..half).map(|i| (0, i)));
     written(&layout)
+}
+
+type Long = (&'static str, fn() -> Vec<u8>);
+
+/// Journals to forecast, as long as they may be. A run need not accept them.
+const LONG: [Long; 3] =
+    [("01 alone", || alike(0x01)), ("02 alone", || alike(0x02)), ("all commands", mixed)];
+
+/// A command with this byte and random operands.
+fn command(byte: u8, random: &mut Random) -> Vec<u8> {
+    let length = match byte {
+        0x01 => 1,
+        0x03 | 0x04 | 0x08 => 3,
+        _ => 5,
+    };
+    let mut bytes = vec![byte];
+    bytes.extend((1..length).map(|_| random.number() as u8));
+    bytes
+}
+
+/// As many commands of one byte as there can be.
+fn alike(byte: u8) -> Vec<u8> {
+    let one = command(byte, &mut Random::new(5));
+    one.repeat(LONGEST_JOURNAL / one.len())
+}
+
+/// Commands of every byte in random order; cabinets where no other command fits.
+fn mixed() -> Vec<u8> {
+    let mut random = Random::new(6);
+    let mut journal = Vec::new();
+    while journal.len() + 5 <= LONGEST_JOURNAL {
+        let byte = random.between(0x01, 0x08) as u8;
+        journal.extend(command(byte, &mut random));
+    }
+    journal.resize(LONGEST_JOURNAL, 0x01);
+    journal
 }
 
 /// A journal with the capacities that it is run with.
@@ -196,8 +236,16 @@ fn print_growth(name: &str, figures: &[Vec<Figure>]) {
     println!();
 }
 
+fn runs(quick: bool) -> &'static str {
+    if quick {
+        "one run"
+    } else {
+        "the least of several runs"
+    }
+}
+
 fn print_heads(quick: bool) {
-    let runs = if quick { "one run" } else { "the least of several runs" };
+    let runs = runs(quick);
     println!("Time per command in microseconds, {runs} of each journal, all in one process.");
     println!("The working table is not cleared first: it is filled with ones before each run,");
     println!("outside the time. Clearing it at the end is part of the run and of the time. The");
@@ -240,6 +288,53 @@ fn print_empty_runs(buffers: &mut Buffers, budget: Duration) {
     }
 }
 
+/// The best time of a forecast among several, and the length forecast.
+fn best_forecast(engine: &dyn Engine, journal: &[u8], budget: Duration) -> (f64, u32) {
+    let mut best = f64::INFINITY;
+    let (mut place, mut length) = (0, 0);
+    let start = Instant::now();
+    loop {
+        let clock = Instant::now();
+        let number = engine.forecast(black_box(journal), &mut place, &mut length);
+        best = best.min(clock.elapsed().as_secs_f64());
+        assert_eq!(number, 0, "{} refuses a journal of the benchmark", engine.name());
+        if start.elapsed() >= budget {
+            return (best, length);
+        }
+    }
+}
+
+/// What a forecast of each long journal costs: the version written by hand, and the register.
+fn print_forecasts(quick: bool, budget: Duration) {
+    println!("Forecasts of long journals, {} of each, all in one process:", runs(quick));
+    println!("nanoseconds per command, then microseconds per journal. The hand-written version is");
+    println!("one pass over the bytes that steps over the operands.");
+    println!();
+    print!("{:<18} {:>6} {:>6}", "journal", "bytes", "cmds");
+    for engine in engines().iter().skip(1) {
+        print!(" {:>14} {:>14}", format!("{} ns", engine.name()), "us/journal");
+    }
+    println!("{}", if engines().len() > 2 { "  reg/incr" } else { "" });
+    for (name, journal) in LONG {
+        print_forecast(name, &journal(), budget);
+    }
+}
+
+fn print_forecast(name: &str, journal: &[u8], budget: Duration) {
+    let commands: usize = counts(journal).expect("the journal is well-formed").iter().sum();
+    print!("{name:<18} {:>6} {commands:>6}", journal.len());
+    let measured: Vec<(f64, u32)> =
+        engines().iter().skip(1).map(|e| best_forecast(e.as_ref(), journal, budget)).collect();
+    for (seconds, length) in &measured {
+        assert_eq!(*length, measured[0].1, "the forecasts differ");
+        print!(" {:>14.3} {:>14.1}", 1e9 * seconds / commands as f64, 1e6 * seconds);
+    }
+    if let [(incremental, _), (register, _)] = measured[..] {
+        print!(" {:>9.2}", register / incremental);
+    }
+    println!();
+}
+
 /// Runs the last engine on one shape, and prints its time.
 fn run_only(name: &str, buffers: &mut Buffers) {
     let (_, shape) = SHAPES.iter().find(|(each, _)| *each == name).expect("no such shape");
@@ -259,6 +354,9 @@ fn main() {
         answers: vec![1; ANSWER_ROOM],
         report: [0; REPORT_NUMBERS],
     };
+    if words.iter().any(|word| word == "--forecast") {
+        return print_forecasts(quick, budget);
+    }
     if let Some(at) = words.iter().position(|word| word == "--only") {
         return run_only(words.get(at + 1).map_or("", String::as_str), &mut buffers);
     }
@@ -272,4 +370,6 @@ fn main() {
     print_growth_heads();
     all.iter().for_each(|(name, figures)| print_growth(name, figures));
     print_empty_runs(&mut buffers, budget);
+    println!();
+    print_forecasts(quick, budget);
 }

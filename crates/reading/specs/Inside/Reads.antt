@@ -3,13 +3,15 @@ use mathlib.Core.Bool.{cond}
 use mathlib.Core.Logic.{_⊎_}
 use mathlib.Core.Option.{Option, none, some}
 use mathlib.Core.Path.{_≡_}
-use Prim.Native.Nat.{ℕ}
+use Prim.Native.Nat.{ℕ, _*_}
 use lib.Dec.{eqb}
 use Rattle.commands.specs.Command.{Command, addCabinet, addSpan, districtName, ringName, sharedMesh, soleSpans, cutCabinets, isSole, Form, unknown, takes, form, Reading, unknownByte, cutOff, command}
 use Rattle.reading.specs.declared.read.Order.{Order}
 use Rattle.reading.specs.declared.read.Order.the-variants as O
 use Rattle.reading.specs.declared.read.Taken.{Taken}
 use Rattle.reading.specs.declared.read.Taken.the-variants as K
+use Rattle.reading.specs.declared.read.Passed.{Passed}
+use Rattle.reading.specs.declared.read.Passed.the-variants as P
 
 -- The command that an order is.
 unfoldable pub meaning : Order → Command
@@ -46,3 +48,24 @@ MadeOfOne byte a c = (x : ℕ → ℕ) → x 0 ≡ a → made (form byte) 1 x �
 
 abbrev pub MadeOfTwo : ℕ → ℕ → ℕ → Command → Type 0
 MadeOfTwo byte a b c = (x : ℕ → ℕ) → x 0 ≡ a → x 1 ≡ b → made (form byte) 2 x ≡ some c
+
+-- The number of the operands' bytes of a form, if it is a command's.
+unfoldable pub formWidth : Form → Option ℕ
+formWidth unknown = none
+formWidth (takes n make) = some (2 * n)
+
+-- What is known of a reading where the operands are passed over: of a command its byte and the number of its operands' bytes.
+pub data Passing : Type 0 where
+  badByte : Passing
+  cutShort : Passing
+  whole : ℕ → ℕ → Passing
+
+unfoldable pub passOver : ℕ → Reading → Passing
+passOver byte unknownByte = badByte
+passOver byte cutOff = cutShort
+passOver byte (command c width) = whole byte width
+
+unfoldable pub passingOf : Passed → Passing
+passingOf P.Unknown = badByte
+passingOf P.CutOff = cutShort
+passingOf (P.Command byte width) = whole byte width

@@ -1,8 +1,9 @@
 -- `run_order` hands the command to the step, and what is to be answered to `answer`.
 use native.Mathlib.Omega.{arith}
+use Rattle.commands.proofs.TextAt.{operands-stand}
 use Rattle.forest.specs.Promise.{few-vertices, few-edges}
 use Rattle.reading.specs.Inside.Reads.{meaning}
-use Rattle.run.proofs.Further.{was-done, operands-stand, step-refused-on, answered-on}
+use Rattle.run.proofs.Further.{was-done, step-refused-on, answered-on}
 use borrow.Author.Needs.{needs}
 use Rattle.run.proofs.run_order.Statement.{statement}
 use Rattle.run.proofs.run_order.Tie as tie
@@ -11,11 +12,9 @@ place-after-requires : tie.Need-place-after-requires
 place-after-requires c κs =
     let s = c .before .before .before .before in
     operands-stand
-    (s .args .p)
     (s .args .journal .now)
-    (s .args .work .now)
-    (s .args .answers .now)
-    (s .pre .underway)
+    (s .args .p .place)
+    (s .pre .underway .at-command)
     (meaning (s .args .order))
     (s .args .width)
     (s .pre .reads)

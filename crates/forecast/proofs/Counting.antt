@@ -1,0 +1,78 @@
+-- The ways in which a command is counted: as a cabinet, as a span, or by the greatest length of its answer.
+use mathlib.Core.Bool.{true}
+use mathlib.Core.List.{List, [], _∷_}
+use mathlib.Core.Path.{_≡_, refl}
+use Prim.Native.Nat.{ℕ, zero, suc, _+_, _*_, _≤_}
+use native.Mathlib.Omega.{arith}
+use lib.Dec.{leb}
+use lib.ListN.{getD}
+use Rattle.graph.specs.Lists.{allIn}
+use Rattle.graph.specs.Network.{Edge}
+use Rattle.graph.proofs.Truth.{and-left, and-right, leb-le}
+use Rattle.commands.specs.Field.{Field}
+use Rattle.commands.specs.Command.{Command, addCabinet, addSpan, districtName, ringName, sharedMesh, soleSpans, cutCabinets, isSole, commandByte}
+use Rattle.commands.specs.Facts.{Demand, PlainCommand, addsCabinet, addsSpan, addsNothing, asks, facts, additionOf}
+use Rattle.commands.specs.Forecast.{isCabinet, isSpan, longestPlain}
+use Rattle.forecast.specs.declared.Tally.{Tally}
+use Rattle.forecast.specs.Inside.Tallies.{answerMore, countedBy, plainLength, Counted}
+
+-- The tally with a cabinet more, and with a span more.
+abbrev pub cabinetMore : Tally → Tally
+cabinetMore t =
+    record { cabinets = t .cabinets + 1; spans = t .spans; bytes = t .bytes; spanlists = t .spanlists; cabinetlists = t .cabinetlists }
+
+abbrev pub spanMore : Tally → Tally
+spanMore t =
+    record { cabinets = t .cabinets; spans = t .spans + 1; bytes = t .bytes; spanlists = t .spanlists; cabinetlists = t .cabinetlists }
+
+-- a command that adds a cabinet
+pub cabinet-counted : {t : Tally} → Counted t (cabinetMore t) addsCabinet
+unfolding plainLength additionOf isCabinet isSpan longestPlain
+cabinet-counted =
+    record { cabinets-are = omega arith; spans-are = refl; plain-is = λ c s. omega arith; grows = λ bound few. omega arith }
+
+-- a command that adds a span
+pub span-counted : {t : Tally} {e : Edge} {operands : List Field} {demands : List Demand}
+    → Counted t (spanMore t) (addsSpan e operands demands)
+unfolding plainLength additionOf isCabinet isSpan longestPlain
+span-counted =
+    record { cabinets-are = refl; spans-are = omega arith; plain-is = λ c s. omega arith; grows = λ bound few. omega arith }
+
+-- a command that adds nothing, whose answer has at the most n bytes and so many lists of spans and of cabinets, two bytes an item
+pub answer-counted : {t : Tally} {q : PlainCommand} (n spanlists cabinetlists : ℕ) → n ≤ 5 → spanlists ≤ 5 → cabinetlists ≤ 5
+    → ((c s : ℕ) → q .longest c s ≡ n + 2 * s * spanlists + 2 * c * cabinetlists)
+    → Counted t (answerMore n spanlists cabinetlists t) (addsNothing q)
+unfolding answerMore plainLength additionOf isCabinet isSpan longestPlain
+answer-counted n spanlists cabinetlists few few-spanlists few-cabinetlists longest =
+    record { cabinets-are = refl; spans-are = refl; plain-is = λ c s. omega (arith, longest c s); grows = λ bound most. omega arith }
+
+-- so each command is counted by its byte
+pub counted-by-byte : {t : Tally} (k : Command) → Counted t (countedBy (commandByte k) t) (facts k)
+unfolding countedBy commandByte facts asks
+counted-by-byte addCabinet = cabinet-counted
+counted-by-byte (addSpan a b) = span-counted
+counted-by-byte (districtName a) = answer-counted 3 0 0 (omega arith) (omega arith) (omega arith) (λ c s. omega arith)
+counted-by-byte (ringName a) = answer-counted 3 0 0 (omega arith) (omega arith) (omega arith) (λ c s. omega arith)
+counted-by-byte (sharedMesh a b) = answer-counted 4 0 0 (omega arith) (omega arith) (omega arith) (λ c s. omega arith)
+counted-by-byte (soleSpans a b) = answer-counted 3 1 0 (omega arith) (omega arith) (omega arith) (λ c s. omega arith)
+counted-by-byte (cutCabinets a b) = answer-counted 3 0 1 (omega arith) (omega arith) (omega arith) (λ c s. omega arith)
+counted-by-byte (isSole x) = answer-counted 2 0 0 (omega arith) (omega arith) (omega arith) (λ c s. omega arith)
+
+-- and the tables have an entry for it
+pub byte-in-tables : (k : Command) → commandByte k ≤ 8
+unfolding commandByte
+byte-in-tables addCabinet = omega arith
+byte-in-tables (addSpan a b) = omega arith
+byte-in-tables (districtName a) = omega arith
+byte-in-tables (ringName a) = omega arith
+byte-in-tables (sharedMesh a b) = omega arith
+byte-in-tables (soleSpans a b) = omega arith
+byte-in-tables (cutCabinets a b) = omega arith
+byte-in-tables (isSole x) = omega arith
+
+-- no entry of a table of numbers up to five is above five
+pub few-at : (xs : List ℕ) → allIn (λ x. leb x 5) xs ≡ true → (i : ℕ) → getD xs i 0 ≤ 5
+unfolding allIn
+few-at [] e i = omega arith
+few-at (x ∷ xs) e zero = leb-le x 5 (and-left (leb x 5) _ e)
+few-at (x ∷ xs) e (suc i) = few-at xs (and-right (leb x 5) _ e) i

@@ -1,0 +1,97 @@
+-- The tally of the commands of a journal: what is counted at each command, and the length that it comes to.
+use mathlib.Core.Bool.{cond}
+use mathlib.Core.List.{List, [], _∷_, map}
+use mathlib.Core.Option.{none, some}
+use mathlib.Core.Path.{_≡_}
+use Prim.Native.Nat.{ℕ, suc, _+_, _*_, _≤_}
+use lib.Dec.{eqb}
+use lib.ListN.{length, getD, drop}
+use Rattle.commands.specs.Command.{Command}
+use Rattle.commands.specs.Facts.{Facts, additionOf}
+use Rattle.commands.specs.Text.{Text, textFrom, placeBehind}
+use Rattle.commands.specs.Forecast.{isCabinet, isSpan, cabinetCommands, spanCommands, longestPlain, plainLengths, lengthFor, noForecast}
+use Rattle.commands.specs.Forecast as Paper
+use Rattle.forecast.specs.declared.Tally.{Tally}
+
+-- No number of the tally is above the bound.
+pub record AtMost (bound : ℕ) (t : Tally) : Type 0 where
+  pub few-cabinets : t .cabinets ≤ bound
+  pub few-spans : t .spans ≤ bound
+  pub few-bytes : t .bytes ≤ bound
+  pub few-span-lists : t .spanlists ≤ bound
+  pub few-cabinet-lists : t .cabinetlists ≤ bound
+
+-- Five for each byte of the longest journal.
+abbrev pub Few : Tally → Type 0
+Few = AtMost 327680
+
+-- An answer more: n bytes, and so many lists of spans and of cabinets behind them.
+unfoldable pub answerMore : ℕ → ℕ → ℕ → Tally → Tally
+answerMore n spanlists cabinetlists t =
+    record {
+      cabinets = t .cabinets;
+      spans = t .spans;
+      bytes = t .bytes + n;
+      spanlists = t .spanlists + spanlists;
+      cabinetlists = t .cabinetlists + cabinetlists;
+    }
+
+-- Of the answer to a command that adds nothing, by its byte: the bytes, the lists of spans and the lists of cabinets.
+abbrev pub bytesOf : List ℕ
+bytesOf = 0 ∷ 0 ∷ 0 ∷ 3 ∷ 3 ∷ 4 ∷ 3 ∷ 3 ∷ 2 ∷ []
+
+abbrev pub spanlistsOf : List ℕ
+spanlistsOf = 0 ∷ 0 ∷ 0 ∷ 0 ∷ 0 ∷ 0 ∷ 1 ∷ 0 ∷ 0 ∷ []
+
+abbrev pub cabinetlistsOf : List ℕ
+cabinetlistsOf = 0 ∷ 0 ∷ 0 ∷ 0 ∷ 0 ∷ 0 ∷ 0 ∷ 1 ∷ 0 ∷ []
+
+-- A command more, by its byte.
+unfoldable pub countedBy : ℕ → Tally → Tally
+countedBy byte t =
+    cond
+    (eqb byte 1)
+    (record { cabinets = t .cabinets + 1; spans = t .spans; bytes = t .bytes; spanlists = t .spanlists; cabinetlists = t .cabinetlists })
+    (cond
+    (eqb byte 2)
+    (record { cabinets = t .cabinets; spans = t .spans + 1; bytes = t .bytes; spanlists = t .spanlists; cabinetlists = t .cabinetlists })
+    (answerMore (getD bytesOf byte 0) (getD spanlistsOf byte 0) (getD cabinetlistsOf byte 0) t))
+
+-- The greatest lengths of the answers to the commands that add nothing, with c cabinet and s span commands.
+unfoldable pub plainLength : ℕ → ℕ → Tally → ℕ
+plainLength c s t = t .bytes + (2 * s * t .spanlists + 2 * c * t .cabinetlists)
+
+-- A tally with a command of these facts more.
+pub record Counted (t r : Tally) (f : Facts) : Type 0 where
+  pub cabinets-are : r .cabinets ≡ cond (isCabinet (additionOf f)) (suc (t .cabinets)) (t .cabinets)
+  pub spans-are : r .spans ≡ cond (isSpan (additionOf f)) (suc (t .spans)) (t .spans)
+  pub plain-is : (c s : ℕ) → plainLength c s r ≡ plainLength c s t + longestPlain c s f
+  pub grows : (bound : ℕ) → AtMost bound t → AtMost (bound + 5) r
+
+-- The length that suffices for the commands counted.
+unfoldable pub lengthOf : Tally → ℕ
+lengthOf t =
+    let c = t .cabinets in
+    let s = t .spans in
+    lengthFor c s (plainLength c s t)
+
+-- The same where these commands are still to come.
+unfoldable pub lengthWith : Tally → List Command → ℕ
+lengthWith t later =
+    let c = t .cabinets + cabinetCommands later in
+    let s = t .spans + spanCommands later in
+    lengthFor c s (plainLength c s t + plainLengths c s later)
+
+-- What is forecast where a journal is counted up to a place, and this text follows.
+unfoldable pub forecastWith : Tally → ℕ → ℕ → Text → Paper.Forecast
+forecastWith t place end later =
+    elim (later .refusal) [
+      | some r ↦ noForecast r (place + placeBehind (later .commands))
+      | none ↦ record { number = 0; place = end; length = lengthWith t (map (λ r. r .command) (later .commands)) }
+    ]
+
+-- A journal that is counted up to a place: what is left of it leads to its forecast.
+pub record CountedTo (journal : List ℕ) (t : Tally) (place : ℕ) : Type 0 where
+  pub in-journal : place ≤ length journal
+  pub few : AtMost (5 * place) t
+  pub leads : forecastWith t place (length journal) (textFrom place 0 (drop place journal)) ≡ Paper.forecast journal

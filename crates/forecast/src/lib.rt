@@ -1,0 +1,151 @@
+// The forecast: a length of the answer buffer that suffices, counted in one pass over the caller's journal.
+ghost use mathlib.Core.Path.{_≡_};
+ghost use Prim.Native.Nat.{_<_, _≤_};
+ghost use lib.ListN.{length};
+ghost use Rattle.naming.specs.Log.{highestBit};
+ghost use Rattle.commands.specs.Forecast.{forecast};
+ghost use Rattle.forecast.specs.Promise.{foretold};
+ghost use Rattle.forecast.specs.Inside.Tallies.{Few, answerMore, countedBy, lengthOf};
+use reading::read::Passed;
+use reading::reader::passed_at;
+use reading::reader::place_after;
+
+// What is forecast: 0 or the number of the refusal, a place in the journal, and the length.
+pub struct Forecast {
+    pub number: u32,
+    pub place: u32,
+    pub length: u32,
+}
+
+// What is counted of the commands: those that add a cabinet and those that add a span; of the answers to the others, the bytes that do not
+// depend on how many cabinets and spans there are, and the lists of spans and of cabinets.
+pub struct Tally {
+    pub cabinets: u32,
+    pub spans: u32,
+    pub bytes: u32,
+    pub spanlists: u32,
+    pub cabinetlists: u32,
+}
+
+// L(k): the place of the highest one bit of k, counted from 0; L(0) is 0.
+fn highest_bit(k: u32) -> u32
+    ensures { λ r. ⌜ r ≡ highestBit k ⌝ }
+{
+    if k == 0 {
+        return 0;
+    }
+    31 - u32::leading_zeros(k)
+}
+
+// An answer more: so many bytes, and so many lists of spans and of cabinets behind them.
+fn answer_more(t: Tally, bytes: u32, spanlists: u32, cabinetlists: u32) -> Tally
+    requires { ⌜ Few t × (bytes ≤ 5) × (spanlists ≤ 5) × (cabinetlists ≤ 5) ⌝ }
+    ensures { λ r. ⌜ r ≡ answerMore bytes spanlists cabinetlists t ⌝ }
+{
+    Tally {
+        cabinets: t.cabinets,
+        spans: t.spans,
+        bytes: t.bytes + bytes,
+        spanlists: t.spanlists + spanlists,
+        cabinetlists: t.cabinetlists + cabinetlists,
+    }
+}
+
+// Of the answer to a command that adds nothing, by its byte: the bytes that do not depend on how many
+// cabinets and spans there are, and the lists of spans and of cabinets.
+const BYTES: [u32; 9] = [0, 0, 0, 3, 3, 4, 3, 3, 2];
+
+const SPANLISTS: [u32; 9] = [0, 0, 0, 0, 0, 0, 1, 0, 0];
+
+const CABINETLISTS: [u32; 9] = [0, 0, 0, 0, 0, 0, 0, 1, 0];
+
+// The tally with one command more, by its byte.
+fn counted(t: Tally, byte: u8) -> Tally
+    requires { ⌜ Few t × (byte ≤ 8) ⌝ }
+    ensures { λ r. ⌜ r ≡ countedBy byte t ⌝ }
+{
+    let mut next = t;
+    match byte {
+        1 => {
+            next.cabinets = t.cabinets + 1;
+            next
+        }
+        2 => {
+            next.spans = t.spans + 1;
+            next
+        }
+        _ => {
+            let i = byte as usize;
+            answer_more(t, BYTES[i], SPANLISTS[i], CABINETLISTS[i])
+        }
+    }
+}
+
+// The length that suffices for the commands counted.
+fn length_of(t: Tally) -> u32
+    requires { ⌜ lengthOf t < 4294967296 ⌝ }
+    ensures { λ r. ⌜ r ≡ lengthOf t ⌝ }
+{
+    let c = t.cabinets;
+    let s = t.spans;
+    let notices = 2 * c * highest_bit(c) + s * highest_bit(s);
+    let lists = 2 * s * t.spanlists + 2 * c * t.cabinetlists;
+    3 * c + 7 * s + 5 * notices + (t.bytes + lists)
+}
+
+// A refusal with its place. No length comes with it.
+fn refused(number: u32, place: usize) -> Forecast
+    requires { ⌜ place ≤ 65536 ⌝ }
+    ensures { λ r. ⌜ foretold r ≡ record { number = number; place = place; length = 0 } ⌝ }
+{
+    Forecast {
+        number: number,
+        place: place as u32,
+        length: 0,
+    }
+}
+
+// A journal that is not too long, up to its end or to the first command that cannot be read.
+fn scan(journal: &[u8]) -> Forecast
+    requires { ⌜ length (now journal) ≤ 65536 ⌝ }
+    ensures { λ r. ⌜ foretold r ≡ forecast (now (journal .entry)) ⌝ }
+{
+    let mut t = Tally {
+        cabinets: 0,
+        spans: 0,
+        bytes: 0,
+        spanlists: 0,
+        cabinetlists: 0,
+    };
+    let mut place = 0;
+    while place < journal.len() {
+        let passed = passed_at(journal, place);
+        match passed {
+            Passed::Unknown => {
+                return refused(4, place);
+            }
+            Passed::CutOff => {
+                return refused(5, place);
+            }
+            Passed::Command(byte, width) => {
+                t = counted(t, byte);
+                place = place_after(journal, place, width);
+            }
+        }
+    }
+    Forecast {
+        number: 0,
+        place: place as u32,
+        length: length_of(t),
+    }
+}
+
+// The forecast of a journal.
+pub fn forecast_of(journal: &[u8]) -> Forecast
+    ensures { λ r. ⌜ foretold r ≡ forecast (now (journal .entry)) ⌝ }
+{
+    if 65536 < journal.len() {
+        return refused(3, 0);
+    }
+    scan(journal)
+}

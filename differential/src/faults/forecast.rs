@@ -1,0 +1,105 @@
+//! Forecasts that are wrong on purpose. The comparison must find each of them.
+
+use crate::engine::{Call, Engine, Forecast, MOST_CABINETS, MOST_SPANS};
+use crate::second::command::{read, Capacities};
+use crate::second::forecast::{counts, length, Counts};
+use crate::second::{Misforecast, Second};
+
+/// What is wrong, and how it is made so.
+type Wrong = (&'static str, Misforecast);
+
+/// Lengths that do not suffice for some journals: a run with exactly so much room must find them
+/// where the second implementation has them too.
+pub const TOO_SMALL: [Wrong; 3] = [
+    ("the part of 06 left out", |journal, right| {
+        of_length(journal, right, |counts| length(counts) - (3 + 2 * counts[2]) * counts[6])
+    }),
+    ("L one less", |journal, right| {
+        let once = |k: usize| if k > 1 { k } else { 0 };
+        of_length(journal, right, |counts| {
+            length(counts) - 5 * (2 * once(counts[1]) + once(counts[2]))
+        })
+    }),
+    ("a length one byte too small", |journal, right| {
+        of_length(journal, right, |counts| length(counts).saturating_sub(1))
+    }),
+];
+
+/// Other faults, which only the comparison can find.
+pub const WRONG: [Wrong; 6] = [
+    ("c and s exchanged in the parts of 06 and 07", |journal, right| {
+        of_length(journal, right, |counts| {
+            let [_, c, s, .., sole, cut, _] = *counts;
+            length(counts) + 2 * (c * sole + s * cut) - 2 * (s * sole + c * cut)
+        })
+    }),
+    ("06 and 07 with the c and s before them", |journal, right| {
+        of_length(journal, right, |counts| length(counts) - for_later(journal))
+    }),
+    ("the place where a run would stop", |journal, right| match right.number {
+        4 | 5 => Forecast { place: run_place(journal), ..right },
+        _ => right,
+    }),
+    ("a length on a refusal", |journal, right| match counts(&journal[..right.place as usize]) {
+        Ok(counts) if right.number != 0 => Forecast { length: length(&counts) as u32, ..right },
+        _ => right,
+    }),
+    ("a place for number 3", |journal, right| match right.number {
+        3 => Forecast { place: journal.len() as u32, ..right },
+        _ => right,
+    }),
+    ("another number forecast", |_, right| Forecast { number: right.number + 1, ..right }),
+];
+
+/// Where the journal is accepted, with this length in place of the right one.
+fn of_length(journal: &[u8], right: Forecast, length: impl Fn(&Counts) -> usize) -> Forecast {
+    match counts(journal) {
+        Ok(counts) if right.number == 0 => Forecast { length: length(&counts) as u32, ..right },
+        _ => right,
+    }
+}
+
+/// What 06 and 07 count for the spans and cabinets that come later in the journal.
+fn for_later(journal: &[u8]) -> usize {
+    let (mut sole, mut cut, mut later) = (0, 0, 0);
+    let mut rest = journal;
+    while let Some(Ok((_, length))) = rest.first().map(|_| read(rest)) {
+        match rest[0] {
+            0x01 => later += 2 * cut,
+            0x02 => later += 2 * sole,
+            0x06 => sole += 1,
+            0x07 => cut += 1,
+            _ => {}
+        }
+        rest = &rest[length..];
+    }
+    later
+}
+
+/// Where a run with the greatest capacities and ample room stops.
+fn run_place(journal: &[u8]) -> u32 {
+    let capacities = Capacities::new(MOST_CABINETS, MOST_SPANS);
+    Second::new().walk(capacities, journal, usize::MAX, &mut |_| ()).place as u32
+}
+
+/// On a refusal the caller's place and length are left as they were.
+pub struct Unfilled;
+
+impl Engine for Unfilled {
+    fn name(&self) -> &'static str {
+        "place and length not filled on a refusal"
+    }
+
+    fn run(&self, call: Call) -> u32 {
+        Second::new().run(call)
+    }
+
+    fn forecast(&self, journal: &[u8], place: &mut u32, length: &mut u32) -> u32 {
+        let before = (*place, *length);
+        let number = Second::new().forecast(journal, place, length);
+        if number != 0 {
+            (*place, *length) = before;
+        }
+        number
+    }
+}

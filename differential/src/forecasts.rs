@@ -1,0 +1,210 @@
+//! Journals whose forecast is known beforehand, worked out by hand from document 02's first request.
+
+use crate::cases::{unhex, Case};
+use crate::engine::LONGEST_JOURNAL;
+use crate::histories::TRIANGLE;
+use crate::journals::Writer;
+
+/// What a journal is, its bytes, and its forecast: number, place and length.
+type Known = (&'static str, &'static str, [u32; 3]);
+
+const SMALL: [Known; 17] = [
+    ("empty journal", "", [0, 0, 0]),
+    ("01 alone", "01", [0, 1, 3]),
+    ("02 alone", "02 0000 0001", [0, 5, 7]),
+    ("03 alone", "03 0000", [0, 3, 3]),
+    ("04 alone", "04 0000", [0, 3, 3]),
+    ("05 alone", "05 0000 0001", [0, 5, 4]),
+    ("06 alone", "06 0000 0000", [0, 5, 3]),
+    ("07 alone", "07 0000 0000", [0, 5, 3]),
+    ("08 alone", "08 0000", [0, 3, 2]),
+    ("triangle", TRIANGLE, [0, 18, 75]),
+    ("a cabinet is no span: 06 with one cabinet", "01 06 0000 0000", [0, 6, 6]),
+    ("a span is no cabinet: 07 with one span", "02 0000 0001 07 0000 0000", [0, 10, 10]),
+    (
+        "every command, all accepted",
+        "01 01 02 0000 0001 03 0000 04 0001 05 0000 0001 06 0000 0001 07 0000 0001 08 0000",
+        [0, 31, 57],
+    ),
+    ("06 before the spans that it counts", "06 0000 0001 02 0000 0001 02 0000 0001", [0, 15, 31]),
+    ("07 before the cabinets that it counts", "07 0000 0001 01 01 01", [0, 8, 48]),
+    (
+        "every command, the questions first",
+        "08 0000 07 0000 0001 06 0000 0001 05 0000 0001 04 0000 03 0000 \
+         02 0000 0001 02 0000 0001 01 01 01 01 01",
+        [0, 39, 171],
+    ),
+    ("unknown bytes for operands", "03 FFFF 05 0909 0000 01", [0, 9, 10]),
+];
+
+/// Journals of one command alone: its byte, how often it stands there, the place and the length.
+const ALIKE: [(u8, usize, u32, u32); 29] = [
+    (0x01, 2, 2, 26),
+    (0x01, 3, 3, 39),
+    (0x01, 4, 4, 92),
+    (0x01, 7, 7, 161),
+    (0x01, 8, 8, 264),
+    (0x01, 255, 255, 18_615),
+    (0x01, 256, 256, 21_248),
+    (0x01, 4_095, 4_095, 462_735),
+    (0x01, 4_096, 4_096, 503_808),
+    (0x01, 32_767, 32_767, 4_685_681),
+    (0x01, 32_768, 32_768, 5_013_504),
+    (0x01, 65_535, 65_535, 10_026_855),
+    (0x01, 65_536, 65_536, 10_682_368),
+    (0x02, 2, 10, 24),
+    (0x02, 3, 15, 36),
+    (0x02, 4, 20, 68),
+    (0x02, 7, 35, 119),
+    (0x02, 8, 40, 176),
+    (0x02, 8_191, 40_955, 548_797),
+    (0x02, 8_192, 40_960, 589_824),
+    (0x02, 13_107, 65_535, 943_704),
+    (0x03, 21_845, 65_535, 65_535),
+    (0x04, 21_845, 65_535, 65_535),
+    (0x05, 13_107, 65_535, 52_428),
+    (0x06, 4, 20, 12),
+    (0x06, 13_107, 65_535, 39_321),
+    (0x07, 4, 20, 12),
+    (0x07, 13_107, 65_535, 39_321),
+    (0x08, 21_845, 65_535, 43_690),
+];
+
+/// A damaged journal, what it is, and its bytes; the number and the place of its forecast; the
+/// answers and the report of its run.
+type Damaged = (&'static str, &'static str, [u32; 2], &'static str, [u32; 6]);
+
+const DAMAGED: [Damaged; 8] = [
+    ("02 00 00 alone", "02 00 00", [5, 0], "", [5, 0, 0, 0, 0, 0]),
+    (
+        "02 00 00 behind accepted commands",
+        "01 01 02 0000 0001 02 00 00",
+        [5, 7],
+        "81 0000 81 0001 82 0000 0000 0001 01 0001 0000",
+        [5, 7, 3, 18, 2, 1],
+    ),
+    ("damaged twice", "01 FF 02 00", [4, 1], "81 0000", [4, 1, 1, 3, 1, 0]),
+    ("unknown byte behind an unknown span", "08 0005 FF", [4, 3], "", [7, 0, 0, 0, 0, 0]),
+    ("cut off behind unknown cabinets", "02 0000 0001 03 00", [5, 5], "", [6, 0, 0, 0, 0, 0]),
+    (
+        "unknown byte behind equal cabinets",
+        "01 02 0000 0000 00",
+        [4, 6],
+        "81 0000",
+        [8, 1, 1, 3, 1, 0],
+    ),
+    (
+        "cut off behind two districts",
+        "01 01 06 0000 0001 02 0000 00",
+        [5, 7],
+        "81 0000 81 0001",
+        [10, 2, 2, 6, 2, 0],
+    ),
+    ("unknown byte behind a full register", "01 01 09", [4, 2], "81 0000", [9, 1, 1, 3, 1, 0]),
+];
+
+/// What stands before a damaged place, and how many bytes that is: nothing, commands that a run
+/// accepts, and one that it refuses.
+const BEFORE: [(&str, u32); 3] = [("", 0), ("01 01 02 0000 0001", 7), ("08 0005", 3)];
+
+/// All of them.
+pub fn known() -> Vec<Case> {
+    let parts = [small(), alike(), longest(), too_long(), damaged(), unknown_bytes(), cut_off()];
+    parts.into_iter().flatten().collect()
+}
+
+fn small() -> Vec<Case> {
+    let case = |(label, journal, forecast): Known| {
+        Case::new(label, 256, 512, unhex(journal)).forecasts(forecast)
+    };
+    SMALL.into_iter().map(case).collect()
+}
+
+/// A case that is refused at the start for its capacities, as far as its own run goes: the one with
+/// the room that is forecast has the greatest.
+fn without_capacities(label: &str, journal: Vec<u8>) -> Case {
+    Case::with_room(label, 0, 0, journal, 0).returns(1)
+}
+
+/// So many commands with this byte.
+fn repeated(byte: u8, count: usize) -> Vec<u8> {
+    let mut writer = Writer::new();
+    for _ in 0..count {
+        match byte {
+            0x01 => writer.command(byte, &[]),
+            0x03 | 0x04 | 0x08 => writer.command(byte, &[0]),
+            _ => writer.command(byte, &[0, 1]),
+        }
+    }
+    writer.bytes
+}
+
+fn alike() -> Vec<Case> {
+    let case = |(byte, count, place, length): (u8, usize, u32, u32)| {
+        let label = format!("{byte:02x} alone, {count} times");
+        without_capacities(&label, repeated(byte, count)).forecasts([0, place, length])
+    };
+    ALIKE.into_iter().map(case).collect()
+}
+
+/// Journals of 65,536 bytes: one that a run accepts, one with the longest lists.
+fn longest() -> Vec<Case> {
+    let names = [repeated(0x01, 1), repeated(0x03, 21_845)].concat();
+    let lists = [repeated(0x01, 32_771), repeated(0x07, 6_553)].concat();
+    vec![
+        Case::new("65,536 bytes", 1, 1, names).returns(0).forecasts([0, 65_536, 65_538]),
+        without_capacities("65,536 bytes, long lists", lists).forecasts([0, 65_536, 434_530_348]),
+    ]
+}
+
+/// 3 comes before 4 and 5.
+fn too_long() -> Vec<Case> {
+    let cut_off = [repeated(0x02, 13_107), vec![0x02, 0x00]].concat();
+    let longer = LONGEST_JOURNAL + 1;
+    let journals = [vec![0x01; longer], vec![0x00; longer], vec![0xFF; longer], cut_off];
+    let case = |journal| {
+        Case::with_room("65,537 bytes", 1, 1, journal, 100).returns(3).forecasts([3, 0, 0])
+    };
+    journals.into_iter().map(case).collect()
+}
+
+/// Each with the report of its run, also where that stops earlier for another cause.
+fn damaged() -> Vec<Case> {
+    let case = |(label, journal, [number, place], answers, report): Damaged| {
+        let c = if report[0] == 9 { 1 } else { 256 };
+        let case = Case::with_room(label, c, 512, unhex(journal), 0);
+        case.leaves(unhex(answers), report).forecasts([number, place, 0])
+    };
+    let mut cases: Vec<Case> = DAMAGED.into_iter().map(case).collect();
+    let no_room = Case::with_room("unknown byte behind no room", 1, 1, unhex("01 FF"), 0);
+    cases.push(no_room.returns(11).forecasts([4, 1, 0]));
+    cases
+}
+
+/// These bytes, of which the first is damaged, behind each of the beginnings.
+fn behind_each(label: &str, bytes: &[u8], number: u32) -> [Case; 3] {
+    BEFORE.map(|(before, place)| {
+        let journal = [&unhex(before), bytes].concat();
+        Case::new(label, 256, 512, journal).forecasts([number, place, 0])
+    })
+}
+
+fn unknown_bytes() -> Vec<Case> {
+    let mut cases = Vec::new();
+    for byte in (0x00..=0xFF).filter(|byte| !(0x01..=0x08).contains(byte)) {
+        cases.extend(behind_each("unknown byte", &[byte], 4));
+        cases.extend(behind_each("unknown byte and more", &[byte, 0, 0, 0, 0, 0x01], 4));
+    }
+    cases
+}
+
+fn cut_off() -> Vec<Case> {
+    let mut cases = Vec::new();
+    for byte in 0x02..=0x08 {
+        let whole = repeated(byte, 1);
+        for kept in 1..whole.len() {
+            cases.extend(behind_each("cut off", &whole[..kept], 5));
+        }
+    }
+    cases
+}
