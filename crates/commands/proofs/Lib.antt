@@ -9,13 +9,13 @@ pub mod Steps
 pub mod TextAt
 pub mod Over
 pub mod Placed
-pub mod Place
 pub mod TextSteps
 pub mod ReadFront
-pub mod TextPlaces
-pub mod TextRun
 pub mod Table
 pub mod Causes
+pub mod TextPlaces
+pub mod TextRun
+pub mod Place
 pub mod Refused
 pub mod Start
 pub mod Returned

@@ -16,19 +16,12 @@ use Rattle.commands.specs.Text.{textOf}
 use Rattle.commands.specs.Run.{Accepted, Run, runText, fitting, runWithin, bytesOfAnswers, placeAfter}
 use Rattle.commands.proofs.Cases.{impossible}
 use Rattle.commands.proofs.Placed.{Stands}
+use Rattle.commands.proofs.TextPlaces.{text-in-journal}
+use Rattle.commands.proofs.TextRun.{run-place-in-text}
 use Rattle.commands.proofs.Room.{RoomForAll, CutAt, cut-where-no-room, all-fit-whole, cut-at-stop, cut-before-end, Prefix, fitting-is-prefix}
 use Rattle.commands.proofs.Steps.{RefusedFor, WasAccepted, RunsTo, ends, refuses, accepts, run-takes-steps, accepted-width-fits}
 use Rattle.commands.proofs.StateAfter.{stateFed, fed-none, fed-more}
 use Rattle.commands.proofs.Causes.{refused-for-one}
-
--- the accepted commands take no more bytes than the journal has
-pub place-in-journal : (caps : Capacities) {s : State} {journal : List ℕ} {l : List Accepted} {end : Option Refusal}
-    → RunsTo caps s journal l end → placeAfter l ≤ length journal
-unfolding placeAfter
-place-in-journal caps ends = omega arith
-place-in-journal caps (refuses e) = omega arith
-place-in-journal caps {s} (accepts {byte = byte} {bytes = bytes} {a = a} e rest) =
-    omega (arith, accepted-width-fits caps s byte bytes a e, simp length-drop at (place-in-journal caps rest))
 
 -- behind an accepted command the place counts on from the end of its operands
 pub next-place : (a : Accepted) (later : List Accepted) (byte : ℕ) (bytes : List ℕ)
@@ -135,7 +128,7 @@ module _ (caps : Capacities) (s : State) (journal : List ℕ) where
 
   -- the place is in the journal, or its end
   pub run-place-in-journal : placeAfter (runText caps s (textOf journal) .accepted) ≤ length journal
-  run-place-in-journal = place-in-journal caps whole-run-steps
+  run-place-in-journal = le-trans (run-place-in-text caps s (textOf journal)) (text-in-journal journal)
 
 -- where the accepted commands end stands one that is accepted, and the room that is left is too short for its answer
 pub record NoRoomAt (room : ℕ) (caps : Capacities) (s : State) (journal : List ℕ) (l : List Accepted) : Type 0 where

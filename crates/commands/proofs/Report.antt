@@ -17,6 +17,11 @@ use Rattle.commands.specs.Run.{Run, commandsOf, bytesOfAnswers, placeAft
 use Rattle.commands.specs.Entry.{bookAfter, numberOf, reportOf}
 use Rattle.commands.proofs.StateAfter.{stateAfter, book-fed, book-after-commands}
 
+-- to count one behind a number is to count it before the rest
+pub count-one : (t : Bool) (n rest : ℕ) → n + cond t (suc rest) rest ≡ cond t (suc n) n + rest
+count-one true n rest = omega arith
+count-one false n rest = refl
+
 -- a number of a book that every addition which passes the test raises by one, and no other changes, counts the commands that add such
 counts : (p : Addition → Bool) (size : Book → ℕ) → ((b : Book) (a : Addition) → size (feed b a) ≡ cond (p a) (suc (size b)) (size b))
     → (b : Book) (cs : List Command) → size (feedAll b (map addition cs)) ≡ size b + countAdding p cs
@@ -25,14 +30,10 @@ counts p size step b [] = sym (add-zero (size b))
 counts p size step b (c ∷ cs) =
     counts p size step (feed b (addition c)) cs
     ∙ ap (λ n. n + later) (step b (addition c))
-    ∙ move (p (addition c)) (size b) later
+    ∙ sym (count-one (p (addition c)) (size b) later)
   where
     later : ℕ
     later = countAdding p cs
-
-    move : (t : Bool) (n m : ℕ) → cond t (suc n) n + m ≡ n + cond t (suc m) m
-    move true n m = omega arith
-    move false n m = refl
 
 cabinet-step : (b : Book) (a : Addition) → feed b a .network .vertices ≡ cond (isCabinet a) (suc (b .network .vertices)) (b .network .vertices)
 unfolding feed isCabinet enterVertex enterEdge addVertex addEdge

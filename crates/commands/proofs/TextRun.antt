@@ -43,14 +43,13 @@ run-over-steps caps s (r ∷ later) end = go (run-over-steps caps (after s (r .c
     go rest (some q) e = rw (e, runOver) (refused-one e)
     go rest none e = rw (e, runOver) (accepted-one e rest)
 
--- whatever an accepted command has of the command that was read: the accepted commands have it as the first of those that were read do
-pub accepted-first : {B : Type 0} (of-accepted : Accepted → B) (of-read : Read → B)
-    → ((s : State) (r : Read) → of-accepted (acceptedIn s r) ≡ of-read r)
-    → {caps : Capacities} {s : State} {read : List Read} {end : Option Refusal} {l : List Accepted} {last : Option Refusal}
-    → RunsOver caps s read end l last → Prefix (map of-accepted l) (map of-read read)
-accepted-first f g same at-end = record { shorter = omega arith; same = refl }
-accepted-first f g same (refused-one e) = record { shorter = omega arith; same = refl }
-accepted-first f g same (accepted-one {s = s} {r = r} e rest) = rw (same s r) (cons-prefix (g r) (accepted-first f g same rest))
+-- the accepted commands are the first of those that were read
+accepted-first : {caps : Capacities} {s : State} {read : List Read} {end : Option Refusal} {l : List Accepted} {last : Option Refusal}
+    → RunsOver caps s read end l last → Prefix (map (λ a. a .command) l) (map (λ r. r .command) read)
+unfolding acceptedIn
+accepted-first at-end = record { shorter = omega arith; same = refl }
+accepted-first (refused-one e) = record { shorter = omega arith; same = refl }
+accepted-first (accepted-one {r = r} e rest) = cons-prefix (r .command) (accepted-first rest)
 
 -- the accepted commands end where as many of those that were read do
 accepted-place : {caps : Capacities} {s : State} {read : List Read} {end : Option Refusal} {l : List Accepted} {last : Option Refusal}
@@ -88,8 +87,7 @@ module _ (caps : Capacities) (s : State) (t : Text) where
 
   -- it accepts the first of the text's commands
   pub run-accepts-first : Prefix (map (λ a. a .command) (runText caps s t .accepted)) (map (λ r. r .command) (t .commands))
-  unfolding acceptedIn
-  run-accepts-first = accepted-first (λ a. a .command) (λ r. r .command) (λ s r. refl) run-text-steps
+  run-accepts-first = accepted-first run-text-steps
 
   -- they end where as many commands of the text do
   pub run-place : placeAfter (runText caps s t .accepted) ≡ placeBehind (take (length (runText caps s t .accepted)) (t .commands))

@@ -14,16 +14,7 @@ use Rattle.commands.specs.Command.{Command, addCabinet, addSpan, districtName, 
 use Rattle.commands.specs.Facts.{Demand, PlainCommand, addsCabinet, addsSpan, addsNothing, asks, facts, additionOf}
 use Rattle.commands.specs.Forecast.{isCabinet, isSpan, longestPlain}
 use Rattle.forecast.specs.declared.Tally.{Tally}
-use Rattle.forecast.specs.Inside.Tallies.{answerMore, countedBy, plainLength, Counted}
-
--- The tally with a cabinet more, and with a span more.
-abbrev pub cabinetMore : Tally → Tally
-cabinetMore t =
-    record { cabinets = t .cabinets + 1; spans = t .spans; bytes = t .bytes; spanlists = t .spanlists; cabinetlists = t .cabinetlists }
-
-abbrev pub spanMore : Tally → Tally
-spanMore t =
-    record { cabinets = t .cabinets; spans = t .spans + 1; bytes = t .bytes; spanlists = t .spanlists; cabinetlists = t .cabinetlists }
+use Rattle.forecast.specs.Inside.Tallies.{cabinetMore, spanMore, answerMore, countedBy, plainLength, Counted}
 
 -- a command that adds a cabinet
 pub cabinet-counted : {t : Tally} → Counted t (cabinetMore t) addsCabinet

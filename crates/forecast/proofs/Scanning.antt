@@ -1,8 +1,8 @@
 -- A journal that is counted command by command: at its start, behind each command and at its end, what is left leads to its forecast.
-use mathlib.Core.Bool.{Bool, true, false, cond}
+use mathlib.Core.Bool.{Bool, cond}
 use mathlib.Core.List.{List, [], _∷_, map}
 use mathlib.Core.Option.{Option, none, some}
-use mathlib.Core.Path.{_≡_, refl, sym, _∙_, ap, ap₂}
+use mathlib.Core.Path.{_≡_, sym, _∙_, ap, ap₂}
 use Prim.Native.Nat.{ℕ, suc, _+_, _*_, _≤_, _<_}
 use native.Mathlib.Nat.{add-zero, zero-add}
 use native.Mathlib.Omega.{arith}
@@ -11,14 +11,14 @@ use Rattle.graph.proofs.Truth.{ge-ltb}
 use Rattle.naming.specs.Book.{Addition}
 use Rattle.commands.specs.Command.{Command, commandByte}
 use Rattle.commands.specs.Facts.{facts, addition}
-use Rattle.commands.specs.Refusal.{Refusal, cutOperands, refusalNumber}
-use Rattle.commands.specs.Refusal as R
+use Rattle.commands.specs.Refusal.{Refusal, badByte, cutOperands, refusalNumber}
 use Rattle.commands.specs.Text.{Read, Text, endsWith, followedBy, textOf, placeBehind}
 use Rattle.commands.specs.Forecast.{isCabinet, isSpan, countAdding, cabinetCommands, spanCommands, plainLengths, lengthFor, sufficient}
 use Rattle.commands.specs.Forecast.{Forecast, noForecast, forecastText, forecast}
 use Rattle.commands.proofs.ReadFront.{byte-of-read}
+use Rattle.commands.proofs.Report.{count-one}
 use Rattle.commands.proofs.TextAt.{textHere, readingHere, text-at-end, text-at-unknown, text-at-cut-off, text-at-command, operands-stand}
-use Rattle.reading.specs.Inside.Reads.{Passing, badByte, cutShort, whole, passOver}
+use Rattle.reading.specs.Inside.Reads.{Passing, noCommand, cutShort, whole, passOver}
 use Rattle.reading.proofs.ReadSteps.{CommandPassed, command-passed, unknown-passed, cut-passed}
 use Rattle.forecast.specs.declared.Tally.{Tally}
 use Rattle.forecast.specs.Inside.Tallies.{plainLength, countedBy, Counted, lengthOf, lengthWith, forecastWith, CountedTo}
@@ -55,11 +55,6 @@ told o end place n =
 forecast-starts : (end : ℕ) (text : Text) → forecastWith emptyTally 0 end text ≡ forecastText end text
 unfolding forecastWith forecastText
 forecast-starts end text = ap₂ (told (text .refusal) end) (omega arith) (all-to-come (map (λ r. r .command) (text .commands)))
-
--- to count one before the rest is added is to count it after
-count-one : (b : Bool) (counted later : ℕ) → counted + cond b (suc later) later ≡ cond b (suc counted) counted + later
-count-one true counted later = omega arith
-count-one false counted later = refl
 
 -- what a command adds is counted before it, as still to come, or behind it
 count-same : (p : Addition → Bool) (k : Command) (later : List Command) (before : ℕ) {behind : ℕ}
@@ -121,10 +116,10 @@ module _ {journal : List ℕ} {t : Tally} {place : ℕ} (so-far : CountedTo jour
     passingHere = passOver (getD journal place 0) (readingHere journal place)
 
     -- an unknown byte
-    pub unknown-here : {number at : ℕ} → badByte ≡ passingHere → number ≡ 4 → at ≡ place
+    pub unknown-here : {number at : ℕ} → noCommand ≡ passingHere → number ≡ 4 → at ≡ place
         → record { number = number; place = at; length = 0 } ≡ forecast journal
     unfolding refusalNumber
-    unknown-here e = refused-here R.badByte (text-at-unknown journal place at-command (unknown-passed _ _ e))
+    unknown-here e = refused-here badByte (text-at-unknown journal place at-command (unknown-passed _ _ e))
 
     -- cut-off operands
     pub cut-off-here : {number at : ℕ} → cutShort ≡ passingHere → number ≡ 5 → at ≡ place

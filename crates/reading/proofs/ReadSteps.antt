@@ -1,6 +1,6 @@
 -- What is read of a command by its byte: the bytes of commands with one operand and with two, and where the operands stand.
 use mathlib.Core.Bool.{true, false, _&&_, and-false}
-use mathlib.Core.List.{List, [], _∷_}
+use mathlib.Core.List.{List}
 use mathlib.Core.Logic.{_⊎_, inl, inr, ⊎-elim}
 use mathlib.Core.Option.{none, some}
 use mathlib.Core.Path.{_≡_, refl, ap, ap₂, _∙_}
@@ -15,7 +15,7 @@ use Rattle.commands.specs.Command.{Command, Form, unknown, takes, forms, form, 
 use Rattle.commands.proofs.Cases.{le-or-gt, gt-leb, impossible}
 use Rattle.commands.proofs.ByPlace.{each-at, _also_}
 use Rattle.commands.proofs.Reading.{widthOf, long-enough, too-short, cut-off, unknown-byte, unknown-exactly, known-bytes}
-use Rattle.reading.specs.Inside.Reads.{OneOperand, TwoOperands, made, formWidth, badByte, cutShort, whole, passOver}
+use Rattle.reading.specs.Inside.Reads.{OneOperand, TwoOperands, made, formWidth, widths, noCommand, cutShort, whole, passOver}
 
 -- a number in a pair of numbers or in three, one after another
 pub one-of-two : (low n : ℕ) → low ≤ n → n < low + 2 → (n ≡ low) ⊎ (n ≡ low + 1)
@@ -85,8 +85,9 @@ operand-at journal from k place e =
     (getD-drop from journal (2 * k) 0 ∙ ap (λ (i : ℕ). getD journal i 0) (let d : from + 2 * k ≡ place = omega arith in d))
     (getD-drop from journal (2 * k + 1) 0 ∙ ap (λ (i : ℕ). getD journal i 0) (let d : from + (2 * k + 1) ≡ place + 1 = omega arith in d))
 
--- Operands that are passed over.
+-- A command byte, and the number of its operands' bytes.
 module _ (byte : ℕ) (bytes : List ℕ) (width : ℕ) (wide : formWidth (form byte) ≡ some width) where
+  -- operands that are there are passed over
   pub passed-whole : width ≤ length bytes → passOver byte (readCommand byte bytes) ≡ whole byte width
   unfolding readCommand formWidth passOver
   passed-whole h = go (form byte) wide
@@ -97,6 +98,7 @@ module _ (byte : ℕ) (bytes : List ℕ) (width : ℕ) (wide : formWidth (form b
           let same : 2 * n ≡ width = cc in
           rw (long-enough n make bytes (omega arith)) (ap (whole byte) same)
 
+  -- and those that are not are found cut short
   pub passed-cut : length bytes < width → passOver byte (readCommand byte bytes) ≡ cutShort
   unfolding readCommand formWidth passOver
   passed-cut h = go (form byte) wide
@@ -108,11 +110,11 @@ module _ (byte : ℕ) (bytes : List ℕ) (width : ℕ) (wide : formWidth (form b
           rw (too-short n make bytes (omega arith))
 
 -- the table of widths has that of each command byte
-pub widths-are : (byte : ℕ) → 1 ≤ byte → byte ≤ 8 → formWidth (form byte) ≡ some (getD (0 ∷ 0 ∷ 4 ∷ 2 ∷ 2 ∷ 4 ∷ 4 ∷ 4 ∷ 2 ∷ []) byte 0)
+pub widths-are : (byte : ℕ) → 1 ≤ byte → byte ≤ 8 → formWidth (form byte) ≡ some (getD widths byte 0)
 unfolding form forms formWidth
 widths-are =
     each-at
-    (λ byte f. 1 ≤ byte → byte ≤ 8 → formWidth f ≡ some (getD (0 ∷ 0 ∷ 4 ∷ 2 ∷ 2 ∷ 4 ∷ 4 ∷ 4 ∷ 2 ∷ []) byte 0))
+    (λ byte f. 1 ≤ byte → byte ≤ 8 → formWidth f ≡ some (getD widths byte 0))
     forms
     unknown
     ((λ l h. absurd (omega arith))
@@ -142,13 +144,14 @@ command-passed byte (command c w) passed width e =
     let same : w ≡ width = cc in
     record { this = c; is-read = ap (command c) same; its-byte = cc }
 
--- nothing else is passed over so
-pub unknown-passed : (byte : ℕ) (reading : Reading) → badByte ≡ passOver byte reading → reading ≡ unknownByte
+-- where no command is found, the byte is unknown
+pub unknown-passed : (byte : ℕ) (reading : Reading) → noCommand ≡ passOver byte reading → reading ≡ unknownByte
 unfolding passOver
 unknown-passed byte unknownByte e = refl
 unknown-passed byte cutOff e = impossible (cc)
 unknown-passed byte (command c w) e = impossible (cc)
 
+-- where one is found cut short, its operands are cut off
 pub cut-passed : (byte : ℕ) (reading : Reading) → cutShort ≡ passOver byte reading → reading ≡ cutOff
 unfolding passOver
 cut-passed byte unknownByte e = impossible (cc)

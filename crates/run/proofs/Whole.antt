@@ -15,7 +15,6 @@ use Rattle.commands.specs.Run.{Run, bytesOfAnswers, placeAfter}
 use Rattle.commands.specs.Entry.{reportOf, over, bookAfter, numberOf}
 use Rattle.commands.specs.Register.{registerRule}
 use Rattle.commands.proofs.Place.{place-within-journal}
-use Rattle.commands.proofs.RunBooks.{empty-sound}
 use Rattle.commands.proofs.ForecastRoom.{run-answers-fit}
 use Rattle.commands.proofs.WholeRun.{register-mates}
 use Rattle.numbers.specs.declared.Limits.{Limits}
@@ -134,12 +133,12 @@ module _ (limits : Limits) (journal old oldAnswers : List ℕ) where
       }
 
   -- the code has come to what the whole run leaves behind
-  pub run-promised : limits .vertices ≤ 4096 → limits .edges ≤ 8192 → length journal ≤ 65536
+  pub run-promised : length journal ≤ 65536
       → (p : Progress) (new newAnswers : List ℕ) → SoFar limits wholeLeaves p journal old new oldAnswers newAnswers
       → goesOn p (length journal) ≡ false
       → RunPromise limits whole p old new oldAnswers newAnswers
   unfolding leaves sixNumbers reportOf capacitiesOf
-  run-promised few-vertices few-edges short p new newAnswers far stopped =
+  run-promised short p new newAnswers far stopped =
       let left = has-left wholeLeaves p new newAnswers far stopped in
       let numbers : sixNumbers p ≡ reportOf registerRule whole = ap (λ (b : Behind). b .numbers) left in
       let place : p .place ≡ placeAfter (whole .accepted) = cc numbers in

@@ -25,6 +25,15 @@ pub record AtMost (bound : ℕ) (t : Tally) : Type 0 where
 abbrev pub Few : Tally → Type 0
 Few = AtMost 327680
 
+-- A cabinet more, and a span more.
+abbrev pub cabinetMore : Tally → Tally
+cabinetMore t =
+    record { cabinets = t .cabinets + 1; spans = t .spans; bytes = t .bytes; spanlists = t .spanlists; cabinetlists = t .cabinetlists }
+
+abbrev pub spanMore : Tally → Tally
+spanMore t =
+    record { cabinets = t .cabinets; spans = t .spans + 1; bytes = t .bytes; spanlists = t .spanlists; cabinetlists = t .cabinetlists }
+
 -- An answer more: n bytes, and so many lists of spans and of cabinets behind them.
 unfoldable pub answerMore : ℕ → ℕ → ℕ → Tally → Tally
 answerMore n spanlists cabinetlists t =
@@ -51,10 +60,10 @@ unfoldable pub countedBy : ℕ → Tally → Tally
 countedBy byte t =
     cond
     (eqb byte 1)
-    (record { cabinets = t .cabinets + 1; spans = t .spans; bytes = t .bytes; spanlists = t .spanlists; cabinetlists = t .cabinetlists })
+    (cabinetMore t)
     (cond
     (eqb byte 2)
-    (record { cabinets = t .cabinets; spans = t .spans + 1; bytes = t .bytes; spanlists = t .spanlists; cabinetlists = t .cabinetlists })
+    (spanMore t)
     (answerMore (getD bytesOf byte 0) (getD spanlistsOf byte 0) (getD cabinetlistsOf byte 0) t))
 
 -- The greatest lengths of the answers to the commands that add nothing, with c cabinet and s span commands.

@@ -1,5 +1,6 @@
 -- What reading a command gives: the paper's value for each case of the code's answer.
 use mathlib.Core.Bool.{cond}
+use mathlib.Core.List.{List, [], _∷_}
 use mathlib.Core.Logic.{_⊎_}
 use mathlib.Core.Option.{Option, none, some}
 use mathlib.Core.Path.{_≡_}
@@ -54,18 +55,22 @@ unfoldable pub formWidth : Form → Option ℕ
 formWidth unknown = none
 formWidth (takes n make) = some (2 * n)
 
+-- The same by the command byte, from 00 on, as a table.
+abbrev pub widths : List ℕ
+widths = 0 ∷ 0 ∷ 4 ∷ 2 ∷ 2 ∷ 4 ∷ 4 ∷ 4 ∷ 2 ∷ []
+
 -- What is known of a reading where the operands are passed over: of a command its byte and the number of its operands' bytes.
 pub data Passing : Type 0 where
-  badByte : Passing
+  noCommand : Passing
   cutShort : Passing
   whole : ℕ → ℕ → Passing
 
 unfoldable pub passOver : ℕ → Reading → Passing
-passOver byte unknownByte = badByte
+passOver byte unknownByte = noCommand
 passOver byte cutOff = cutShort
 passOver byte (command c width) = whole byte width
 
 unfoldable pub passingOf : Passed → Passing
-passingOf P.Unknown = badByte
+passingOf P.Unknown = noCommand
 passingOf P.CutOff = cutShort
 passingOf (P.Command byte width) = whole byte width

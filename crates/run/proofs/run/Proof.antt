@@ -104,8 +104,6 @@ returns c =
     (s .args .journal .now)
     (s .args .work .now)
     (s .args .answers .now)
-    (rw same (s .pre .0))
-    (rw same (s .pre .1))
     (s .pre .3)
     (l .p)
     (l .work)
