@@ -38,9 +38,9 @@ enum {
     REGISTER_REPORT_SPANS = 5     /* spans present */
 };
 
-/* The returned numbers. A run knows all of them, a forecast 0, 3, 4 and 5. Where several causes apply
-   at the start, or to the command at which a run or a forecast stops, the least of these is
-   returned. */
+/* The returned numbers. A run knows all of them, a forecast 0, 3, 4 and 5. The causes are tested in
+   the order in which they stand here, first those at the start, then for each command the others.
+   The first that applies is returned. */
 enum {
     REGISTER_ACCEPTED = 0,
     /* Refused at the start. From a run: only the number is returned, all buffers are as before. */
@@ -48,11 +48,12 @@ enum {
     REGISTER_SHORT_BUFFER = 2, /* working table or report too short */
     REGISTER_LONG_JOURNAL = 3, /* journal longer than 65,536 bytes */
     /* Stopped at a command. From a run: the report is filled, the answers before it stand. */
-    REGISTER_BAD_COMMAND = 4,       /* command byte not 01 to 08 */
+    REGISTER_BAD_COMMAND = 4,       /* a byte that is no command's: not 01 to 0A, nor 0F */
     REGISTER_CUT_OFF = 5,           /* operands cut off by the journal's end */
     REGISTER_UNKNOWN_CABINET = 6,   /* a cabinet number not yet given */
     REGISTER_UNKNOWN_SPAN = 7,      /* a span number not yet given */
     REGISTER_EQUAL_CABINETS = 8,    /* 02 or 05 with equal cabinets */
+    REGISTER_ALREADY_EXCHANGE = 12, /* 09 with a cabinet that is already an exchange */
     REGISTER_FULL = 9,              /* 01 with c cabinets present, or 02 with s spans */
     REGISTER_ACROSS_DISTRICTS = 10, /* 06 or 07 across districts */
     REGISTER_NO_ROOM = 11           /* the answer is longer than what is left of the answers */
@@ -78,7 +79,7 @@ enum {
  *
  * REGISTER_STACK bytes of stack must be there.
  *
- * Returns 0 if the whole journal was accepted, else the number of the refusal, 1 to 11.
+ * Returns 0 if the whole journal was accepted, else the number of the refusal, 1 to 12.
  */
 uint32_t register_run(uint32_t c, uint32_t s,
                       const uint8_t *journal, size_t journal_len,

@@ -36,6 +36,7 @@ enum { LONGEST = REGISTER_LONGEST_JOURNAL, TOO_LONG = LONGEST + 1, FAR_TOO_LONG 
 static uint8_t journal[FAR_TOO_LONG];
 static size_t journal_length;
 static unsigned cabinets, spans;
+static uint8_t exchange[REGISTER_MOST_CABINETS];
 static uint64_t random_state;
 
 /* The journal's place among all, and whether its buffers lie between fences. */
@@ -65,13 +66,29 @@ static void command(unsigned byte, unsigned operands, unsigned a, unsigned b)
     spans += byte == 0x02;
 }
 
+static void start_journal(unsigned seed)
+{
+    random_state = seed;
+    journal_length = 0;
+    cabinets = spans = 0;
+    memset(exchange, 0, sizeof exchange);
+}
+
+/* Marks a cabinet; one that is an exchange already, only now and then. */
+static void mark(unsigned cabinet)
+{
+    if (!exchange[cabinet] || below(8) == 0)
+        command(0x09, 1, cabinet, 0);
+    exchange[cabinet] = 1;
+}
+
 /* A command whose operands are known, but for one in a hundred. */
 static void any_command(void)
 {
     unsigned a = below(cabinets), b = (a + 1 + below(cabinets - 1)) % cabinets;
     if (below(100) == 0)
         b = below(2) == 0 ? a : cabinets;
-    switch (below(30)) {
+    switch (below(35)) {
     case 0: command(0x01, 0, 0, 0); break;
     case 1: command(0x08, 1, below(spans), 0); break;
     case 2: command(0x03, 1, a, 0); break;
@@ -79,15 +96,16 @@ static void any_command(void)
     case 4: case 5: command(0x05, 2, a, b); break;
     case 6: case 7: command(0x06, 2, a, b); break;
     case 8: case 9: command(0x07, 2, a, b); break;
+    case 10: case 11: mark(a); break;
+    case 12: case 13: command(0x0A, 1, b, 0); break;
+    case 14: command(0x0F, 0, 0, 0); break;
     default: command(0x02, 2, a, b);
     }
 }
 
 static void small_journal(unsigned seed)
 {
-    random_state = seed;
-    journal_length = 0;
-    cabinets = spans = 0;
+    start_journal(seed);
     unsigned first = 2 + below(SMALL_CABINETS);
     while (cabinets < first)
         command(0x01, 0, 0, 0);
@@ -100,18 +118,28 @@ static void small_journal(unsigned seed)
         put(below(256));
 }
 
-/* All cabinets in a chain, its lists, the span that closes it, spans until there are no more, and
-   questions until the journal is as long as it may be. */
+/* Questions about exchanges. */
+static void ask_exchanges(void)
+{
+    for (unsigned i = 0; i < 100; i++)
+        command(0x0A, 1, 4 * i, 0);
+    for (unsigned i = 0; i < 20; i++)
+        command(0x0F, 0, 0, 0);
+}
+
+/* All cabinets in a chain, exchanges in it, its lists, the span that closes it, spans until there are
+   no more, and questions until the journal is as long as it may be. */
 static void large_journal(void)
 {
     unsigned most = REGISTER_MOST_CABINETS;
-    random_state = 1;
-    journal_length = 0;
-    cabinets = spans = 0;
+    start_journal(1);
     while (cabinets < most)
         command(0x01, 0, 0, 0);
     for (unsigned i = 1; i < most; i++)
         command(0x02, 2, i - 1, i);
+    for (unsigned i = 0; i < 100; i++)
+        command(0x09, 1, 8 * i, 0);
+    ask_exchanges();
     command(0x06, 2, 0, most - 1);
     command(0x07, 2, most - 1, 0);
     command(0x02, 2, most - 1, 0);
@@ -119,6 +147,7 @@ static void large_journal(void)
         unsigned a = below(most);
         command(0x02, 2, a, (a + 1 + below(most - 1)) % most);
     }
+    ask_exchanges();
     while (journal_length < LONGEST)
         command(0x05, 2, 0, 1);
 }
@@ -437,13 +466,17 @@ static int run_cut_short(void)
     return run_in_forecast_room(journal_length - 1 - journal_number % MOST_CUT, &call, &outcome);
 }
 
-/* The longest journal of one command alone, damaged in its last byte, and longer ones. */
+/* The longest journals of one command alone, damaged in the last byte, and longer ones. */
 static int forecast_longest(void)
 {
     const struct forecast all = {REGISTER_ACCEPTED, LONGEST, 10682368};
+    const struct forecast shares = {REGISTER_ACCEPTED, LONGEST, 196608};
     const struct forecast cut_off = {REGISTER_CUT_OFF, LONGEST - 1, 0};
     const struct forecast unknown = {REGISTER_BAD_COMMAND, LONGEST - 1, 0};
     const struct forecast too_long = {REGISTER_LONG_JOURNAL, 0, 0};
+    memset(journal, 0x0F, sizeof journal);
+    if (!forecasts(LONGEST, shares) || !forecasts(TOO_LONG, too_long))
+        return 0;
     memset(journal, 0x01, sizeof journal);
     if (!forecasts(LONGEST, all) || !forecasts(TOO_LONG, too_long)
         || !forecasts(FAR_TOO_LONG, too_long))

@@ -1,9 +1,10 @@
 /*
  * A small shift planner. It writes a journal, sets aside as much room for the answers as the register
  * forecasts, has the journal run by the register in one call with its own buffers, and reads the
- * answers. It keeps a name for each cabinet and span from the notices alone, and holds each name that
- * it asked for (03, 04 and 05) against its own, and each new number against the next one. It prints
- * the names, and exits with 1 if any two differ.
+ * answers. It keeps a name for each cabinet and span from the notices alone, and a mark for each
+ * exchange that it entered (09). It holds each name that it asked for (03, 04 and 05) against its
+ * own, each new number against the next one, and what is answered about exchanges (0A and 0F) against
+ * its own marks and ring names. It prints the names, and exits with 1 if any two differ.
  */
 #include "register.h"
 
@@ -67,24 +68,49 @@ static void ask_mesh(size_t span)
     put_operand(ends[span][1]);
 }
 
-/* Asks for every name there is. */
-static void ask_all(unsigned cabinets)
+static void mark_exchange(unsigned cabinet)
 {
-    for (unsigned cabinet = 0; cabinet < cabinets; cabinet++)
-        ask_names(cabinet);
-    for (size_t span = 0; span < spans_entered; span++)
-        ask_mesh(span);
+    put_byte(0x09);
+    put_operand(cabinet);
 }
 
-/* Villages of three cabinets, each closed to a ring; then the villages one after the other in a
-   great loop, whose last span makes all rings one: a join of equal sizes. */
+static void ask_exchange(unsigned cabinet)
+{
+    put_byte(0x0A);
+    put_operand(cabinet);
+}
+
+static void ask_share(void)
+{
+    put_byte(0x0F);
+}
+
+/* Asks for every name there is, which rings hold an exchange, and the share. */
+static void ask_all(unsigned cabinets)
+{
+    for (unsigned cabinet = 0; cabinet < cabinets; cabinet++) {
+        ask_names(cabinet);
+        ask_exchange(cabinet);
+    }
+    for (size_t span = 0; span < spans_entered; span++)
+        ask_mesh(span);
+    ask_share();
+}
+
+/* Villages of three cabinets, each closed to a ring, every other one with an exchange; then the
+   villages one after the other in a great loop, whose last span makes all their rings one: a join of
+   equal sizes. The last cabinet stays by itself, so that a share can need rounding. The first question
+   is about an empty network. */
 static void write_journal(unsigned villages)
 {
-    unsigned cabinets = 3 * villages;
+    unsigned cabinets = 3 * villages + 1;
+    ask_share();
     for (unsigned cabinet = 0; cabinet < cabinets; cabinet++)
         add_cabinet();
     for (unsigned village = villages; village-- > 0;) {
         unsigned first = 3 * village;
+        if (village % 2 == 1)
+            mark_exchange(first + 2);
         add_span(first, first + 1);
         add_span(first + 1, first + 2);
         add_span(first + 2, first);
@@ -133,8 +159,9 @@ static int run_journal(void)
 
 /* ---- Reading the answers ---- */
 
-/* The planner's name list. */
+/* The planner's name list, and its marks. */
 static unsigned district[CABINETS], ring[CABINETS], mesh[SPANS];
+static int exchange[CABINETS];
 static size_t cabinets_known, spans_known;
 
 /* The place reached in the journal and in the answers. */
@@ -142,7 +169,7 @@ static size_t asked_at, answered_at;
 
 /* What was asked for and what the list had, for the last answer about each item. */
 static unsigned asked_district[CABINETS], asked_ring[CABINETS], asked_mesh[SPANS];
-static unsigned notices_read, compared, differences;
+static unsigned asked_share, notices_read, compared, differences;
 
 static unsigned two_bytes(const uint8_t *at)
 {
@@ -221,6 +248,44 @@ static void read_mesh(void)
     answered_at += 4;
 }
 
+static void read_mark(void)
+{
+    exchange[two_bytes(journal + asked_at + 1)] = 1;
+    asked_at += 3;
+    answered_at += 1;
+}
+
+/* Does the ring of this name hold an exchange? */
+static int holds_exchange(unsigned name)
+{
+    for (size_t item = 0; item < cabinets_known; item++)
+        if (exchange[item] && ring[item] == name)
+            return 1;
+    return 0;
+}
+
+static void read_exchange(void)
+{
+    unsigned item = two_bytes(journal + asked_at + 1);
+    hold("exchange in the ring of", item, answers[answered_at + 1],
+         (unsigned)holds_exchange(ring[item]));
+    asked_at += 3;
+    answered_at += 2;
+}
+
+/* The share in thousandths, rounded down; 0 for an empty network. */
+static void read_share(void)
+{
+    size_t fed = 0;
+    for (size_t item = 0; item < cabinets_known; item++)
+        fed += (size_t)holds_exchange(ring[item]);
+    asked_share = two_bytes(answers + answered_at + 1);
+    hold("share of cabinets", cabinets_known, asked_share,
+         cabinets_known == 0 ? 0 : (unsigned)(1000 * fed / cabinets_known));
+    asked_at += 1;
+    answered_at += 3;
+}
+
 /* Reads one answer; 0 if its first byte is not the one that answers the command. */
 static int read_answer(void)
 {
@@ -232,6 +297,9 @@ static int read_answer(void)
     case 0x83: read_name("district", district, asked_district); return 1;
     case 0x84: read_name("ring", ring, asked_ring); return 1;
     case 0x85: read_mesh(); return 1;
+    case 0x89: read_mark(); return 1;
+    case 0x8A: read_exchange(); return 1;
+    case 0x8F: read_share(); return 1;
     default: return 0;
     }
 }
@@ -257,6 +325,7 @@ static void print_names(void)
     printf("span  mesh learnt asked\n");
     for (size_t item = 0; item < spans_known; item++)
         printf("%4zu  %11u %5u\n", item, mesh[item], asked_mesh[item]);
+    printf("share of cabinets whose ring holds an exchange: %u thousandths\n", asked_share);
 }
 
 int main(void)
@@ -269,7 +338,7 @@ int main(void)
     print_names();
     printf("%u bytes of room were forecast for the answers, %u were taken\n",
            (unsigned)answers_length, (unsigned)report[REGISTER_REPORT_ANSWERS]);
-    printf("%u commands, %u notices read, %u names and numbers compared, %u differ\n",
+    printf("%u commands, %u notices read, %u names, numbers and exchanges compared, %u differ\n",
            (unsigned)report[REGISTER_REPORT_COMMANDS], notices_read, compared, differences);
     return differences != 0 || asked_at != journal_length
         || answered_at != report[REGISTER_REPORT_ANSWERS];

@@ -36,12 +36,18 @@ static int failed;
 
 /* ---- The journals ---- */
 
-static void command(unsigned byte, unsigned a, unsigned b)
+/* A command of so many bytes. */
+static void put(size_t length, unsigned byte, unsigned a, unsigned b)
 {
     const uint8_t bytes[5] = {(uint8_t)byte, (uint8_t)(a >> 8), (uint8_t)a,
                               (uint8_t)(b >> 8), (uint8_t)b};
-    memcpy(journal + journal_length, bytes, sizeof bytes);
-    journal_length += sizeof bytes;
+    memcpy(journal + journal_length, bytes, length);
+    journal_length += length;
+}
+
+static void command(unsigned byte, unsigned a, unsigned b)
+{
+    put(5, byte, a, b);
 }
 
 static void add_cabinets(void)
@@ -50,9 +56,11 @@ static void add_cabinets(void)
     journal_length = cabinets;
 }
 
-/* Both lists from end to end, in both directions; then the span that closes the chain. */
+/* An exchange at one end, both lists from end to end, in both directions; then the span that closes
+   the chain, and the questions about exchanges. */
 static void ask_and_close(unsigned first, unsigned last)
 {
+    put(3, 0x09, last, 0);
     command(0x06, first, last);
     command(0x06, last, first);
     command(0x07, first, last);
@@ -60,6 +68,8 @@ static void ask_and_close(unsigned first, unsigned last)
     command(0x05, first, last);
     command(0x02, last, first);
     command(0x06, first, last);
+    put(3, 0x0A, first, 0);
+    put(1, 0x0F, 0, 0);
 }
 
 /* Each cabinet is put below the one before: the last is as deep as can be. */
@@ -146,7 +156,8 @@ static void forecast_all(void)
 {
     size_t longest = REGISTER_LONGEST_JOURNAL;
     forecast_one(0x01, longest, REGISTER_ACCEPTED);
-    for (unsigned byte = 0x02; byte <= 0x08; byte++) {
+    forecast_one(0x0F, longest, REGISTER_ACCEPTED);
+    for (unsigned byte = 0x02; byte <= 0x0A; byte++) {
         forecast_one(byte, longest - 1, REGISTER_ACCEPTED);
         forecast_one(byte, longest, REGISTER_CUT_OFF);
     }

@@ -15,8 +15,8 @@ const GUARD: usize = 64;
 #[derive(Clone, Copy, Default)]
 pub struct Tally {
     pub journals: usize,
-    /// How often each number from 0 to 11 was returned.
-    pub returned: [usize; 12],
+    /// How often each number from 0 to 12 was returned.
+    pub returned: [usize; 13],
     pub commands: usize,
     pub notices: usize,
     /// How often each number from 0 to 5 was returned by a forecast.
@@ -113,7 +113,7 @@ pub fn compare(
     known_beforehand(case, wanted_number, &wanted)?;
     same_number(number, wanted_number)?;
     same_buffers(&got, &wanted)?;
-    let read = planned.map_err(|fault| format!("demand 3: {fault}"))?;
+    let read = planned.map_err(|fault| format!("the planner finds: {fault}"))?;
     all_read(&read, number, &got)?;
     tally.journals += 1;
     tally.returned[number as usize] += 1;
@@ -144,11 +144,15 @@ fn known_beforehand(case: &Case, number: u32, wanted: &Lent) -> Result<(), Strin
     if let Some((answers, report)) = &case.left {
         let left = &wanted.answers[GUARD..][..answers.len()];
         if left != answers {
-            return Err(format!("second answers {}, known is {}", hex(left), hex(answers)));
+            return Err(format!(
+                "second answers {}, known beforehand is {}",
+                hex(left),
+                hex(answers)
+            ));
         }
         let left = &wanted.report[GUARD..][..case.report];
         if left != report {
-            return Err(format!("second reports {left:?}, known is {report:?}"));
+            return Err(format!("second reports {left:?}, known beforehand is {report:?}"));
         }
     }
     Ok(())

@@ -5,6 +5,7 @@ mod forecast;
 use crate::engine::{work_needed, Call, Engine};
 use crate::kinds::KINDS;
 use crate::second::book::Fault;
+use crate::second::exchanges::Misfeed;
 use crate::second::Second;
 use std::ops::BitXor;
 
@@ -42,6 +43,14 @@ impl Left<'_> {
         end.filter(|&end| self.behind_answers().is_some_and(|behind| behind < end))
     }
 
+    /// Returns 11 for a refusal with 12 where no room is left.
+    fn room_first(&mut self) {
+        if self.number == 12 && self.behind_answers() == Some(self.call.answers.len()) {
+            self.number = 11;
+            self.call.report[0] = 11;
+        }
+    }
+
     /// W.
     fn work(&self) -> usize {
         work_needed(self.call.c, self.call.s)
@@ -58,8 +67,9 @@ fn change<T: Copy + From<u8> + BitXor<Output = T>>(at: Option<usize>, buffer: &m
 /// What is wrong, and how it is made so.
 type Spoil = (&'static str, fn(&mut Left));
 
-const SPOILS: [Spoil; 17] = [
+const SPOILS: [Spoil; 18] = [
     ("another number returned", |left| left.number += 1),
+    ("11 before 12", |left| left.room_first()),
     ("another refusal reported", |left| change(left.ran(0), left.call.report)),
     ("another place reported", |left| change(left.ran(1), left.call.report)),
     ("another count of commands", |left| change(left.ran(2), left.call.report)),
@@ -109,6 +119,9 @@ pub fn engines() -> Vec<Named> {
     for fault in KINDS.into_iter().map(Fault::GreatestName).chain(against) {
         engines.push((format!("{fault:?}"), Box::new(Second::with_fault(fault))));
     }
+    for (fault, _) in IN_EXCHANGES {
+        engines.push((format!("{fault:?}"), Box::new(Second::with_misfeed(fault))));
+    }
     for spoil in SPOILS {
         engines.push((spoil.0.to_string(), Box::new(Spoiled(spoil))));
     }
@@ -125,6 +138,18 @@ pub fn forecasts() -> Vec<Named> {
     engines.push((forecast::Unfilled.name().to_string(), Box::new(forecast::Unfilled)));
     engines
 }
+
+/// Faults in the exchanges that a planner's own marks must find where the second implementation has
+/// them too, and what is said then.
+pub const IN_EXCHANGES: [(Misfeed, &str); 7] = [
+    (Misfeed::LostInJoins, "answers 0, its ring holds"),
+    (Misfeed::ByDistrict, "answers 1, its ring holds 0"),
+    (Misfeed::ShareOfRings, "cabinets are fed"),
+    (Misfeed::ShareOfExchanges, "cabinets are fed"),
+    (Misfeed::ShareAmongExchanges, "cabinets are fed"),
+    (Misfeed::RoundedUp, "cabinets are fed"),
+    (Misfeed::MarkedTwice, "commands 09 accepted"),
+];
 
 /// Faults that demand 3 must find where the second implementation has them too, and what is said
 /// then.

@@ -1,14 +1,15 @@
-//! Journals whose forecast is known beforehand, worked out by hand from document 02's first request.
+//! Journals whose forecast is known beforehand, worked out by hand from document 02's first request
+//! and from what its second request has 09, 0A and 0F answer: 1, 2 and 3 bytes.
 
 use crate::cases::{unhex, Case};
 use crate::engine::LONGEST_JOURNAL;
 use crate::histories::TRIANGLE;
-use crate::journals::Writer;
+use crate::journals::{operand_count, unknown_bytes, Writer, COMMANDS};
 
 /// What a journal is, its bytes, and its forecast: number, place and length.
 type Known = (&'static str, &'static str, [u32; 3]);
 
-const SMALL: [Known; 17] = [
+const SMALL: [Known; 22] = [
     ("empty journal", "", [0, 0, 0]),
     ("01 alone", "01", [0, 1, 3]),
     ("02 alone", "02 0000 0001", [0, 5, 7]),
@@ -18,27 +19,33 @@ const SMALL: [Known; 17] = [
     ("06 alone", "06 0000 0000", [0, 5, 3]),
     ("07 alone", "07 0000 0000", [0, 5, 3]),
     ("08 alone", "08 0000", [0, 3, 2]),
+    ("09 alone", "09 0000", [0, 3, 1]),
+    ("0A alone", "0A 0000", [0, 3, 2]),
+    ("0F alone", "0F", [0, 1, 3]),
+    ("an exchange and the questions about it", "01 09 0000 0A 0000 0F", [0, 8, 9]),
     ("triangle", TRIANGLE, [0, 18, 75]),
     ("a cabinet is no span: 06 with one cabinet", "01 06 0000 0000", [0, 6, 6]),
     ("a span is no cabinet: 07 with one span", "02 0000 0001 07 0000 0000", [0, 10, 10]),
     (
         "every command, all accepted",
-        "01 01 02 0000 0001 03 0000 04 0001 05 0000 0001 06 0000 0001 07 0000 0001 08 0000",
-        [0, 31, 57],
+        "01 01 02 0000 0001 03 0000 04 0001 05 0000 0001 06 0000 0001 07 0000 0001 08 0000 \
+         09 0000 0A 0001 0F",
+        [0, 38, 63],
     ),
     ("06 before the spans that it counts", "06 0000 0001 02 0000 0001 02 0000 0001", [0, 15, 31]),
     ("07 before the cabinets that it counts", "07 0000 0001 01 01 01", [0, 8, 48]),
     (
         "every command, the questions first",
-        "08 0000 07 0000 0001 06 0000 0001 05 0000 0001 04 0000 03 0000 \
+        "0F 0A 0000 09 0000 08 0000 07 0000 0001 06 0000 0001 05 0000 0001 04 0000 03 0000 \
          02 0000 0001 02 0000 0001 01 01 01 01 01",
-        [0, 39, 171],
+        [0, 46, 177],
     ),
-    ("unknown bytes for operands", "03 FFFF 05 0909 0000 01", [0, 9, 10]),
+    ("an exchange lengthens no list", "09 0000 09 0001 06 0000 0001 07 0000 0001", [0, 16, 8]),
+    ("unknown bytes for operands", "03 FFFF 05 0B0C 0000 09 0D0E 0A 1000 0F 01", [0, 16, 16]),
 ];
 
 /// Journals of one command alone: its byte, how often it stands there, the place and the length.
-const ALIKE: [(u8, usize, u32, u32); 29] = [
+const ALIKE: [(u8, usize, u32, u32); 35] = [
     (0x01, 2, 2, 26),
     (0x01, 3, 3, 39),
     (0x01, 4, 4, 92),
@@ -68,13 +75,19 @@ const ALIKE: [(u8, usize, u32, u32); 29] = [
     (0x07, 4, 20, 12),
     (0x07, 13_107, 65_535, 39_321),
     (0x08, 21_845, 65_535, 43_690),
+    (0x09, 4, 12, 4),
+    (0x09, 21_845, 65_535, 21_845),
+    (0x0A, 4, 12, 8),
+    (0x0A, 21_845, 65_535, 43_690),
+    (0x0F, 4, 4, 12),
+    (0x0F, 65_536, 65_536, 196_608),
 ];
 
 /// A damaged journal, what it is, and its bytes; the number and the place of its forecast; the
 /// answers and the report of its run.
 type Damaged = (&'static str, &'static str, [u32; 2], &'static str, [u32; 6]);
 
-const DAMAGED: [Damaged; 8] = [
+const DAMAGED: [Damaged; 10] = [
     ("02 00 00 alone", "02 00 00", [5, 0], "", [5, 0, 0, 0, 0, 0]),
     (
         "02 00 00 behind accepted commands",
@@ -100,7 +113,21 @@ const DAMAGED: [Damaged; 8] = [
         "81 0000 81 0001",
         [10, 2, 2, 6, 2, 0],
     ),
-    ("unknown byte behind a full register", "01 01 09", [4, 2], "81 0000", [9, 1, 1, 3, 1, 0]),
+    (
+        "cut off behind a cabinet marked twice",
+        "01 09 0000 09 0000 0A 00",
+        [5, 7],
+        "81 0000 89",
+        [12, 4, 2, 4, 1, 0],
+    ),
+    (
+        "unknown byte behind a cabinet marked twice",
+        "01 09 0000 09 0000 0E",
+        [4, 7],
+        "81 0000 89",
+        [12, 4, 2, 4, 1, 0],
+    ),
+    ("unknown byte behind a full register", "01 01 0B", [4, 2], "81 0000", [9, 1, 1, 3, 1, 0]),
 ];
 
 /// What stands before a damaged place, and how many bytes that is: nothing, commands that a run
@@ -109,7 +136,7 @@ const BEFORE: [(&str, u32); 3] = [("", 0), ("01 01 02 0000 0001", 7), ("08 0005"
 
 /// All of them.
 pub fn known() -> Vec<Case> {
-    let parts = [small(), alike(), longest(), too_long(), damaged(), unknown_bytes(), cut_off()];
+    let parts = [small(), alike(), longest(), too_long(), damaged(), unknown(), cut_off()];
     parts.into_iter().flatten().collect()
 }
 
@@ -128,14 +155,9 @@ fn without_capacities(label: &str, journal: Vec<u8>) -> Case {
 
 /// So many commands with this byte.
 fn repeated(byte: u8, count: usize) -> Vec<u8> {
+    let operands = &[0, 1][..operand_count(byte)];
     let mut writer = Writer::new();
-    for _ in 0..count {
-        match byte {
-            0x01 => writer.command(byte, &[]),
-            0x03 | 0x04 | 0x08 => writer.command(byte, &[0]),
-            _ => writer.command(byte, &[0, 1]),
-        }
-    }
+    (0..count).for_each(|_| writer.command(byte, operands));
     writer.bytes
 }
 
@@ -147,12 +169,16 @@ fn alike() -> Vec<Case> {
     ALIKE.into_iter().map(case).collect()
 }
 
-/// Journals of 65,536 bytes: one that a run accepts, one with the longest lists.
+/// Journals of 65,536 bytes: some that a run accepts, one with the longest lists.
 fn longest() -> Vec<Case> {
     let names = [repeated(0x01, 1), repeated(0x03, 21_845)].concat();
+    let fed = [repeated(0x01, 1), repeated(0x09, 1), repeated(0x0A, 21_844)].concat();
+    let shares = [repeated(0x01, 1), repeated(0x0F, 65_535)].concat();
     let lists = [repeated(0x01, 32_771), repeated(0x07, 6_553)].concat();
     vec![
         Case::new("65,536 bytes", 1, 1, names).returns(0).forecasts([0, 65_536, 65_538]),
+        Case::new("65,536 bytes, 0A", 1, 1, fed).returns(0).forecasts([0, 65_536, 43_692]),
+        Case::new("65,536 bytes, 0F", 1, 1, shares).returns(0).forecasts([0, 65_536, 196_608]),
         without_capacities("65,536 bytes, long lists", lists).forecasts([0, 65_536, 434_530_348]),
     ]
 }
@@ -189,9 +215,9 @@ fn behind_each(label: &str, bytes: &[u8], number: u32) -> [Case; 3] {
     })
 }
 
-fn unknown_bytes() -> Vec<Case> {
+fn unknown() -> Vec<Case> {
     let mut cases = Vec::new();
-    for byte in (0x00..=0xFF).filter(|byte| !(0x01..=0x08).contains(byte)) {
+    for byte in unknown_bytes() {
         cases.extend(behind_each("unknown byte", &[byte], 4));
         cases.extend(behind_each("unknown byte and more", &[byte, 0, 0, 0, 0, 0x01], 4));
     }
@@ -200,7 +226,7 @@ fn unknown_bytes() -> Vec<Case> {
 
 fn cut_off() -> Vec<Case> {
     let mut cases = Vec::new();
-    for byte in 0x02..=0x08 {
+    for (byte, _) in COMMANDS {
         let whole = repeated(byte, 1);
         for kept in 1..whole.len() {
             cases.extend(behind_each("cut off", &whole[..kept], 5));

@@ -1,5 +1,5 @@
 //! The register by the method of the proved one, written by hand over ordinary arrays: names with
-//! sizes and ranges, and one block forest. Not proved.
+//! sizes and ranges, one block forest, and a count of exchanges for each ring. Not proved.
 
 mod forecast;
 mod forest;
@@ -98,8 +98,8 @@ impl Run<'_> {
     fn step(&mut self) -> Result<usize, u32> {
         let byte = self.journal[self.place];
         let length = match byte {
-            0x01 => 1,
-            0x03 | 0x04 | 0x08 => 3,
+            0x01 | 0x0F => 1,
+            0x03 | 0x04 | 0x08..=0x0A => 3,
             0x02 | 0x05..=0x07 => 5,
             _ => return Err(4),
         };
@@ -111,16 +111,25 @@ impl Run<'_> {
             0x02 => self.add_span()?,
             0x03 => {
                 let name = self.forest.district(self.one_cabinet()?);
-                self.name_answer(0x83, name)?;
+                self.field_answer(0x83, name)?;
             }
             0x04 => {
                 let name = self.forest.ring(self.one_cabinet()?);
-                self.name_answer(0x84, name)?;
+                self.field_answer(0x84, name)?;
             }
             0x05 => self.shared_mesh()?,
             0x06 => self.sole_spans()?,
             0x07 => self.cut_cabinets()?,
-            _ => self.is_sole()?,
+            0x08 => self.is_sole()?,
+            0x09 => self.mark()?,
+            0x0A => {
+                let is_fed = self.forest.is_fed(self.one_cabinet()?);
+                self.flag_answer(0x8A, is_fed)?;
+            }
+            _ => {
+                let share = thousandths(self.forest.fed(), self.forest.cabinets());
+                self.field_answer(0x8F, share)?;
+            }
         }
         Ok(length)
     }
@@ -130,15 +139,15 @@ impl Run<'_> {
         if number >= self.capacities.0 {
             return Err(9);
         }
-        self.name_answer(0x81, number)?;
+        self.field_answer(0x81, number)?;
         self.forest.add_cabinet();
         Ok(())
     }
 
-    fn name_answer(&mut self, first: u8, name: u32) -> Result<(), u32> {
+    fn field_answer(&mut self, first: u8, value: u32) -> Result<(), u32> {
         self.out.need(3)?;
         self.out.byte(first);
-        self.out.field(name);
+        self.out.field(value);
         Ok(())
     }
 
@@ -192,9 +201,24 @@ impl Run<'_> {
         if span >= self.forest.spans() {
             return Err(7);
         }
+        self.flag_answer(0x88, self.forest.is_sole(span))
+    }
+
+    fn mark(&mut self) -> Result<(), u32> {
+        let cabinet = self.one_cabinet()?;
+        if self.forest.is_exchange(cabinet) {
+            return Err(12);
+        }
+        self.out.need(1)?;
+        self.out.byte(0x89);
+        self.forest.mark(cabinet);
+        Ok(())
+    }
+
+    fn flag_answer(&mut self, first: u8, flag: bool) -> Result<(), u32> {
         self.out.need(2)?;
-        self.out.byte(0x88);
-        self.out.byte(self.forest.is_sole(span) as u8);
+        self.out.byte(first);
+        self.out.byte(flag as u8);
         Ok(())
     }
 
@@ -217,6 +241,11 @@ impl Run<'_> {
         let bytes = self.out.written as u32;
         [number, self.place as u32, commands, bytes, counts.0, counts.1]
     }
+}
+
+/// So many of so many in thousandths, rounded down; 0 of 0 is 0.
+fn thousandths(part: u32, whole: u32) -> u32 {
+    1000 * part / whole.max(1)
 }
 
 impl Engine for Incremental {

@@ -6,6 +6,32 @@ use crate::layouts::{self, random_spans, Layout, MEDIUM, STYLES};
 use crate::random::Random;
 use crate::second::Second;
 
+/// The command bytes, each with the number of its operands.
+pub const COMMANDS: [(u8, usize); 11] = [
+    (0x01, 0),
+    (0x02, 2),
+    (0x03, 1),
+    (0x04, 1),
+    (0x05, 2),
+    (0x06, 2),
+    (0x07, 2),
+    (0x08, 1),
+    (0x09, 1),
+    (0x0A, 1),
+    (0x0F, 0),
+];
+
+/// The number of operands behind a command byte.
+pub fn operand_count(byte: u8) -> usize {
+    let known = COMMANDS.iter().find(|command| command.0 == byte);
+    known.expect("the byte is a command's").1
+}
+
+/// The bytes that are no command's: 00, 0B to 0E, and 10 to FF.
+pub fn unknown_bytes() -> impl Iterator<Item = u8> {
+    (0x00..=0xFF).filter(|&byte| COMMANDS.iter().all(|command| command.0 != byte))
+}
+
 /// Writes a journal, and keeps as much of the network as it takes to write commands that are
 /// accepted.
 #[derive(Default)]
@@ -13,6 +39,7 @@ pub struct Writer {
     pub bytes: Vec<u8>,
     pub cabinets: usize,
     pub spans: usize,
+    exchanges: Vec<usize>,
     /// The next cabinet on the way to the one that stands for the district.
     toward: Vec<usize>,
 }
@@ -43,6 +70,14 @@ impl Writer {
         self.spans += 1;
     }
 
+    /// Marks a cabinet, unless it is an exchange already.
+    pub fn mark(&mut self, cabinet: usize) {
+        if !self.exchanges.contains(&cabinet) {
+            self.command(0x09, &[cabinet]);
+            self.exchanges.push(cabinet);
+        }
+    }
+
     /// A span, and before it the cabinets that it needs and that are not there yet.
     fn span_with_cabinets(&mut self, a: usize, b: usize) {
         while self.cabinets <= a.max(b) {
@@ -66,43 +101,54 @@ impl Writer {
 
     /// Enters all cabinets, then all spans.
     pub fn enter(&mut self, layout: &Layout) {
-        for _ in 0..layout.cabinets {
-            self.cabinet();
-        }
-        for &(a, b) in &layout.spans {
-            self.span(a, b);
-        }
+        self.enter_marked(layout, &[]);
+    }
+
+    /// Enters all cabinets, marks these of them, then enters all spans.
+    pub fn enter_marked(&mut self, layout: &Layout, marked: &[usize]) {
+        (0..layout.cabinets).for_each(|_| self.cabinet());
+        marked.iter().for_each(|&cabinet| self.mark(cabinet));
+        layout.spans.iter().for_each(|&(a, b)| self.span(a, b));
     }
 
     /// A question that is accepted; nothing if the cabinets or spans for it are missing.
     pub fn question(&mut self, random: &mut Random) {
+        let byte = *random.pick(&[0x03, 0x04, 0x05, 0x06, 0x07, 0x08, 0x0A, 0x0F]);
+        if byte == 0x0F {
+            return self.command(byte, &[]);
+        }
         if self.cabinets == 0 {
             return;
         }
         let (a, b) = (random.below(self.cabinets), random.below(self.cabinets));
-        match random.between(3, 8) {
-            3 => self.command(0x03, &[a]),
-            4 => self.command(0x04, &[a]),
-            5 if a != b => self.command(0x05, &[a, b]),
-            byte @ (6 | 7) if self.joined(a, b) => self.command(byte as u8, &[a, b]),
-            8 if self.spans > 0 => {
-                let span = random.below(self.spans);
-                self.command(0x08, &[span]);
-            }
-            _ => {}
+        match byte {
+            0x05 if a == b => {}
+            0x06 | 0x07 if !self.joined(a, b) => {}
+            0x05..=0x07 => self.command(byte, &[a, b]),
+            0x08 if self.spans == 0 => {}
+            0x08 => self.command(byte, &[random.below(self.spans)]),
+            _ => self.command(byte, &[a]),
         }
     }
 
-    /// A command or question whose operands may be unknown, equal, or in two districts.
+    /// A command or question whose operands may be unknown, equal, in two districts, or an exchange
+    /// already.
     fn any(&mut self, random: &mut Random) {
+        if random.chance(20) && !self.exchanges.is_empty() {
+            return self.command(0x09, &[*random.pick(&self.exchanges)]);
+        }
         let mut operands = [(); 2].map(|_| random.below(self.cabinets + 2));
         if random.chance(20) {
             operands[1] = operands[0];
         }
-        match random.between(2, 8) as u8 {
-            byte @ (3 | 4 | 8) => self.command(byte, &operands[..1]),
-            byte => self.command(byte, &operands),
-        }
+        let (byte, count) = *random.pick(&COMMANDS[1..]);
+        self.command(byte, &operands[..count]);
+    }
+
+    /// Every question about exchanges.
+    fn exchange_questions(&mut self) {
+        (0..self.cabinets).for_each(|cabinet| self.command(0x0A, &[cabinet]));
+        self.command(0x0F, &[]);
     }
 
     /// Every question that is accepted.
@@ -123,21 +169,29 @@ impl Writer {
         for span in 0..self.spans {
             self.command(0x08, &[span]);
         }
+        self.exchange_questions();
     }
 }
 
-/// A journal of one of the styles, with questions between, and the style's name.
+/// A journal of one of the styles, with marks and questions between, and the style's name.
 pub fn styled(random: &mut Random) -> (&'static str, Writer) {
     let (name, style) = if random.chance(1) { MEDIUM } else { *random.pick(&STYLES) };
     let layout = style(random);
     let late = random.chance(50);
+    let marks = *random.pick(&[0, 5, 15, 50]);
     let questions = *random.pick(&[0, 0, 10, 50, 150]);
     let mut writer = Writer::new();
+    if random.chance(10) {
+        writer.command(0x0F, &[]);
+    }
     if !late {
         (0..layout.cabinets).for_each(|_| writer.cabinet());
     }
     for &(a, b) in &layout.spans {
         writer.span_with_cabinets(a, b);
+        if random.chance(marks) {
+            writer.mark(random.below(writer.cabinets));
+        }
         let count = questions / 100 + usize::from(random.chance(questions % 100));
         (0..count).for_each(|_| writer.question(random));
     }
@@ -159,8 +213,8 @@ fn damage(random: &mut Random, bytes: &mut Vec<u8>) {
         let at = random.below(bytes.len());
         match random.below(6) {
             0 => bytes[at] = random.number() as u8,
-            1 => bytes[at] = random.below(10) as u8,
-            2 => bytes.insert(at, random.below(10) as u8),
+            1 => bytes[at] = random.below(0x11) as u8,
+            2 => bytes.insert(at, random.below(0x11) as u8),
             3 => drop(bytes.remove(at)),
             4 => bytes[at] ^= 1 << random.below(8),
             _ => bytes.truncate(at),
@@ -172,7 +226,11 @@ fn damage(random: &mut Random, bytes: &mut Vec<u8>) {
 fn bare_bytes(random: &mut Random) -> Vec<u8> {
     let mut bytes = vec![0x01; random.below(6)];
     for _ in 0..random.below(60) {
-        bytes.push(if random.chance(95) { random.below(9) as u8 } else { random.number() as u8 });
+        bytes.push(match random.below(100) {
+            0..=4 => random.number() as u8,
+            5..=14 => 0x00,
+            _ => random.pick(&COMMANDS).0,
+        });
     }
     bytes
 }
@@ -230,9 +288,8 @@ fn capacities(random: &mut Random, cabinets: usize, spans: usize) -> (u32, u32) 
     (near(random, cabinets, MOST_CABINETS), near(random, spans, MOST_SPANS))
 }
 
-/// Every list of so many spans between so many cabinets, in both directions, each followed by
-/// every question.
-pub fn every_list(cabinets: usize, spans: usize, each: &mut dyn FnMut(Case)) {
+/// Every list of so many spans between so many cabinets, in both directions.
+fn lists_of_spans(cabinets: usize, spans: usize, each: &mut dyn FnMut(usize, Vec<(usize, usize)>)) {
     let mut pairs = Vec::new();
     for a in 0..cabinets {
         for b in 0..cabinets {
@@ -243,13 +300,48 @@ pub fn every_list(cabinets: usize, spans: usize, each: &mut dyn FnMut(Case)) {
     }
     let mut number = 0;
     layouts::every_list(&pairs, spans, &mut |spans| {
+        each(number, spans);
+        number += 1;
+    });
+}
+
+/// Every list of so many spans between so many cabinets, each followed by every question; then one
+/// cabinet after the other is marked, each mark followed by every question about exchanges.
+pub fn every_list(cabinets: usize, spans: usize, each: &mut dyn FnMut(Case)) {
+    lists_of_spans(cabinets, spans, &mut |number, spans| {
         let count = spans.len();
         let mut writer = Writer::new();
         writer.enter(&Layout { cabinets, spans });
         writer.sweep();
+        for i in 0..cabinets {
+            writer.mark((number + i) % cabinets);
+            writer.exchange_questions();
+        }
         let label = format!("every list of {count} spans, number {number}");
         each(Case::new(&label, cabinets as u32, count.max(1) as u32, writer.bytes).returns(0));
-        number += 1;
+    });
+}
+
+/// Every list of so many spans between so many cabinets, with every one of these marked before each
+/// span and after the last; every span is followed by every question about exchanges.
+pub fn every_mark(cabinets: usize, spans: usize, each: &mut dyn FnMut(Case)) {
+    lists_of_spans(cabinets, spans, &mut |number, spans| {
+        for (marked, place) in (0..cabinets).flat_map(|a| (0..=spans.len()).map(move |i| (a, i))) {
+            let mut writer = Writer::new();
+            (0..cabinets).for_each(|_| writer.cabinet());
+            for (i, &(a, b)) in spans.iter().enumerate() {
+                if i == place {
+                    writer.mark(marked);
+                }
+                writer.span(a, b);
+                writer.exchange_questions();
+            }
+            writer.mark(marked);
+            writer.exchange_questions();
+            let label = format!("cabinet {marked} marked at span {place} of list {number}");
+            let (c, s) = (cabinets as u32, spans.len() as u32);
+            each(Case::new(&label, c, s, writer.bytes).returns(0));
+        }
     });
 }
 
@@ -262,6 +354,9 @@ pub fn every_room(seed: u64, each: &mut dyn FnMut(Case)) {
     let mut writer = Writer::new();
     for &(a, b) in &layout.spans {
         writer.span_with_cabinets(a, b);
+        if random.chance(30) {
+            writer.mark(random.below(writer.cabinets));
+        }
         (0..random.below(3)).for_each(|_| writer.question(&mut random));
     }
     if random.chance(20) {
@@ -276,11 +371,12 @@ pub fn every_room(seed: u64, each: &mut dyn FnMut(Case)) {
     }
 }
 
-/// Networks of the greatest size, each with questions at the end.
+/// Networks of the greatest size, each with some exchanges, and with questions at the end.
 pub fn large(seed: u64, layout: &Layout) -> Vec<u8> {
     let mut random = Random::new(seed);
     let mut writer = Writer::new();
-    writer.enter(layout);
+    let marked = [(); 20].map(|_| random.below(layout.cabinets));
+    writer.enter_marked(layout, &marked);
     while writer.bytes.len() < 60_000 {
         writer.question(&mut random);
     }

@@ -1,5 +1,5 @@
-//! Second implementations of document 01 and of document 02's first request, and what is needed to
-//! compare an engine with them.
+//! Second implementations of document 01 and of document 02's first two requests, and what is
+//! needed to compare an engine with them.
 //!
 //! - `second`: the documents restated; everything is computed anew after each command.
 //! - `literal`: the definitions word for word, for small networks; `second` is tested against it.
@@ -12,6 +12,7 @@
 pub mod cases;
 pub mod compare;
 pub mod engine;
+pub mod exchanges;
 pub mod faults;
 pub mod forecasts;
 pub mod histories;

@@ -1,5 +1,6 @@
-//! The definitions of document 01 word for word, for small networks: every loss is tried, every
-//! simple cycle is searched for. Slow on purpose.
+//! The definitions of document 01, and the exchanges of document 02's second request, word for
+//! word, for small networks: every loss is tried, every simple cycle is searched for. Slow on
+//! purpose.
 
 use crate::second::groups::{touches, Network};
 
@@ -38,6 +39,22 @@ pub fn share_district(network: &Network, a: usize, b: usize) -> bool {
 pub fn share_ring(network: &Network, a: usize, b: usize) -> bool {
     share_district(network, a, b)
         && (0..network.spans.len()).all(|span| joined_without_span(network, span, a, b))
+}
+
+/// Some exchange shares the cabinet's ring.
+pub fn is_fed(network: &Network, exchanges: &[usize], cabinet: usize) -> bool {
+    exchanges.iter().any(|&exchange| share_ring(network, exchange, cabinet))
+}
+
+/// The most thousandths of all cabinets that are no more than the cabinets whose ring holds an
+/// exchange; 0 for an empty network.
+pub fn fed_share(network: &Network, exchanges: &[usize]) -> usize {
+    let cabinets = network.cabinets;
+    if cabinets == 0 {
+        return 0;
+    }
+    let fed = (0..cabinets).filter(|&cabinet| is_fed(network, exchanges, cabinet)).count();
+    (0..=1000).rev().find(|thousandths| thousandths * cabinets <= 1000 * fed).unwrap_or(0)
 }
 
 /// One span, or some simple cycle holds both.

@@ -10,7 +10,7 @@ use differential::compare::{compare, Tally};
 use differential::engine::Engine;
 use differential::incremental::Incremental;
 use differential::second::Second;
-use differential::{faults, forecasts, histories, journals, program, refusals};
+use differential::{exchanges, faults, forecasts, histories, journals, program, refusals};
 use std::process::ExitCode;
 use std::time::{Duration, Instant};
 
@@ -107,11 +107,15 @@ impl Test {
     fn all(&mut self, seed: u64) {
         self.cases(&histories::marked(), seed);
         self.cases(&histories::unmarked(), seed);
+        self.cases(&exchanges::known(), seed);
         self.cases(&refusals::all(), seed);
         self.cases(&refusals::empty_buffers(), seed);
         self.cases(&forecasts::known(), seed);
         for (cabinets, spans) in [(2, 0), (2, 3), (3, 3), (3, 4), (4, 3), (4, 4)] {
             journals::every_list(cabinets, spans, &mut |case| self.given(&case, seed));
+        }
+        for (cabinets, spans) in [(2, 3), (3, 3), (3, 4), (4, 3)] {
+            journals::every_mark(cabinets, spans, &mut |case| self.given(&case, seed));
         }
         for small in seed..seed + SMALL_JOURNALS {
             journals::every_room(small, &mut |case| self.given(&case, small));
@@ -137,7 +141,7 @@ impl Test {
     /// the forecast knows by some forecast, with runs in the room forecast unless it is 3.
     fn every_number(&mut self) {
         let Tally { returned, forecast, exact, .. } = &self.tally;
-        let runs = (0..=11).map(|number| ("run", number, returned[number]));
+        let runs = (0..=12).map(|number| ("run", number, returned[number]));
         let forecasts = [0, 3, 4, 5].map(|number| ("forecast", number, forecast[number]));
         let exact = [0, 4, 5].map(|number| ("run in the room forecast", number, exact[number]));
         let mut all = runs.chain(forecasts).chain(exact);
@@ -153,7 +157,7 @@ impl Test {
         let Tally { journals, returned, commands, notices, forecast, exact } = self.tally;
         Ok(format!(
             "{} equals second, every byte: {journals} journals ({} accepted to the end, refused by \
-             1 to 11: {:?}), {commands} commands, {notices} notices; {} forecasts ({} accepted, \
+             1 to 12: {:?}), {commands} commands, {notices} notices; {} forecasts ({} accepted, \
              refused by 3 to 5: {:?}), {} runs with exactly the room forecast, {} of them of \
              damaged journals",
             self.engine.name(),
@@ -183,7 +187,8 @@ fn null_pointers(_: u64) -> Result<String, String> {
 }
 
 /// Every fault put in on purpose must be found: an engine's by the comparison with the second
-/// implementation, and one that both have by demand 3 or by a run with exactly the room forecast.
+/// implementation, and one that both have by the planner beside the run, by the histories that are
+/// known beforehand, or by a run with exactly the room forecast.
 fn seeded_bugs(seed: u64) -> Result<String, String> {
     let mut found = 0;
     let runs = faults::engines().into_iter().map(|named| (", second ", named));
@@ -199,9 +204,15 @@ fn seeded_bugs(seed: u64) -> Result<String, String> {
         found_by(said, &format!("{fault:?} in both"), test, seed)?;
         found += 1;
     }
+    for (fault, said) in faults::IN_EXCHANGES {
+        let test = || in_both(|| Second::with_misfeed(fault));
+        found_by(said, &format!("{fault:?} in both"), test(), seed)?;
+        found_in(&exchanges::known(), &format!("{fault:?} in both"), test(), seed)?;
+        found += 2;
+    }
     for (name, misforecast) in faults::TOO_SMALL {
         let mut test = in_both(|| Second::with_misforecast(misforecast));
-        test.cases(&histories::marked(), seed);
+        test.cases(&[histories::marked(), exchanges::known()].concat(), seed);
         found_by("bytes of room that are forecast", &format!("{name} in both"), test, seed)?;
         found += 1;
     }
@@ -226,13 +237,22 @@ fn found_by(said: &str, name: &str, mut test: Test, seed: u64) -> Result<(), Str
     Err(format!("not found: {name}"))
 }
 
+/// Some of these cases must go against what is known beforehand.
+fn found_in(cases: &[Case], name: &str, mut test: Test, seed: u64) -> Result<(), String> {
+    test.cases(cases, seed);
+    match test.fault {
+        Some(fault) if fault.contains("known beforehand") => Ok(()),
+        _ => Err(format!("not known to be wrong: {name}")),
+    }
+}
+
 fn run(wish: Wish) -> Result<String, String> {
     if wish.seeded_bug {
         return seeded_bugs(wish.seed);
     }
     if let Some(path) = &wish.program {
         let count = program::drive(path, wish.seed)?;
-        return Ok(format!("the program writes what document 01 says: {count} inputs"));
+        return Ok(format!("the program writes what it must: {count} inputs"));
     }
     let mut test = Test::new(engine(wish.engine.as_deref())?);
     match wish.soak {

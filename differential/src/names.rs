@@ -1,9 +1,12 @@
 //! The planner's name list, fed the answers as bytes, and the whole of demand 3 checked beside a
-//! run of the second implementation.
+//! run of the second implementation; the answers about exchanges against what the planner knows.
+
+mod marks;
 
 use crate::kinds::{ByKind, Kind, KINDS};
 use crate::second::book::{sizes, Book};
 use crate::second::Accepted;
+use marks::Marks;
 
 /// A name for each cabinet (districts, rings) and for each span (meshes).
 #[derive(Default, PartialEq, Eq, Debug)]
@@ -18,11 +21,20 @@ pub struct Notice {
     pub name: usize,
 }
 
-/// An answer, as far as the name list reads it.
+/// An answer, as far as the planner reads it.
 #[derive(PartialEq, Eq, Debug)]
 pub enum Answer {
     Cabinet(usize),
-    Span { number: usize, mesh: usize, notices: Vec<Notice> },
+    Span {
+        number: usize,
+        mesh: usize,
+        notices: Vec<Notice>,
+    },
+    Marked,
+    /// The byte is 1 if the ring holds an exchange.
+    Fed(u8),
+    /// In thousandths.
+    Share(usize),
     Other,
 }
 
@@ -45,6 +57,9 @@ pub fn decode(bytes: &[u8]) -> Option<(Answer, usize)> {
         0x85 => other(4),
         0x86 | 0x87 => other(3 + 2 * field(1)?),
         0x88 => other(2),
+        0x89 => Some((Answer::Marked, 1)),
+        0x8A => Some((Answer::Fed(*bytes.get(1)?), 2)),
+        0x8F => Some((Answer::Share(field(1)?), 3)),
         _ => None,
     }
 }
@@ -69,7 +84,7 @@ impl NameList {
                 append(&mut self.names.mesh, *number, *mesh)?;
                 notices.iter().try_for_each(|notice| self.set(*notice))
             }
-            Answer::Other => Ok(()),
+            Answer::Marked | Answer::Fed(_) | Answer::Share(_) | Answer::Other => Ok(()),
         }
     }
 
@@ -101,6 +116,7 @@ pub struct Planner<'a> {
     answers: &'a [u8],
     read: usize,
     list: NameList,
+    marks: Marks,
     sent: ByKind<usize>,
     commands: usize,
     fault: Option<String>,
@@ -112,13 +128,15 @@ impl<'a> Planner<'a> {
             answers,
             read: 0,
             list: NameList::default(),
+            marks: Marks::default(),
             sent: ByKind::default(),
             commands: 0,
             fault: None,
         }
     }
 
-    /// Reads the answer to one more accepted command and checks demand 3 up to here.
+    /// Reads the answer to one more accepted command and checks demand 3, and the exchanges, up to
+    /// here.
     pub fn watch(&mut self, accepted: &Accepted) {
         if self.fault.is_some() {
             return;
@@ -129,7 +147,7 @@ impl<'a> Planner<'a> {
         }
     }
 
-    /// What was read, or what demand 3 does not bear.
+    /// What was read, or what demand 3 or the exchanges do not bear.
     pub fn result(self) -> Result<Read, String> {
         if let Some(fault) = self.fault {
             return Err(fault);
@@ -149,7 +167,8 @@ impl<'a> Planner<'a> {
         if self.list.names != accepted.after.names {
             return Err("the name list differs from the naming book".to_string());
         }
-        self.check_counts(accepted.after)
+        self.check_counts(accepted.after)?;
+        self.marks.check(accepted.command, &answer, &self.list.names.ring)
     }
 
     /// Each notice moves its item into a group at least twice the size of the one it left.

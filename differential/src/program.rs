@@ -1,6 +1,7 @@
 //! The program of document 01, driven from outside: standard input to standard output.
 
 use crate::cases::{hex, unhex, Case};
+use crate::exchanges;
 use crate::histories::{marked, TRIANGLE, TRIANGLE_ANSWERS};
 use crate::journals::{random_case, Writer};
 use crate::second::command::Capacities;
@@ -96,7 +97,8 @@ pub fn drive(path: &str, seed: u64) -> Result<usize, String> {
 }
 
 fn inputs(seed: u64) -> Vec<Vec<u8>> {
-    let mut inputs: Vec<Vec<u8>> = marked().into_iter().map(|case: Case| case.journal).collect();
+    let known = marked().into_iter().chain(exchanges::known());
+    let mut inputs: Vec<Vec<u8>> = known.map(|case: Case| case.journal).collect();
     inputs.extend((seed..seed + 300).map(|seed| random_case(seed).journal));
     inputs.extend([CABINETS, CABINETS + 1].map(|count| vec![0x01; count]));
     inputs.extend([SPANS, SPANS + 1].map(spans));

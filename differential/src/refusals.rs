@@ -1,8 +1,8 @@
-//! Every refusal from 1 to 11, by every way to it, and the order of the lines where two apply.
+//! Every refusal from 1 to 12, by every way to it, and the order of the lines where two apply.
 
 use crate::cases::{unhex, Case};
 use crate::engine::{work_needed, LONGEST_JOURNAL};
-use crate::journals::Writer;
+use crate::journals::{unknown_bytes, Writer, COMMANDS};
 
 /// All of them.
 pub fn all() -> Vec<Case> {
@@ -15,6 +15,7 @@ pub fn all() -> Vec<Case> {
         unknown_cabinets(),
         unknown_spans(),
         equal_cabinets(),
+        already_exchange(),
         no_capacity(),
         across_districts(),
         no_room(),
@@ -62,6 +63,22 @@ const SMALL: Beginning = Beginning {
 
 /// The same with a cabinet and a span to spare.
 const SMALL_TO_SPARE: Beginning = Beginning { c: 4, s: 2, ..SMALL };
+
+/// Three cabinets, of which 0 and 1 make a ring of name 0. Cabinet 1 was marked before that,
+/// cabinet 2 after it. C and S are full.
+const MARKED: Beginning = Beginning {
+    c: 3,
+    s: 2,
+    journal: "01 01 01 02 0000 0001 09 0001 02 0000 0001 09 0002",
+    answers: "81 0000 81 0001 81 0002 82 0000 0000 0001 01 0001 0000 89 \
+              82 0001 0000 0001 02 0001 0000 89",
+    commands: 7,
+    cabinets: 3,
+    spans: 2,
+};
+
+/// The same with a cabinet and a span to spare.
+const MARKED_TO_SPARE: Beginning = Beginning { c: 4, s: 3, ..MARKED };
 
 impl Beginning {
     /// With these bytes behind it, whose first command is refused with this number. No room is
@@ -155,7 +172,7 @@ fn long_journals() -> Vec<Case> {
 
 fn command_bytes() -> Vec<Case> {
     let mut cases = Vec::new();
-    for byte in (0x00..=0xFF).filter(|byte| !(0x01..=0x08).contains(byte)) {
+    for byte in unknown_bytes() {
         cases.push(NOTHING.stopped("unknown byte alone", &[byte], 4));
         cases.push(SMALL.stopped("unknown last byte", &[byte], 4));
         cases.push(SMALL.stopped("unknown byte and more", &[byte, 0, 0, 0, 1, 0x01], 4));
@@ -165,14 +182,14 @@ fn command_bytes() -> Vec<Case> {
 
 fn cut_off() -> Vec<Case> {
     let mut cases = Vec::new();
-    let widths = [(2, 4), (3, 2), (4, 2), (5, 4), (6, 4), (7, 4), (8, 2)];
-    for (byte, width) in widths {
-        for kept in 0..width {
+    for (byte, operands) in COMMANDS {
+        for kept in 0..2 * operands {
             for filler in [0x00, 0x01, 0xFF] {
                 let mut bytes = vec![byte];
                 bytes.extend(vec![filler; kept]);
                 cases.push(NOTHING.stopped("cut off, alone", &bytes, 5));
                 cases.push(SMALL.stopped("cut off", &bytes, 5));
+                cases.push(MARKED.stopped("cut off behind exchanges", &bytes, 5));
             }
         }
     }
@@ -182,8 +199,9 @@ fn cut_off() -> Vec<Case> {
 fn unknown_cabinets() -> Vec<Case> {
     let mut cases = Vec::new();
     for unknown in [3, 4, 255, 256, 4096, 0xFFFF] {
-        for byte in [3, 4] {
+        for byte in [0x03, 0x04, 0x09, 0x0A] {
             cases.push(SMALL.stopped_at("cabinet unknown", byte, &[unknown], 6));
+            cases.push(MARKED.stopped_at("cabinet unknown, with exchanges", byte, &[unknown], 6));
         }
         for byte in [2, 5, 6, 7] {
             cases.push(SMALL.stopped_at("first unknown", byte, &[unknown, 0], 6));
@@ -194,7 +212,7 @@ fn unknown_cabinets() -> Vec<Case> {
     for byte in [2, 5, 6, 7] {
         cases.push(NOTHING.stopped_at("none at all", byte, &[0, 0], 6));
     }
-    for byte in [3, 4] {
+    for byte in [0x03, 0x04, 0x09, 0x0A] {
         cases.push(NOTHING.stopped_at("none at all", byte, &[0], 6));
     }
     cases.push(ONE_CABINET.stopped_at("02 5 5 with one cabinet", 2, &[5, 5], 6));
@@ -224,6 +242,25 @@ fn equal_cabinets() -> Vec<Case> {
     cases
 }
 
+/// 12 comes before 11, and does not go by the capacities. It is for the exchanges only: another
+/// cabinet is marked, also in a ring that holds one and with C and S full.
+fn already_exchange() -> Vec<Case> {
+    let mut cases = Vec::new();
+    for beginning in [MARKED, MARKED_TO_SPARE] {
+        for exchange in [1, 2] {
+            cases.push(beginning.stopped_at("12, before 11", 0x09, &[exchange], 12));
+            let mut roomy = beginning.stopped_at("12 with room", 0x09, &[exchange], 12);
+            roomy.answers += 1;
+            cases.push(roomy);
+        }
+        cases.push(beginning.goes_on("another of its ring", 0x09, &[0], unhex("89")));
+    }
+    for cabinet in 0..3 {
+        cases.push(SMALL.goes_on("09 with C and S full", 0x09, &[cabinet], unhex("89")));
+    }
+    cases
+}
+
 fn no_capacity() -> Vec<Case> {
     vec![
         ONE_CABINET.stopped_at("second cabinet of one", 1, &[], 9),
@@ -244,33 +281,45 @@ fn across_districts() -> Vec<Case> {
     cases
 }
 
+/// A beginning, a command behind it, and its answer.
+type Answered = (Beginning, u8, &'static [usize], &'static str);
+
+const ANSWERED: [Answered; 20] = [
+    (SMALL_TO_SPARE, 0x01, &[], "81 0003"),
+    (SMALL_TO_SPARE, 0x02, &[0, 2], "82 0001 0001 0001 01 0002 0000"),
+    (SMALL_TO_SPARE, 0x02, &[0, 1], "82 0001 0000 0001 02 0001 0000"),
+    (SMALL_TO_SPARE, 0x03, &[0], "83 0000"),
+    (SMALL_TO_SPARE, 0x04, &[1], "84 0001"),
+    (SMALL_TO_SPARE, 0x05, &[0, 1], "85 01 0000"),
+    (SMALL_TO_SPARE, 0x05, &[0, 2], "85 00 0000"),
+    (SMALL_TO_SPARE, 0x06, &[0, 1], "86 0001 0000"),
+    (SMALL_TO_SPARE, 0x06, &[0, 0], "86 0000"),
+    (SMALL_TO_SPARE, 0x07, &[0, 1], "87 0000"),
+    (SMALL_TO_SPARE, 0x07, &[2, 2], "87 0000"),
+    (SMALL_TO_SPARE, 0x08, &[0], "88 01"),
+    (SMALL_TO_SPARE, 0x09, &[1], "89"),
+    (SMALL_TO_SPARE, 0x0A, &[1], "8A 00"),
+    (SMALL_TO_SPARE, 0x0F, &[], "8F 0000"),
+    (MARKED_TO_SPARE, 0x09, &[0], "89"),
+    (MARKED_TO_SPARE, 0x0A, &[0], "8A 01"),
+    (MARKED_TO_SPARE, 0x0A, &[2], "8A 01"),
+    (MARKED_TO_SPARE, 0x0F, &[], "8F 03E8"),
+    (NOTHING, 0x0F, &[], "8F 0000"),
+];
+
 /// Each command with every room that is too small for its answer, and with just enough.
 fn no_room() -> Vec<Case> {
     let mut cases = Vec::new();
-    let commands: [(u8, &[usize], &str); 12] = [
-        (1, &[], "81 0003"),
-        (2, &[0, 2], "82 0001 0001 0001 01 0002 0000"),
-        (2, &[0, 1], "82 0001 0000 0001 02 0001 0000"),
-        (3, &[0], "83 0000"),
-        (4, &[1], "84 0001"),
-        (5, &[0, 1], "85 01 0000"),
-        (5, &[0, 2], "85 00 0000"),
-        (6, &[0, 1], "86 0001 0000"),
-        (6, &[0, 0], "86 0000"),
-        (7, &[0, 1], "87 0000"),
-        (7, &[2, 2], "87 0000"),
-        (8, &[0], "88 01"),
-    ];
-    for (byte, operands, answer) in commands {
+    for (beginning, byte, operands, answer) in ANSWERED {
         let answer = unhex(answer);
         for room in 0..answer.len() {
             let label = format!("command {byte:02x} {operands:?} with room {room}");
-            let mut case = SMALL_TO_SPARE.stopped_at(&label, byte, operands, 11);
+            let mut case = beginning.stopped_at(&label, byte, operands, 11);
             case.answers += room;
             cases.push(case);
         }
         let label = format!("command {byte:02x} {operands:?} with just enough room");
-        cases.push(SMALL_TO_SPARE.goes_on(&label, byte, operands, answer));
+        cases.push(beginning.goes_on(&label, byte, operands, answer));
     }
     cases
 }

@@ -1,25 +1,54 @@
-//! A second implementation of document 01, to compare others with. After each command everything
-//! is computed anew from the list of spans; nothing is kept but the naming book. The forecast is
-//! that of document 02's first request.
+//! A second implementation of document 01 and of document 02's first two requests, to compare
+//! others with. After each command everything is computed anew from the list of spans; nothing is
+//! kept but the naming book and the list of exchanges.
 
 pub mod book;
 pub mod command;
+pub mod exchanges;
 pub mod forecast;
 pub mod groups;
 
 use crate::engine::{Call, Engine, Forecast, REPORT_NUMBERS};
 use book::{Book, Fault};
-use command::{answer, feed, read, refusal, Capacities, Command};
+use command::{answer, read, refusal, Capacities, Command};
+use exchanges::{Exchanges, Misfeed};
 use forecast::forecast;
+use std::rc::Rc;
 
 #[derive(Default)]
 pub struct Second {
     fault: Option<Fault>,
+    misfeed: Option<Misfeed>,
     misforecast: Option<Misforecast>,
 }
 
 /// A fault put in on purpose: what is forecast for a journal in place of its right forecast.
 pub type Misforecast = fn(&[u8], Forecast) -> Forecast;
+
+/// The state of a run: the naming book, and the exchanges beside it.
+pub struct State {
+    pub book: Rc<Book>,
+    pub exchanges: Exchanges,
+}
+
+impl State {
+    /// The state after a command that no line before 11 refuses; none if it is as it was.
+    fn after(&self, command: Command) -> Option<State> {
+        let State { book, exchanges } = self;
+        match command {
+            Command::AddCabinet => {
+                Some(State { book: Rc::new(book.with_cabinet()), exchanges: exchanges.clone() })
+            }
+            Command::AddSpan(a, b) => {
+                let after = Rc::new(book.with_span(a, b));
+                let exchanges = exchanges.after_span(&book.names.ring, &after.names.ring);
+                Some(State { book: after, exchanges })
+            }
+            Command::Mark(a) => Some(State { book: book.clone(), exchanges: exchanges.with(a) }),
+            _ => None,
+        }
+    }
+}
 
 /// What a run that was not refused at the start comes to.
 #[derive(Default)]
@@ -48,12 +77,17 @@ impl Second {
 
     /// The same with a fault.
     pub fn with_fault(fault: Fault) -> Second {
-        Second { fault: Some(fault), misforecast: None }
+        Second { fault: Some(fault), ..Second::default() }
+    }
+
+    /// The same with a fault in the exchanges.
+    pub fn with_misfeed(misfeed: Misfeed) -> Second {
+        Second { misfeed: Some(misfeed), ..Second::default() }
     }
 
     /// The same with a fault in the forecast.
     pub fn with_misforecast(misforecast: Misforecast) -> Second {
-        Second { fault: None, misforecast: Some(misforecast) }
+        Second { misforecast: Some(misforecast), ..Second::default() }
     }
 
     /// Runs a journal from an empty network. Each accepted command is shown to `watch`.
@@ -64,28 +98,31 @@ impl Second {
         room: usize,
         watch: &mut dyn FnMut(Accepted),
     ) -> Run {
-        let mut book = Book::empty(self.fault);
+        let mut state = State {
+            book: Rc::new(Book::empty(self.fault)),
+            exchanges: Exchanges::none(self.misfeed),
+        };
         let mut run = Run::default();
         while run.place < journal.len() {
             let left = room - run.answers.len();
-            let step = match step(&book, capacities, &journal[run.place..], left) {
+            let step = match step(&state, capacities, &journal[run.place..], left) {
                 Ok(step) => step,
                 Err(number) => {
                     run.refusal = number;
                     break;
                 }
             };
-            let after = step.book.as_ref().unwrap_or(&book);
-            watch(Accepted { command: step.command, before: &book, after });
+            let after = &step.state.as_ref().unwrap_or(&state).book;
+            watch(Accepted { command: step.command, before: &state.book, after });
             run.place += step.length;
             run.commands += 1;
             run.answers.extend(step.answer);
-            if let Some(after) = step.book {
-                book = after;
+            if let Some(after) = step.state {
+                state = after;
             }
         }
-        run.cabinets = book.network.cabinets;
-        run.spans = book.network.spans.len();
+        run.cabinets = state.book.network.cabinets;
+        run.spans = state.book.network.spans.len();
         run
     }
 
@@ -94,7 +131,7 @@ impl Second {
         self.walk(Capacities::new(c, s), journal, usize::MAX, &mut |_| ()).answers.len()
     }
 
-    /// The run of document 01 with all its buffers; each accepted command is shown to `watch`.
+    /// The run with all its buffers; each accepted command is shown to `watch`.
     pub fn run_watched(&self, call: Call, watch: &mut dyn FnMut(Accepted)) -> u32 {
         let number = call.start_refusal();
         if number != 0 {
@@ -107,27 +144,27 @@ impl Second {
     }
 }
 
-/// An accepted command, its length in the journal, its answer, and the book after it where it
-/// changes the book.
+/// An accepted command, its length in the journal, its answer, and the state after it where it
+/// changes the state.
 struct Taken {
     command: Command,
     length: usize,
     answer: Vec<u8>,
-    book: Option<Book>,
+    state: Option<State>,
 }
 
 /// Takes the command at the front of `bytes`, or gives the number that refuses it.
-fn step(book: &Book, capacities: Capacities, bytes: &[u8], left: usize) -> Result<Taken, u32> {
+fn step(state: &State, capacities: Capacities, bytes: &[u8], left: usize) -> Result<Taken, u32> {
     let (command, length) = read(bytes)?;
-    if let Some(number) = refusal(command, book, capacities) {
+    if let Some(number) = refusal(command, state, capacities) {
         return Err(number);
     }
-    let next = feed(book, command);
-    let answer = answer(command, book, next.as_ref().unwrap_or(book));
+    let next = state.after(command);
+    let answer = answer(command, state, next.as_ref().unwrap_or(state));
     if answer.len() > left {
         return Err(11);
     }
-    Ok(Taken { command, length, answer, book: next })
+    Ok(Taken { command, length, answer, state: next })
 }
 
 fn report_of(run: &Run) -> [u32; REPORT_NUMBERS] {

@@ -4,6 +4,7 @@ use differential::layouts;
 use differential::literal;
 use differential::random::Random;
 use differential::second::book::Book;
+use differential::second::exchanges::{counts, Exchanges};
 use differential::second::groups::{
     cut_cabinets, groups, is_sole, route, shared_mesh, sole_spans, Network,
 };
@@ -98,10 +99,42 @@ fn check_names_after(before: &Book, after: &Book) {
     assert_eq!(after.names.mesh, mesh, "{new:?}");
 }
 
+/// Sets of up to eight exchanges, a bit for each cabinet.
+const SOME_SETS: [usize; 4] = [0b0000_0001, 0b0001_0010, 0b0110_1100, 0b1111_1111];
+
+/// The exchange questions, with every set of exchanges among few cabinets, with some among more.
+fn check_exchanges(network: &Network) {
+    let every_set: Vec<usize> = (0..1 << network.cabinets).collect();
+    let sets = if network.cabinets <= 4 { &every_set[..] } else { &SOME_SETS };
+    for set in sets {
+        let is_marked = |cabinet: &usize| set >> cabinet & 1 == 1;
+        let marked: Vec<usize> = (0..network.cabinets).filter(is_marked).collect();
+        check_marked(network, &marked);
+    }
+}
+
+/// Each ring's count is that of its exchanges, and over all rings the counts add up.
+fn check_marked(network: &Network, marked: &[usize]) {
+    let found = groups(network);
+    let none = Exchanges::none(None);
+    let exchanges = marked.iter().fold(none, |exchanges, &cabinet| exchanges.with(cabinet));
+    let counts = counts(&found.ring, marked);
+    for a in 0..network.cabinets {
+        let fed = exchanges.feed(&found, a);
+        assert_eq!(fed, literal::is_fed(network, marked, a), "{network:?} {marked:?} {a}");
+        let beside = marked.iter().filter(|&&b| literal::share_ring(network, a, b)).count();
+        assert_eq!(counts[found.ring[a]], beside, "{network:?} {marked:?} {a}");
+    }
+    assert_eq!(counts.iter().sum::<usize>(), marked.len(), "{network:?} {marked:?}");
+    let share = exchanges.share(&found);
+    assert_eq!(share, literal::fed_share(network, marked), "{network:?} {marked:?}");
+}
+
 fn check(network: &Network) {
     check_groups(network);
     check_questions(network);
     check_names(network);
+    check_exchanges(network);
 }
 
 /// Every list of `count` spans between `cabinets` cabinets, each span from less to greater.
@@ -117,6 +150,7 @@ fn every_list(cabinets: usize, count: usize, each: &mut dyn FnMut(&Network)) {
 
 #[test]
 fn every_small_network() {
+    check(&Network::default());
     for count in 0..=5 {
         every_list(3, count, &mut check);
     }

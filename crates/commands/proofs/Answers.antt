@@ -1,4 +1,4 @@
--- Demand 2 of the answers, at every point of every run.
+-- Demand 2 of the answers, and what those about exchanges say, at every point of every run.
 use mathlib.Core.List.{List}
 use mathlib.Core.Option.{some}
 use mathlib.Core.Path.{_≡_}
@@ -10,10 +10,9 @@ use Rattle.graph.specs.Network.{Rule, MateRule}
 use Rattle.naming.specs.State.{emptyState}
 use Rattle.commands.specs.Command.{Command}
 use Rattle.commands.specs.Refusal.{Capacities}
-use Rattle.commands.specs.Facts.{answer}
+use Rattle.commands.specs.Facts.{answer, stateAfter}
 use Rattle.commands.specs.Entry.{Buffers}
 use Rattle.commands.specs.Decode.{decodeFirst}
-use Rattle.commands.proofs.StateAfter.{stateAfter}
 use Rattle.commands.proofs.RunBooks.{whole-run-sound}
 use Rattle.commands.proofs.AnswersTell.{AnswersTell, answers-tell}
 use Rattle.commands.proofs.ReadBack.{accepted, answerBuffer, read-back, answer-at}

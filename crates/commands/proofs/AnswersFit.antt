@@ -20,14 +20,15 @@ use Rattle.graph.proofs.BridgesBetween.{bridges-between-exactly}
 use Rattle.graph.proofs.Lengths.{few-bridges-between, few-cuts-between}
 use Rattle.naming.specs.Rename.{nameOf}
 use Rattle.naming.specs.Book.{Book, edge, enterEdge, feed}
-use Rattle.naming.specs.State.{State, afterAddition}
+use Rattle.naming.specs.State.{State, afterAddition, afterRecording}
 use Rattle.commands.specs.Field.{Kind, district, ring, mesh, Field, cabinet, span}
-use Rattle.commands.specs.Command.{Command, addCabinet, addSpan, districtName, ringName, sharedMesh, soleSpans, cutCabinets, isSole}
+use Rattle.commands.specs.Command.{Command, addCabinet, addSpan, districtName, ringName, sharedMesh, soleSpans, cutCabinets, isSole, markExchange, holdsExchange, exchangeShare}
 use Rattle.commands.specs.Answer.{Notice, noticeFields, noticesFields, notices, plain, plainFields, answerFields}
 use Rattle.commands.specs.Facts.{Facts, addsCabinet, addsSpan, addsNothing, asks, meshAnswer, facts, operandsOf, additionOf, addition, after, spanAnswer, answerTo, answer}
 use Rattle.commands.specs.Refusal.{Capacities, cabinetKnown, cabinetsKnown, refusalOf}
 use Rattle.commands.specs.Run.{Accepted}
 use Rattle.commands.specs.WholeRun.{EachNotice, itemsOf}
+use Rattle.commands.proofs.Exchange.{share-at-most}
 use Rattle.commands.proofs.Bytes.{Small, FieldsFit, InTwoBytes, cabinets-in-two-bytes, spans-in-two-bytes, items-in-two-bytes}
 use Rattle.commands.proofs.Decode.{NoticeFits, Fits, AllFit}
 use Rattle.commands.proofs.Causes.{not-refused-exactly}
@@ -108,7 +109,7 @@ module _ (caps : Capacities) (range : InRange caps) where
     )
       where
         there : edgeCount (after s c .book .network) ≡ suc (edgeCount (s .book .network))
-        there = unfold after afterAddition in rw q (unfold feed enterEdge in edge-count-more (s .book .network) e)
+        there = unfold after afterAddition afterRecording in rw q (unfold feed enterEdge in edge-count-more (s .book .network) e)
 
     -- the name of a shared mesh
     mesh-fits : (x y : ℕ) (o : Option ℕ) → sharedBlock (s .book .network) x y ≡ o → Fits (plain (meshAnswer (s .book) o))
@@ -156,6 +157,9 @@ module _ (caps : Capacities) (range : InRange caps) where
       ),
     )
     plain-fits (isSole x) known = (tt, (tt, tt))
+    plain-fits (markExchange x) known = (tt, tt)
+    plain-fits (holdsExchange x) known = (tt, (tt, tt))
+    plain-fits exchangeShare known = (tt, (omega (arith, share-at-most s), tt))
 
     -- every number in the answer fits
     pub answer-fits : (c : Command) → refusalOf caps s c ≡ none → Fits (answer s c)
@@ -168,7 +172,7 @@ module _ (caps : Capacities) (range : InRange caps) where
             subst
             (λ f. Fits (spanAnswer (s .book) (feed (s .book) (additionOf f))))
             q
-            (unfold after afterAddition addition in span-fits c e (ap additionOf q) n)
+            (unfold after afterAddition afterRecording addition in span-fits c e (ap additionOf q) n)
         go (addsNothing question) q = subst PlainFits q (plain-fits c (not-refused-exactly caps s c .0 n .cabinets-known))
 
   -- so it is with every answer of a run

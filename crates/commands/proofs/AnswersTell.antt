@@ -1,24 +1,26 @@
--- Demand 2 of the answers: what each answer says of the network, in every state whose book keeps the laws of naming.
+-- Demand 2 of the answers, and what those about exchanges say: what each answer says of the network, in every state whose book keeps the laws of naming.
 use mathlib.Core.Bool.{true, false}
 use mathlib.Core.Logic.{_↔_}
 use mathlib.Core.Option.{Option, none, some}
 use mathlib.Core.Path.{_≡_, refl, sym, _∙_, ap}
-use Prim.Native.Nat.{ℕ, _<_}
+use Prim.Native.Nat.{ℕ, suc, _*_, _≤_, _<_}
 use lib.Dec.{eqb}
 use Rattle.graph.specs.Network.{Network, edgeCount}
 use Rattle.graph.specs.Groups.{component, bridge, bridgeBlock}
 use Rattle.graph.specs.Block.{sharedBlock, onBlock}
 use Rattle.graph.specs.Between.{bridgesBetween, cutsBetween}
-use Rattle.graph.proofs.Truth.{not-both}
+use Rattle.graph.proofs.Truth.{false-of-not, not-both}
 use Rattle.graph.proofs.SharedBlock.{shared-block-some, shared-block-none, shared-block-found, shared-block-is}
 use Rattle.naming.specs.Rename.{nameOf}
 use Rattle.naming.specs.Book.{Book}
 use Rattle.naming.specs.State.{State}
 use Rattle.naming.proofs.Book.{BookLaws}
-use Rattle.commands.specs.Command.{districtName, ringName, sharedMesh, soleSpans, cutCabinets, isSole}
-use Rattle.commands.specs.Answer.{Plain, plain, districtNamed, ringNamed, meshShared, noMeshShared, soleSpansAre, cutCabinetsAre, soleIs}
+use Rattle.commands.specs.Command.{districtName, ringName, sharedMesh, soleSpans, cutCabinets, isSole, holdsExchange, exchangeShare}
+use Rattle.commands.specs.Answer.{Plain, plain, districtNamed, ringNamed, meshShared, noMeshShared, soleSpansAre, cutCabinetsAre, soleIs, exchangeHeld, shareIs}
+use Rattle.commands.specs.Exchange.{ringHoldsExchange, withExchange, thousandths, shareWithExchange}
 use Rattle.commands.specs.Facts.{asks, meshAnswer, facts, answerTo, answer}
 use Rattle.commands.proofs.Cases.{impossible}
+use Rattle.commands.proofs.Exchange.{ExchangeWith, holds-exchange-exactly, rounded-down}
 
 -- edge s is of a block that has an edge at each of the two vertices
 pub record OfSharedBlock (g : Network) (x y s : ℕ) : Type 0 where
@@ -26,7 +28,7 @@ pub record OfSharedBlock (g : Network) (x y s : ℕ) : Type 0 where
   pub at-first : onBlock g s x ≡ true
   pub at-second : onBlock g s y ≡ true
 
--- What the answers to queries say of the state's network.
+-- What the answers to queries say of the state's network and its exchanges.
 pub record AnswersTell (s : State) : Type 0 where
   -- two 03 answers agree exactly if the cabinets share a component
   pub districts : (x y : ℕ) → x < s .book .network .vertices → y < s .book .network .vertices
@@ -48,6 +50,14 @@ pub record AnswersTell (s : State) : Type 0 where
   pub sole-spans : (x y : ℕ) → answer s (soleSpans x y) ≡ plain (soleSpansAre (bridgesBetween (s .book .network) x y))
   pub cut-cabinets : (x y : ℕ) → answer s (cutCabinets x y) ≡ plain (cutCabinetsAre (cutsBetween (s .book .network) x y))
   pub sole : (x : ℕ) → answer s (isSole x) ≡ plain (soleIs (bridge (s .book .network) x))
+  -- the 0A answer has byte 1 exactly if an exchange shares the cabinet's ring, and byte 0 exactly if none does
+  pub exchange : (x : ℕ) → (answer s (holdsExchange x) ≡ plain (exchangeHeld true)) ↔ ExchangeWith s x
+  pub no-exchange : (x : ℕ) → (answer s (holdsExchange x) ≡ plain (exchangeHeld false)) ↔ (ExchangeWith s x → ⊥)
+  -- the 0F answer is the greatest number of thousandths of all cabinets that is within those whose ring holds an exchange
+  pub share : (m : ℕ) → 0 < s .book .network .vertices → answer s exchangeShare ≡ plain (shareIs m)
+      → (m * s .book .network .vertices ≤ 1000 * withExchange s) × (1000 * withExchange s < suc m * s .book .network .vertices)
+  -- and 0 where there is no cabinet
+  pub share-of-none : s .book .network .vertices ≡ 0 → answer s exchangeShare ≡ plain (shareIs 0)
 
 -- the shared block that is found has an edge at each
 found-shared : (g : Network) (x y t : ℕ) → sharedBlock g x y ≡ some t → OfSharedBlock g x y t
@@ -89,7 +99,7 @@ module _ (b : Book) (laws : BookLaws b) (x y : ℕ) where
 
 -- so it is in every state whose book keeps the laws of naming
 pub answers-tell : (s : State) → BookLaws (s .book) → AnswersTell s
-unfolding answer answerTo facts asks told
+unfolding answer answerTo facts asks told shareWithExchange thousandths
 answers-tell s laws =
     record {
       districts = λ x y h k. (
@@ -112,4 +122,16 @@ answers-tell s laws =
       sole-spans = λ x y. refl;
       cut-cabinets = λ x y. refl;
       sole = λ x. refl;
+      exchange = λ x. (
+        λ q. holds-exchange-exactly s x .0 (cc),
+        λ e. ap (λ b. plain (exchangeHeld b)) (holds-exchange-exactly s x .1 e),
+      );
+      no-exchange = λ x. (
+        λ q e. not-both (holds-exchange-exactly s x .1 e) (cc),
+        λ f. ap (λ b. plain (exchangeHeld b)) (false-of-not (ringHoldsExchange s x) (λ h. f (holds-exchange-exactly s x .0 h))),
+      );
+      share = λ m some q.
+          let is : thousandths (withExchange s) (s .book .network .vertices) ≡ m = cc in
+          rw is at (rounded-down (withExchange s) (s .book .network .vertices) some);
+      share-of-none = λ none. rw none refl;
     }

@@ -12,8 +12,8 @@ use Rattle.graph.specs.Lists.{allIn}
 use Rattle.graph.proofs.Truth.{not-of-true, not-of-false, false-of-not-true, true-of-not-false, and-left, and-right, and-both}
 use Rattle.naming.specs.State.{State}
 use Rattle.commands.specs.Command.{Command, form, Reading, unknownByte, cutOff, command, readCommand}
-use Rattle.commands.specs.Facts.{Demand, differ, shareDistrict, facts, demandsOf}
-use Rattle.commands.specs.Refusal.{Refusal, badByte, cutOperands, unknownCabinet, unknownSpan, equalCabinets, full, twoDistricts, refusalNumber, Capacities, cabinetsKnown, spansKnown, met, cause, meets, isFull, lines, refusalOf}
+use Rattle.commands.specs.Facts.{Demand, differ, noExchange, shareDistrict, facts, demandsOf}
+use Rattle.commands.specs.Refusal.{Refusal, badByte, cutOperands, unknownCabinet, unknownSpan, equalCabinets, full, twoDistricts, alreadyExchange, refusalNumber, Capacities, cabinetsKnown, spansKnown, met, cause, meets, isFull, lines, refusalOf}
 use Rattle.commands.proofs.Reading.{isCommand, widthOf, no-command-exactly, cut-off-exactly}
 use Rattle.commands.proofs.Steps.{RefusedFor, for-byte, for-operands, for-command}
 use Rattle.commands.proofs.Table.{given-exactly, stage, Between, given-between, NoneOf, none-exactly}
@@ -26,17 +26,24 @@ not-is-true b = (false-of-not-true b, not-of-false)
 pub not-is-false : (b : Bool) → (not b ≡ false) ↔ (b ≡ true)
 not-is-false b = (true-of-not-false b, not-of-true)
 
--- where every demand that could give one of the two refusals is met, every demand is
-each-met : (s : State) (ds : List Demand)
-    → allIn (λ d. not (eqb (refusalNumber (cause d)) (refusalNumber equalCabinets)) || met s d) ds ≡ true
-    → allIn (λ d. not (eqb (refusalNumber (cause d)) (refusalNumber twoDistricts)) || met s d) ds ≡ true
+-- all of the demands that could give this refusal are met
+abbrev MetFor : Refusal → State → List Demand → Type 0
+MetFor r s ds = allIn (λ d. not (eqb (refusalNumber (cause d)) (refusalNumber r)) || met s d) ds ≡ true
+
+-- where every demand that could give one of the three refusals is met, every demand is
+each-met : (s : State) (ds : List Demand) → MetFor equalCabinets s ds → MetFor alreadyExchange s ds → MetFor twoDistricts s ds
     → allIn (met s) ds ≡ true
 unfolding allIn cause refusalNumber
-each-met s [] p q = refl
-each-met s (differ a b ∷ ds) p q =
-    and-both (and-left (met s (differ a b)) _ p) (each-met s ds (and-right (met s (differ a b)) _ p) (and-right true _ q))
-each-met s (shareDistrict a b ∷ ds) p q =
-    and-both (and-left (met s (shareDistrict a b)) _ q) (each-met s ds (and-right true _ p) (and-right (met s (shareDistrict a b)) _ q))
+each-met s [] p q r = refl
+each-met s (differ a b ∷ ds) p q r =
+    let this = met s (differ a b) in
+    and-both (and-left this _ p) (each-met s ds (and-right this _ p) (and-right true _ q) (and-right true _ r))
+each-met s (noExchange a ∷ ds) p q r =
+    let this = met s (noExchange a) in
+    and-both (and-left this _ q) (each-met s ds (and-right true _ p) (and-right this _ q) (and-right true _ r))
+each-met s (shareDistrict a b ∷ ds) p q r =
+    let this = met s (shareDistrict a b) in
+    and-both (and-left this _ r) (each-met s ds (and-right true _ p) (and-right true _ q) (and-right this _ r))
 
 -- the refusals of a command that was read are those of this stage
 pub table-stage : (caps : Capacities) (s : State) (c : Command) (r : Refusal) → refusalOf caps s c ≡ some r → Between 2 2 r
@@ -60,24 +67,36 @@ module _ (caps : Capacities) (s : State) (c : Command) where
   unfolding refusalOf lines refusalNumber
   equal-cabinets-exactly = simp (not-is-true, not-is-false) at (given-exactly 2 equalCabinets (lines caps s c) refl)
 
+  -- already an exchange: none of these, and a cabinet is an exchange that the command wants to be none
+  pub already-exchange-exactly : (refusalOf caps s c ≡ some alreadyExchange)
+      ↔ ((cabinetsKnown s c ≡ true)
+      × ((spansKnown s c ≡ true) × ((meets equalCabinets s c ≡ true) × (meets alreadyExchange s c ≡ false))))
+  unfolding refusalOf lines refusalNumber
+  already-exchange-exactly = simp (not-is-true, not-is-false) at (given-exactly 3 alreadyExchange (lines caps s c) refl)
+
   -- full: none of these, and the command adds a cabinet to C cabinets or a span to S spans
   pub full-exactly : (refusalOf caps s c ≡ some full)
-      ↔ ((cabinetsKnown s c ≡ true) × ((spansKnown s c ≡ true) × ((meets equalCabinets s c ≡ true) × (isFull caps s c ≡ true))))
+      ↔ ((cabinetsKnown s c ≡ true)
+      × ((spansKnown s c ≡ true)
+      × ((meets equalCabinets s c ≡ true) × ((meets alreadyExchange s c ≡ true) × (isFull caps s c ≡ true)))))
   unfolding refusalOf lines refusalNumber
-  full-exactly = simp not-is-false at (given-exactly 3 full (lines caps s c) refl)
+  full-exactly = simp not-is-false at (given-exactly 4 full (lines caps s c) refl)
 
   -- two districts: none of these, and two cabinets share no district that the command wants in one
   pub two-districts-exactly : (refusalOf caps s c ≡ some twoDistricts)
       ↔ ((cabinetsKnown s c ≡ true)
-      × ((spansKnown s c ≡ true) × ((meets equalCabinets s c ≡ true) × ((isFull caps s c ≡ false) × (meets twoDistricts s c ≡ false)))))
+      × ((spansKnown s c ≡ true)
+      × ((meets equalCabinets s c ≡ true)
+      × ((meets alreadyExchange s c ≡ true) × ((isFull caps s c ≡ false) × (meets twoDistricts s c ≡ false))))))
   unfolding refusalOf lines refusalNumber
-  two-districts-exactly = simp (not-is-true, not-is-false) at (given-exactly 4 twoDistricts (lines caps s c) refl)
+  two-districts-exactly = simp (not-is-true, not-is-false) at (given-exactly 5 twoDistricts (lines caps s c) refl)
 
-  -- none of the five causes
+  -- none of the six causes
   pub record NotRefused : Type 0 where
     pub cabinets-known : cabinetsKnown s c ≡ true
     pub spans-known : spansKnown s c ≡ true
     pub different-cabinets : meets equalCabinets s c ≡ true
+    pub no-exchange : meets alreadyExchange s c ≡ true
     pub not-full : isFull caps s c ≡ false
     pub one-district : meets twoDistricts s c ≡ true
 
@@ -88,18 +107,25 @@ module _ (caps : Capacities) (s : State) (c : Command) where
         cabinets-known = true-of-not-false _ (f .0);
         spans-known = true-of-not-false _ (f .1 .0);
         different-cabinets = true-of-not-false _ (f .1 .1 .0);
-        not-full = f .1 .1 .1 .0;
-        one-district = true-of-not-false _ (f .1 .1 .1 .1 .0);
+        no-exchange = true-of-not-false _ (f .1 .1 .1 .0);
+        not-full = f .1 .1 .1 .1 .0;
+        one-district = true-of-not-false _ (f .1 .1 .1 .1 .1 .0);
       }
 
   no-line : NotRefused → NoneOf (lines caps s c)
   unfolding lines
   no-line n = (
     not-of-true (n .cabinets-known),
-    (not-of-true (n .spans-known), (not-of-true (n .different-cabinets), (n .not-full, (not-of-true (n .one-district), tt)))),
+    (
+      not-of-true (n .spans-known),
+      (
+        not-of-true (n .different-cabinets),
+        (not-of-true (n .no-exchange), (n .not-full, (not-of-true (n .one-district), tt))),
+      ),
+    ),
   )
 
-  -- a command is not refused exactly if none of the five causes is there
+  -- a command is not refused exactly if none of the six causes is there
   pub not-refused-exactly : (refusalOf caps s c ≡ none) ↔ NotRefused
   unfolding refusalOf
   not-refused-exactly = Iff·trans (none-exactly (lines caps s c)) (not-refused, no-line)
@@ -107,7 +133,7 @@ module _ (caps : Capacities) (s : State) (c : Command) where
   -- every demand has its line in the table: a command that is not refused meets all its demands
   pub demands-met : refusalOf caps s c ≡ none → allIn (met s) (demandsOf (facts c)) ≡ true
   unfolding meets
-  demands-met e = let n = not-refused-exactly .0 e in each-met s (demandsOf (facts c)) (n .different-cabinets) (n .one-district)
+  demands-met e = let n = not-refused-exactly .0 e in each-met s (demandsOf (facts c)) (n .different-cabinets) (n .no-exchange) (n .one-district)
 
 module _ (caps : Capacities) (s : State) where
   -- a command that was read is refused exactly as the table says

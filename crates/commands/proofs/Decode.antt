@@ -8,7 +8,7 @@ use native.Mathlib.Omega.{arith}
 use lib.ListN.{length, take, getD}
 use Rattle.commands.specs.Bytes.{twoBytes}
 use Rattle.commands.specs.Field.{Kind, district, ring, mesh, Field, cabinet, span, fieldBytes, fieldsBytes}
-use Rattle.commands.specs.Answer.{kindByte, boolByte, Notice, noticeFields, noticesFields, Answer, cabinetAdded, spanAdded, plain, districtNamed, ringNamed, meshShared, noMeshShared, soleSpansAre, cutCabinetsAre, soleIs, plainFields, answerFields, answerBytes}
+use Rattle.commands.specs.Answer.{kindByte, boolByte, Notice, noticeFields, noticesFields, Answer, cabinetAdded, spanAdded, plain, districtNamed, ringNamed, meshShared, noMeshShared, soleSpansAre, cutCabinetsAre, soleIs, exchangeMarked, exchangeHeld, shareIs, plainFields, answerFields, answerBytes}
 use Rattle.commands.specs.Run.{Accepted, bytesOfAnswers}
 use Rattle.commands.specs.Decode.{malformed, decoded, Then, byteThen, fieldThen, fieldsThen, kindOf, kindThen, noticeThen, noticesThen, flagThen, noughtThen, bodies, decodeBody, decode, decodeFirst}
 use Rattle.commands.proofs.Bytes.{number-of-two-bytes, Small, FieldsFit, InTwoBytes, cabinets-in-two-bytes, spans-in-two-bytes, items-in-two-bytes, bytes-of-first}
@@ -99,6 +99,10 @@ decode-answer (plain (cutCabinetsAre cs)) h rest =
     counted-read cabinet cabinets-in-two-bytes cs (h .1 .0) (h .1 .1) (λ ns. decoded (plain (cutCabinetsAre ns))) rest
 decode-answer (plain (soleIs true)) h rest = refl
 decode-answer (plain (soleIs false)) h rest = refl
+decode-answer (plain exchangeMarked) h rest = refl
+decode-answer (plain (exchangeHeld true)) h rest = refl
+decode-answer (plain (exchangeHeld false)) h rest = refl
+decode-answer (plain (shareIs n)) h rest = field-read n (h .1 .0) (λ x. decoded (plain (shareIs x))) rest
 
 -- the answers of all of the accepted commands fit
 abbrev pub AllFit : List Accepted → Type 0

@@ -1,5 +1,5 @@
 -- Reading is exact: from bytes an answer is read exactly where they begin with that answer's bytes.
-use mathlib.Core.Bool.{true, false}
+use mathlib.Core.Bool.{Bool, true, false}
 use mathlib.Core.List.{List, [], _∷_, _++_, map, append-assoc, append-nil}
 use mathlib.Core.Logic.{_↔_, _⊎_, inl, inr}
 use mathlib.Core.Option.{Option, none, some}
@@ -9,7 +9,7 @@ use native.Mathlib.Omega.{arith}
 use lib.ListN.{length, getD}
 use Rattle.commands.specs.Bytes.{number, twoBytes}
 use Rattle.commands.specs.Field.{Kind, district, ring, mesh, Field, cabinet, span, fieldBytes, fieldsBytes}
-use Rattle.commands.specs.Answer.{kindByte, boolByte, Notice, noticeFields, noticesFields, Answer, cabinetAdded, spanAdded, plain, districtNamed, ringNamed, meshShared, noMeshShared, soleSpansAre, cutCabinetsAre, soleIs, plainFields, answerFields, answerBytes}
+use Rattle.commands.specs.Answer.{kindByte, boolByte, Notice, noticeFields, noticesFields, Plain, Answer, cabinetAdded, spanAdded, plain, districtNamed, ringNamed, meshShared, noMeshShared, soleSpansAre, cutCabinetsAre, soleIs, exchangeMarked, exchangeHeld, shareIs, plainFields, answerFields, answerBytes}
 use Rattle.commands.specs.Decode.{Decoded, malformed, decoded, Then, byteThen, fieldThen, fieldsThen, kindOf, kindThen, noticeThen, noticesThen, flagThen, noughtThen, bodies, decodeBody, decode}
 use Rattle.commands.proofs.Cases.{le-or-gt, impossible}
 use Rattle.commands.proofs.ByPlace.{each-at, _also_}
@@ -201,12 +201,13 @@ module _ (all : List ℕ) where
       (λ name rest₁ s r₂. spelled (plain (meshShared name)) rest₁ r₂ (tt, (tt, (s, tt)))))
       (λ rest r₁. then-nought all Spelled bad (decoded (plain noMeshShared)) (0x85 ∷ 0 ∷ []) rest r₁ (λ rest₁ r₂. spelled (plain noMeshShared) rest₁ r₂ (tt, (tt, (omega arith, tt)))))
 
-  sole : BodySpelled 8 (flagThen (decoded (plain (soleIs true))) (decoded (plain (soleIs false))))
-  unfolding answerBytes answerFields plainFields fieldsBytes fieldBytes boolByte
-  sole more r =
-      then-flag all Spelled bad _ _ (0x88 ∷ []) more r
-      (λ rest r₁. spelled (plain (soleIs true)) rest r₁ (tt, (tt, tt)))
-      (λ rest r₁. spelled (plain (soleIs false)) rest r₁ (tt, (tt, tt)))
+  yes-or-no : (byte : ℕ) (f : Bool → Plain) → ((b : Bool) → byte ∷ boolByte b ∷ [] ≡ answerBytes (plain (f b))) → ((b : Bool) → Fits (plain (f b)))
+      → (more : List ℕ) → Read all (byte ∷ []) more → Spelled (flagThen (decoded (plain (f true))) (decoded (plain (f false))) more)
+  unfolding boolByte
+  yes-or-no byte f are fit more r =
+      then-flag all Spelled bad _ _ (byte ∷ []) more r
+      (λ rest r₁. spelled (plain (f true)) rest (rw (are true) at r₁) (fit true))
+      (λ rest r₁. spelled (plain (f false)) rest (rw (are false) at r₁) (fit false))
 
   each-body : (i : ℕ) → BodySpelled i (getD bodies i (λ bytes. malformed))
   unfolding bodies answerBytes answerFields plainFields fieldsBytes fieldBytes twoBytes
@@ -223,7 +224,14 @@ module _ (all : List ℕ) where
       also shared
       also counted 0x86 span spans-in-two-bytes (λ ns. plain (soleSpansAre ns)) (λ ns. refl) (λ ns s f. (tt, (s, f)))
       also counted 0x87 cabinet cabinets-in-two-bytes (λ ns. plain (cutCabinetsAre ns)) (λ ns. refl) (λ ns s f. (tt, (s, f)))
-      also sole
+      also yes-or-no 0x88 soleIs (λ b. refl) (λ b. (tt, (tt, tt)))
+      also (λ more r. spelled (plain exchangeMarked) more r (tt, tt))
+      also yes-or-no 0x8A exchangeHeld (λ b. refl) (λ b. (tt, (tt, tt)))
+      also (λ more r. bad)
+      also (λ more r. bad)
+      also (λ more r. bad)
+      also (λ more r. bad)
+      also one-field 0x8F (λ n. plain (shareIs n)) (λ n. refl) (λ n s. (tt, (s, tt)))
       also tt)
       (λ i h more r. bad)
 

@@ -16,7 +16,7 @@ use Rattle.naming.proofs.Log.{log2-monotone, highest-bit-is-log2}
 use Rattle.commands.specs.Field.{Kind, district, ring, mesh}
 use Rattle.commands.specs.Command.{Command}
 use Rattle.commands.specs.Answer.{Notice, Answer, kindByte, answerBytes}
-use Rattle.commands.specs.Facts.{Facts, addsCabinet, addsSpan, addsNothing, facts, additionOf, addition, after, answer}
+use Rattle.commands.specs.Facts.{Facts, addsCabinet, addsSpan, addsNothing, facts, additionOf, addition, after, answer, stateAfter}
 use Rattle.commands.specs.Refusal.{noRoom, Capacities}
 use Rattle.commands.specs.Text.{textOf}
 use Rattle.commands.specs.Run.{Accepted, Run, runText, runWithin, bytesOfAnswers}
@@ -25,7 +25,6 @@ use Rattle.commands.specs.WholeRun.{itemsOf, noticesIn, sameKind, countN
 use Rattle.commands.specs.Forecast.{isCabinet, isSpan, countAdding, cabinetCommands, spanCommands, longestPlain, plainLengths, lengthFor, sufficient}
 use Rattle.commands.proofs.Cases.{impossible}
 use Rattle.commands.proofs.Room.{RoomForAll, CutAt, all-fit-whole, cut-at-stop, Prefix, bytes-of-more}
-use Rattle.commands.proofs.StateAfter.{stateAfter}
 use Rattle.commands.proofs.Report.{cabinets-after, spans-after, cabinets-from-none, spans-from-none}
 use Rattle.commands.proofs.NameList.{answersFrom}
 use Rattle.commands.proofs.Place.{whole-run-steps, within-is-prefix}

@@ -11,7 +11,7 @@ use Rattle.graph.proofs.Truth.{and-left, and-right, ltb-lt, false-of-not-true}
 use Rattle.graph.proofs.Joined.{edge-count-more}
 use Rattle.graph.proofs.VertexMore.{proper-vertex-more, proper-edge-more}
 use Rattle.naming.specs.Book.{Book, emptyBook, enterVertex, enterEdge, feed}
-use Rattle.naming.specs.State.{State, afterAddition}
+use Rattle.naming.specs.State.{State, afterAddition, afterRecording}
 use Rattle.naming.proofs.Book.{empty-proper}
 use Rattle.commands.specs.Command.{Command}
 use Rattle.commands.specs.Facts.{Facts, addsCabinet, addsSpan, addsNothing, facts, operandsOf, demandsOf, additionOf, addition, after}
@@ -84,7 +84,7 @@ kept-by-facts caps s (addsNothing q) fits known differ few = fits
 -- every command that is not refused keeps the network within the capacities, and proper
 pub kept : (caps : Capacities) (s : State) (c : Command) → WithinCapacities caps (s .book .network) → refusalOf caps s c ≡ none
     → WithinCapacities caps (after s c .book .network)
-unfolding after afterAddition addition cabinetsKnown meets isFull
+unfolding after afterAddition afterRecording addition cabinetsKnown meets isFull
 kept caps s c fits e =
     let n = not-refused-exactly caps s c .0 e in
     kept-by-facts caps s (facts c) fits (n .cabinets-known) (n .different-cabinets) (n .not-full)

@@ -3,6 +3,7 @@ pub mod Shown
 pub mod Cases
 pub mod ByPlace
 pub mod StateAfter
+pub mod Exchange
 pub mod Room
 pub mod Reading
 pub mod Steps
@@ -39,6 +40,7 @@ pub mod ReadBack
 pub mod WholeRun
 pub mod AnswersTell
 pub mod Answers
+pub mod Marks
 pub mod AnswerLength
 pub mod PerByte
 pub mod ForecastFits

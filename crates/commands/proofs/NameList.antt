@@ -14,13 +14,12 @@ use Rattle.graph.proofs.Truth.{true-or-false, eqb-eq, lt-ltb, ge-ltb}
 use Rattle.graph.proofs.Joined.{edge-count-more}
 use Rattle.naming.specs.Rename.{nameOf, changedItems}
 use Rattle.naming.specs.Book.{Book, emptyBook, enterVertex, enterEdge, feed}
-use Rattle.naming.specs.State.{State, afterAddition}
+use Rattle.naming.specs.State.{State, afterAddition, afterRecording}
 use Rattle.commands.specs.Field.{Kind, district, ring, mesh}
 use Rattle.commands.specs.Command.{Command}
 use Rattle.commands.specs.Answer.{Notice, changes, notices, Answer}
-use Rattle.commands.specs.Facts.{Facts, addsCabinet, addsSpan, addsNothing, facts, additionOf, addition, after, spanAnswer, answerTo, answer}
+use Rattle.commands.specs.Facts.{Facts, addsCabinet, addsSpan, addsNothing, facts, additionOf, addition, after, spanAnswer, answerTo, answer, stateAfter}
 use Rattle.commands.specs.NameList.{Named, NameList, noNames, setName, setNameOf, applyNotices, addCabinetNamed, addSpanNamed, hear, hearAll, named, namesOf}
-use Rattle.commands.proofs.StateAfter.{stateAfter}
 use Rattle.commands.proofs.SizedBook.{SizedBook, sized-after}
 use Rattle.commands.proofs.Notices.{changes-told, changed}
 use Rattle.graph.proofs.Members.{is-in-listed}
@@ -188,7 +187,7 @@ by-facts s sized (addsNothing q) = unfold hear in refl
 
 -- hearing the answer to a command turns the names before it into the names after it
 pub names-heard : (s : State) → SizedBook (s .book) → (c : Command) → hear (namesOf (s .book)) (answer s c) ≡ namesOf (after s c .book)
-unfolding answer after afterAddition addition
+unfolding answer after afterAddition afterRecording addition
 names-heard s sized c = by-facts s sized (facts c)
 
 -- the answers to a list of commands, each from the state that those before it leave

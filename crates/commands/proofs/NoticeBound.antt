@@ -10,7 +10,7 @@ use Rattle.graph.specs.Below.{count}
 use Rattle.graph.proofs.Truth.{not-both, eq-eqb}
 use Rattle.naming.specs.Rename.{nameOf}
 use Rattle.naming.specs.Book.{feed}
-use Rattle.naming.specs.State.{State, afterAddition}
+use Rattle.naming.specs.State.{State, afterAddition, afterRecording}
 use Rattle.naming.specs.Total.{total}
 use Rattle.naming.specs.Log.{wholeLog2}
 use Rattle.naming.proofs.Book.{NamesAdvance}
@@ -18,10 +18,9 @@ use Rattle.naming.proofs.Bound.{Bounded, bounded-total, bounded-start, counted,
 use Rattle.commands.specs.Field.{Kind}
 use Rattle.commands.specs.Command.{Command}
 use Rattle.commands.specs.Answer.{Notice, notices, noMeshShared, plain}
-use Rattle.commands.specs.Facts.{Facts, addsCabinet, addsSpan, addsNothing, facts, additionOf, addition, after, spanAnswer, answerTo, answer}
+use Rattle.commands.specs.Facts.{Facts, addsCabinet, addsSpan, addsNothing, facts, additionOf, addition, after, spanAnswer, answerTo, answer, stateAfter}
 use Rattle.commands.specs.Refusal.{Capacities, refusalOf}
 use Rattle.commands.specs.WholeRun.{groupsOf, itemsOf, groupSize, noticesIn, countNotices, countKind, Doubles, EachNotice}
-use Rattle.commands.proofs.StateAfter.{stateAfter}
 use Rattle.commands.proofs.SizedBook.{namesIn}
 use Rattle.commands.proofs.Notices.{differs, each-notice}
 use Rattle.commands.proofs.NoticeOrder.{count-notices}
@@ -31,7 +30,7 @@ use Rattle.commands.proofs.RunBooks.{Sound, command-advances, sound-aft
 
 -- an answer holds no notices, or those of the command
 in-answer : (P : List Notice → Type 0) (s : State) (c : Command) → P [] → P (notices (s .book) (after s c .book)) → P (noticesIn (answer s c))
-unfolding answer after afterAddition addition
+unfolding answer after afterAddition afterRecording addition
 in-answer P s c p q = go (facts c) q
   where
     go : (f : Facts) → P (notices (s .book) (feed (s .book) (additionOf f))) → P (noticesIn (answerTo s f))

@@ -39,6 +39,13 @@ form-pays =
     also (λ x c s. omega arith)
     also (λ x c s. omega arith)
     also (λ x c s. omega arith)
+    also (λ x c s. omega arith)
+    also (λ x c s. omega arith)
+    also tt
+    also tt
+    also tt
+    also tt
+    also (λ x c s. omega arith)
     also tt)
     (λ byte h. tt)
 

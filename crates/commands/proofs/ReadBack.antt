@@ -9,14 +9,13 @@ use Rattle.graph.specs.Network.{Rule, MateRule}
 use Rattle.naming.specs.State.{State, emptyState}
 use Rattle.commands.specs.Command.{Command}
 use Rattle.commands.specs.Refusal.{Refusal, Capacities}
-use Rattle.commands.specs.Facts.{after, answer}
+use Rattle.commands.specs.Facts.{after, answer, stateAfter}
 use Rattle.commands.specs.Run.{Accepted, commandsOf, bytesOfAnswers}
 use Rattle.commands.specs.Entry.{refusedAtStart, acceptedCommands, over, Buffers, outcome, entryUnder}
 use Rattle.commands.specs.Decode.{decodeFirst}
 use Rattle.commands.proofs.Start.{good-exactly, ran-exactly, refused-or-ran}
 use Rattle.commands.proofs.Returned.{whole, within, WellStarted}
 use Rattle.commands.proofs.Cases.{impossible}
-use Rattle.commands.proofs.StateAfter.{stateAfter}
 use Rattle.commands.proofs.Decode.{AllFit, decode-first}
 use Rattle.commands.proofs.NameList.{answersFrom, first-answers}
 use Rattle.commands.proofs.RunBooks.{empty-sound, Answered, run-answered, answers-of-run}

@@ -11,11 +11,11 @@ use Rattle.graph.proofs.Joined.{edge-count-more}
 use Rattle.naming.specs.Book.{Book, Addition, vertex, edge, neither, emptyBook, enterVertex, enterEdge, feed, feedAll}
 use Rattle.naming.specs.State.{State, emptyState}
 use Rattle.commands.specs.Command.{Command}
-use Rattle.commands.specs.Facts.{addition}
+use Rattle.commands.specs.Facts.{addition, stateAfter}
 use Rattle.commands.specs.Forecast.{isCabinet, isSpan, countAdding, cabinetCommands, spanCommands}
 use Rattle.commands.specs.Run.{Run, commandsOf, bytesOfAnswers, placeAfter}
 use Rattle.commands.specs.Entry.{bookAfter, numberOf, reportOf}
-use Rattle.commands.proofs.StateAfter.{stateAfter, book-fed, book-after-commands}
+use Rattle.commands.proofs.StateAfter.{book-fed, book-after-commands}
 
 -- to count one behind a number is to count it before the rest
 pub count-one : (t : Bool) (n rest : ℕ) → n + cond t (suc rest) rest ≡ cond t (suc n) n + rest

@@ -6,17 +6,16 @@ use Prim.Native.Nat.{ℕ, zero, suc}
 use lib.ListN.{length, take}
 use Rattle.graph.specs.Network.{Rule, MateRule, Proper}
 use Rattle.naming.specs.Book.{Book, Addition, vertex, edge, neither, enterEdge, feed}
-use Rattle.naming.specs.State.{State, emptyState, afterAddition}
+use Rattle.naming.specs.State.{State, emptyState, afterAddition, afterRecording}
 use Rattle.naming.proofs.Book.{BookLaws, BookAdvances, laws-after, empty-book-laws, book-stays, vertex-entered, edge-entered}
 use Rattle.commands.specs.Command.{Command}
 use Rattle.commands.specs.Answer.{Answer}
-use Rattle.commands.specs.Facts.{addition, after, answer}
+use Rattle.commands.specs.Facts.{addition, after, answer, stateAfter}
 use Rattle.commands.specs.Refusal.{Refusal, Capacities, firstThatApplies, refusalOf}
 use Rattle.commands.specs.Text.{textOf}
 use Rattle.commands.specs.Run.{Accepted, runText, runWithin, commandsOf}
 use Rattle.commands.specs.Entry.{startLines, wholeUnless, wholeRun, acceptedCommands}
 use Rattle.commands.proofs.Steps.{RunsTo, ends, refuses, accepts}
-use Rattle.commands.proofs.StateAfter.{stateAfter}
 use Rattle.commands.proofs.Place.{whole-run-steps, within-is-prefix}
 use Rattle.commands.proofs.Kept.{WithinCapacities, empty-fits, kept}
 use Rattle.commands.proofs.Decode.{answersIn}
@@ -42,7 +41,7 @@ addition-advances b neither laws proper = book-stays b laws
 -- a command that is not refused advances the names
 pub command-advances : (caps : Capacities) (s : State) (c : Command) → Sound caps s → refusalOf caps s c ≡ none
     → BookAdvances (s .book) (after s c .book)
-unfolding after afterAddition
+unfolding after afterAddition afterRecording
 command-advances caps s c sound e =
     addition-advances (s .book) (addition c) (sound .laws) (kept caps s c (sound .fits) e .proper)
 

@@ -1,4 +1,4 @@
--- The marked histories, the calls of the run's entry and the forecasts hold of the definitions: each table is computed at once.
+-- The marked histories, those with exchanges, the calls of the run's entry and the forecasts hold of the definitions: each table is computed at once.
 use mathlib.Core.List.{List, [], _∷_, _++_, map}
 use mathlib.Core.Path.{_≡_, refl, ap}
 use lib.ListN.{replicate}
@@ -6,6 +6,8 @@ use Rattle.commands.specs.Register.{program, programReport}
 use Rattle.commands.specs.Forecast.{forecast}
 use Rattle.commands.specs.Histories.{History, EachShown, histories}
 use Rattle.commands.specs.Histories
+use Rattle.commands.specs.ExchangeHistories
+use Rattle.commands.specs.ExchangeHistories.{exchangeHistories}
 use Rattle.commands.specs.Calls.{sevens, call, atStart, startCalls, stopCalls, cabinetAnswers, acceptedCalls, entered, foretold, forecasts}
 use Rattle.commands.proofs.Computed.{computed}
 
@@ -24,9 +26,18 @@ each-shown (h ∷ hs) e =
     let one : made h ≡ h = cc in
     (record { output-is = ap (λ k. k .output) one; report-is = ap (λ k. k .report) one }, each-shown hs (cc))
 
+-- and of the one with exchanges too
+exchange-histories-made : map made exchangeHistories ≡ exchangeHistories
+unfolding computed Histories.output Histories.accepted Histories.refusedWith Histories.notice ExchangeHistories.exchangeInOneOfTwoRings ExchangeHistories.shareOfCabinets ExchangeHistories.sharesInThirds ExchangeHistories.markedTwice ExchangeHistories.markedNowhere ExchangeHistories.askedNowhere ExchangeHistories.exchangeHistories
+exchange-histories-made = refl
+
 -- every marked history holds of the definitions
 pub histories-shown : EachShown histories
 histories-shown = each-shown histories histories-made
+
+-- and every history with exchanges
+pub exchange-histories-shown : EachShown exchangeHistories
+exchange-histories-shown = each-shown exchangeHistories exchange-histories-made
 
 -- The entry returns and leaves so for every call.
 pub calls-shown : map entered (startCalls ++ stopCalls ++ acceptedCalls) ≡ map (λ c. c .outcome) (startCalls ++ stopCalls ++ acceptedCalls)

@@ -8,7 +8,7 @@ use Rattle.graph.specs.Below.{length-tabulate}
 use Rattle.graph.specs.Network.{Rule, edgeCount, addVertex, addEdge}
 use Rattle.naming.specs.Rename.{rename}
 use Rattle.naming.specs.Book.{Book, emptyBook, enterVertex, enterEdge, Addition, vertex, edge, neither, feed}
-use Rattle.naming.specs.State.{State, afterAddition}
+use Rattle.naming.specs.State.{State, afterAddition, afterRecording}
 use Rattle.commands.specs.Field.{Kind, district, ring, mesh}
 use Rattle.commands.specs.Command.{Command}
 use Rattle.commands.specs.Facts.{addition, after}
@@ -50,7 +50,7 @@ sized-feed b s neither = s
 
 -- and so does a command
 pub sized-after : (s : State) → SizedBook (s .book) → (c : Command) → SizedBook (after s c .book)
-unfolding after afterAddition
+unfolding after afterAddition afterRecording
 sized-after s sized c = sized-feed (s .book) sized (addition c)
 
 -- the names of one kind

@@ -9,7 +9,7 @@ use lib.ListN.{length, drop}
 use Rattle.graph.specs.Network.{edgeBetween}
 use Rattle.commands.specs.Bytes.{twoBytes}
 use Rattle.commands.specs.Field.{fieldBytes, fieldsBytes}
-use Rattle.commands.specs.Command.{Command, addCabinet, addSpan, districtName, ringName, sharedMesh, soleSpans, cutCabinets, isSole, takes, forms, form, operand, command, readForm, readCommand, commandByte}
+use Rattle.commands.specs.Command.{Command, addCabinet, addSpan, districtName, ringName, sharedMesh, soleSpans, cutCabinets, isSole, markExchange, holdsExchange, exchangeShare, takes, forms, form, operand, command, readForm, readCommand, commandByte}
 use Rattle.commands.specs.Facts.{facts, asks, operandsOf, commandBytes}
 use Rattle.commands.specs.Text.{Read, endsWith, followedBy, textFrom, journalBytes}
 use Rattle.commands.proofs.Bytes.{number-of-two-bytes, Small, FieldsFit}
@@ -20,14 +20,18 @@ use Rattle.commands.proofs.Steps.{text-ends, text-goes-on}
 unfoldable pub operandWidth : Command → ℕ
 operandWidth c = 2 * length (operandsOf (facts c))
 
--- one operand is read back
+-- no operand is read back
+no-operand : (c : Command) (rest : List ℕ) → readForm (takes 0 (λ x. c)) rest ≡ command c 0
+no-operand c rest = long-enough 0 (λ x. c) rest (omega arith)
+
+-- so is one
 one-operand : (f : ℕ → Command) (a : ℕ) (rest : List ℕ) → Small a
     → readForm (takes 1 (λ x. f (x 0))) (twoBytes a ++ rest) ≡ command (f a) 2
 unfolding operand twoBytes
 one-operand f a rest h =
     long-enough 1 (λ x. f (x 0)) (twoBytes a ++ rest) (omega arith) ∙ ap (λ x. command (f x) 2) (number-of-two-bytes a h)
 
--- and so are two
+-- and two
 two-operands : (f : ℕ → ℕ → Command) (a b : ℕ) (rest : List ℕ) → Small a → Small b
     → readForm (takes 2 (λ x. f (x 0) (x 1))) (twoBytes a ++ twoBytes b ++ rest) ≡ command (f a b) 4
 unfolding operand twoBytes
@@ -40,7 +44,7 @@ pub command-read-back : (c : Command) (rest : List ℕ) → FieldsFit (operandsO
     → (readCommand (commandByte c) (fieldsBytes (operandsOf (facts c)) ++ rest) ≡ command c (operandWidth c))
     × (drop (operandWidth c) (fieldsBytes (operandsOf (facts c)) ++ rest) ≡ rest)
 unfolding readCommand form forms commandByte facts asks operandsOf edgeBetween fieldsBytes fieldBytes twoBytes operandWidth
-command-read-back addCabinet rest fit = (long-enough 0 (λ x. addCabinet) rest (omega arith), refl)
+command-read-back addCabinet rest fit = (no-operand addCabinet rest, refl)
 command-read-back (addSpan a b) rest fit = (two-operands addSpan a b rest (fit .0) (fit .1 .0), refl)
 command-read-back (districtName a) rest fit = (one-operand districtName a rest (fit .0), refl)
 command-read-back (ringName a) rest fit = (one-operand ringName a rest (fit .0), refl)
@@ -48,6 +52,9 @@ command-read-back (sharedMesh a b) rest fit = (two-operands sharedMesh a b rest 
 command-read-back (soleSpans a b) rest fit = (two-operands soleSpans a b rest (fit .0) (fit .1 .0), refl)
 command-read-back (cutCabinets a b) rest fit = (two-operands cutCabinets a b rest (fit .0) (fit .1 .0), refl)
 command-read-back (isSole x) rest fit = (one-operand isSole x rest (fit .0), refl)
+command-read-back (markExchange a) rest fit = (one-operand markExchange a rest (fit .0), refl)
+command-read-back (holdsExchange a) rest fit = (one-operand holdsExchange a rest (fit .0), refl)
+command-read-back exchangeShare rest fit = (no-operand exchangeShare rest, refl)
 
 -- the numbers in the commands' operands fit into two bytes
 abbrev pub AllSpelled : List Command → Type 0

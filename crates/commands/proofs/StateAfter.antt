@@ -3,20 +3,15 @@ use mathlib.Core.List.{List, [], _∷_, map}
 use mathlib.Core.Path.{_≡_, refl}
 use Rattle.graph.specs.Network.{Rule}
 use Rattle.naming.specs.Book.{feedAll}
-use Rattle.naming.specs.State.{State, emptyState, afterAddition}
+use Rattle.naming.specs.State.{State, emptyState, afterAddition, afterRecording}
 use Rattle.commands.specs.Command.{Command}
-use Rattle.commands.specs.Facts.{addition, after}
+use Rattle.commands.specs.Facts.{addition, after, stateAfter}
 use Rattle.commands.specs.Run.{Accepted}
 use Rattle.commands.specs.Entry.{bookAfter}
 
--- the state after commands
-unfoldable pub stateAfter : State → List Command → State
-stateAfter s [] = s
-stateAfter s (c ∷ later) = stateAfter (after s c) later
-
 -- its book is fed what the commands add
 pub book-fed : (s : State) (cs : List Command) → stateAfter s cs .book ≡ feedAll (s .book) (map addition cs)
-unfolding stateAfter after afterAddition feedAll
+unfolding stateAfter after afterAddition afterRecording feedAll
 book-fed s [] = refl
 book-fed s (c ∷ later) = book-fed (after s c) later
 

@@ -10,7 +10,7 @@ use native.Mathlib.Omega.{arith}
 use lib.Dec.{leb, eqb}
 use lib.ListN.{getD, getElem?}
 use Rattle.graph.proofs.Truth.{true-or-false, not-both, and-left, and-right, eqb-eq, eqb-same, leb-le, false-of-not, false-of-not-true}
-use Rattle.commands.specs.Refusal.{Refusal, badCapacity, shortBuffer, longJournal, badByte, cutOperands, unknownCabinet, unknownSpan, equalCabinets, full, twoDistricts, noRoom, refusalNumber, Line, firstThatApplies}
+use Rattle.commands.specs.Refusal.{Refusal, badCapacity, shortBuffer, longJournal, badByte, cutOperands, unknownCabinet, unknownSpan, equalCabinets, full, twoDistricts, noRoom, alreadyExchange, refusalNumber, Line, firstThatApplies}
 use Rattle.commands.proofs.Cases.{impossible}
 
 -- the refusal with a number
@@ -29,6 +29,7 @@ withNumber n =
     ∷ full
     ∷ twoDistricts
     ∷ noRoom
+    ∷ alreadyExchange
     ∷ [])
     n
     badCapacity
@@ -46,6 +47,7 @@ with-its-number equalCabinets = refl
 with-its-number full = refl
 with-its-number twoDistricts = refl
 with-its-number noRoom = refl
+with-its-number alreadyExchange = refl
 
 -- refusals with the same number are the same
 pub same-number : (r s : Refusal) → refusalNumber r ≡ refusalNumber s → r ≡ s
@@ -65,6 +67,7 @@ number-above-zero equalCabinets = omega arith
 number-above-zero full = omega arith
 number-above-zero twoDistricts = omega arith
 number-above-zero noRoom = omega arith
+number-above-zero alreadyExchange = omega arith
 
 -- a line that applies gives its refusal
 pub line-applies : (l : Line) (ls : List Line) → l .applies ≡ true → firstThatApplies (l ∷ ls) ≡ some (l .refusal)
@@ -177,6 +180,7 @@ stage unknownSpan = 2
 stage equalCabinets = 2
 stage full = 2
 stage twoDistricts = 2
+stage alreadyExchange = 2
 stage noRoom = 3
 
 -- the refusal's stage lies between the two

@@ -8,12 +8,13 @@ use Rattle.graph.specs.Network.{Rule, MateRule}
 use Rattle.graph.proofs.Never.{never-mates}
 use Rattle.naming.specs.State.{State, emptyState}
 use Rattle.commands.specs.Command.{Command}
+use Rattle.commands.specs.Facts.{stateAfter}
 use Rattle.commands.specs.Refusal.{Capacities}
 use Rattle.commands.specs.Entry.{wholeRun, acceptedCommands, bookAfter, Buffers, entryUnder}
 use Rattle.commands.specs.Register.{registerRule, register}
 use Rattle.commands.specs.Decode.{decodeFirst}
 use Rattle.commands.specs.WholeRun.{WholeRunClaim}
-use Rattle.commands.proofs.StateAfter.{stateAfter, book-after-commands}
+use Rattle.commands.proofs.StateAfter.{book-after-commands}
 use Rattle.commands.proofs.SizedBook.{sized-empty}
 use Rattle.commands.proofs.NameList.{answersFrom, hear-all, no-names}
 use Rattle.commands.proofs.RunBooks.{NoneRefused, first-not-refused, Sound, empty-sound, whole-run-not-refused}

@@ -55,6 +55,9 @@ pub data Plain : Type 0 where
   soleSpansAre : List ℕ → Plain
   cutCabinetsAre : List ℕ → Plain
   soleIs : Bool → Plain
+  exchangeMarked : Plain
+  exchangeHeld : Bool → Plain
+  shareIs : ℕ → Plain
 
 -- An added span is answered with its number, its mesh name and the notices.
 pub data Answer : Type 0 where
@@ -74,6 +77,9 @@ plainFields noMeshShared = byte 0x85 ∷ byte 0 ∷ number 0 ∷ []
 plainFields (soleSpansAre ss) = byte 0x86 ∷ number (length ss) ∷ map span ss
 plainFields (cutCabinetsAre cs) = byte 0x87 ∷ number (length cs) ∷ map cabinet cs
 plainFields (soleIs sole) = byte 0x88 ∷ byte (boolByte sole) ∷ []
+plainFields exchangeMarked = byte 0x89 ∷ []
+plainFields (exchangeHeld held) = byte 0x8A ∷ byte (boolByte held) ∷ []
+plainFields (shareIs n) = byte 0x8F ∷ number n ∷ []
 
 unfoldable pub answerFields : Answer → List Field
 answerFields (cabinetAdded k) = byte 0x81 ∷ cabinet k ∷ []

@@ -53,14 +53,18 @@ startCalls =
 -- Stopped: W numbers of the working table are 0, the report is filled, earlier answers stand, and the rest is as it was.
 unfoldable pub stopCalls : List Call
 stopCalls =
-    -- 4: command byte not 01 to 08
+    -- 4: a byte that is no command's: not 01 to 0A, nor 0F
     call 1 1 96 2 6 (replicate 65536 0x00) 4 (replicate 96 0) (7 ∷ 7 ∷ []) (4 ∷ 0 ∷ 0 ∷ 0 ∷ 0 ∷ 0 ∷ [])
-    ∷ call 1 1 98 5 8 (0x01 ∷ 0x09 ∷ []) 4
+    ∷ call 1 1 98 5 8 (0x01 ∷ 0x0B ∷ []) 4
     (replicate 96 0 ++ 7 ∷ 7 ∷ [])
     (0x81 ∷ 0 ∷ 0 ∷ 7 ∷ 7 ∷ [])
     (4 ∷ 1 ∷ 1 ∷ 3 ∷ 1 ∷ 0 ∷ 7 ∷ 7 ∷ [])
+    ∷ call 1 1 96 2 6 (0x0E ∷ []) 4 (replicate 96 0) (7 ∷ 7 ∷ []) (4 ∷ 0 ∷ 0 ∷ 0 ∷ 0 ∷ 0 ∷ [])
+    ∷ call 1 1 96 2 6 (0x10 ∷ []) 4 (replicate 96 0) (7 ∷ 7 ∷ []) (4 ∷ 0 ∷ 0 ∷ 0 ∷ 0 ∷ 0 ∷ [])
     -- 5: operands cut off by the journal's end, of cabinets not yet given
     ∷ call 1 1 96 2 6 (0x02 ∷ 0 ∷ 0 ∷ 0 ∷ []) 5 (replicate 96 0) (7 ∷ 7 ∷ []) (5 ∷ 0 ∷ 0 ∷ 0 ∷ 0 ∷ 0 ∷ [])
+    ∷ call 1 1 96 2 6 (0x09 ∷ 0 ∷ []) 5 (replicate 96 0) (7 ∷ 7 ∷ []) (5 ∷ 0 ∷ 0 ∷ 0 ∷ 0 ∷ 0 ∷ [])
+    ∷ call 1 1 96 2 6 (0x0A ∷ 0 ∷ []) 5 (replicate 96 0) (7 ∷ 7 ∷ []) (5 ∷ 0 ∷ 0 ∷ 0 ∷ 0 ∷ 0 ∷ [])
     -- 6: a cabinet number not yet given; in the second, equal to the other
     ∷ call 1 1 96 3 6 (0x01 ∷ 0x02 ∷ 0 ∷ 0 ∷ 0 ∷ 1 ∷ []) 6 (replicate 96 0) (0x81 ∷ 0 ∷ 0 ∷ []) (6 ∷ 1 ∷ 1 ∷ 3 ∷ 1 ∷ 0 ∷ [])
     ∷ call 1 1 96 3 6 (0x01 ∷ 0x05 ∷ 0 ∷ 1 ∷ 0 ∷ 1 ∷ []) 6 (replicate 96 0) (0x81 ∷ 0 ∷ 0 ∷ []) (6 ∷ 1 ∷ 1 ∷ 3 ∷ 1 ∷ 0 ∷ [])
@@ -72,6 +76,11 @@ stopCalls =
     (replicate 120 0)
     (0x81 ∷ 0 ∷ 0 ∷ 0x81 ∷ 0 ∷ 1 ∷ 0x82 ∷ 0 ∷ 0 ∷ 0 ∷ 0 ∷ 0 ∷ 1 ∷ 0x01 ∷ 0 ∷ 1 ∷ 0 ∷ 0 ∷ [])
     (8 ∷ 7 ∷ 3 ∷ 18 ∷ 2 ∷ 1 ∷ [])
+    -- 12: 09 of an exchange, with C cabinets present and no room for the answer
+    ∷ call 1 1 96 4 6 (0x01 ∷ 0x09 ∷ 0 ∷ 0 ∷ 0x09 ∷ 0 ∷ 0 ∷ []) 12
+    (replicate 96 0)
+    (0x81 ∷ 0 ∷ 0 ∷ 0x89 ∷ [])
+    (12 ∷ 4 ∷ 2 ∷ 4 ∷ 1 ∷ 0 ∷ [])
     -- 9: 01 with C cabinets, or 02 with S spans present, and no room for the answer
     ∷ call 1 1 96 3 6 (0x01 ∷ 0x01 ∷ []) 9 (replicate 96 0) (0x81 ∷ 0 ∷ 0 ∷ []) (9 ∷ 1 ∷ 1 ∷ 3 ∷ 1 ∷ 0 ∷ [])
     ∷ call 2 1 120 18 6 (0x01 ∷ 0x01 ∷ 0x02 ∷ 0 ∷ 0 ∷ 0 ∷ 1 ∷ 0x02 ∷ 0 ∷ 1 ∷ 0 ∷ 0 ∷ []) 9
@@ -89,6 +98,8 @@ stopCalls =
     (10 ∷ 2 ∷ 2 ∷ 6 ∷ 2 ∷ 0 ∷ [])
     -- 11: the answer is longer, by one byte, than what is left of the answer buffer
     ∷ call 1 1 96 2 6 (0x01 ∷ []) 11 (replicate 96 0) (7 ∷ 7 ∷ []) (11 ∷ 0 ∷ 0 ∷ 0 ∷ 0 ∷ 0 ∷ [])
+    ∷ call 1 1 96 3 6 (0x01 ∷ 0x09 ∷ 0 ∷ 0 ∷ []) 11 (replicate 96 0) (0x81 ∷ 0 ∷ 0 ∷ []) (11 ∷ 1 ∷ 1 ∷ 3 ∷ 1 ∷ 0 ∷ [])
+    ∷ call 1 1 96 2 6 (0x0F ∷ []) 11 (replicate 96 0) (7 ∷ 7 ∷ []) (11 ∷ 0 ∷ 0 ∷ 0 ∷ 0 ∷ 0 ∷ [])
     ∷ call 2 1 120 17 6 (0x01 ∷ 0x01 ∷ 0x02 ∷ 0 ∷ 0 ∷ 0 ∷ 1 ∷ []) 11
     (replicate 120 0)
     (0x81 ∷ 0 ∷ 0 ∷ 0x81 ∷ 0 ∷ 1 ∷ replicate 11 7)
@@ -107,6 +118,11 @@ acceptedCalls =
     call 1 1 97 0 6 [] 0 (replicate 96 0 ++ 7 ∷ []) [] (0 ∷ 0 ∷ 0 ∷ 0 ∷ 0 ∷ 0 ∷ [])
     -- 81 that fits to the byte
     ∷ call 1 1 96 3 6 (0x01 ∷ []) 0 (replicate 96 0) (0x81 ∷ 0 ∷ 0 ∷ []) (0 ∷ 1 ∷ 1 ∷ 3 ∷ 1 ∷ 0 ∷ [])
+    -- 89, 8A with 0 and with 1, and 8F, that fit to the byte, with C cabinets present
+    ∷ call 1 1 96 11 6 (0x01 ∷ 0x0A ∷ 0 ∷ 0 ∷ 0x09 ∷ 0 ∷ 0 ∷ 0x0A ∷ 0 ∷ 0 ∷ 0x0F ∷ []) 0
+    (replicate 96 0)
+    (0x81 ∷ 0 ∷ 0 ∷ 0x8A ∷ 0 ∷ 0x89 ∷ 0x8A ∷ 1 ∷ 0x8F ∷ 0x03 ∷ 0xE8 ∷ [])
+    (0 ∷ 11 ∷ 5 ∷ 11 ∷ 1 ∷ 0 ∷ [])
     -- 85 without a mesh
     ∷ call 2 1 120 10 6 (0x01 ∷ 0x01 ∷ 0x05 ∷ 0 ∷ 0 ∷ 0 ∷ 1 ∷ []) 0
     (replicate 120 0)
@@ -216,6 +232,11 @@ forecasts =
     ∷ foretold (0x06 ∷ 0 ∷ 0 ∷ 0 ∷ 1 ∷ []) 0 5 3
     ∷ foretold (0x07 ∷ 0 ∷ 0 ∷ 0 ∷ 1 ∷ []) 0 5 3
     ∷ foretold (0x08 ∷ 0 ∷ 0 ∷ []) 0 3 2
+    ∷ foretold (0x09 ∷ 0 ∷ 0 ∷ []) 0 3 1
+    ∷ foretold (0x0A ∷ 0 ∷ 0 ∷ []) 0 3 2
+    ∷ foretold (0x0F ∷ []) 0 1 3
+    -- two cabinets and a span, and 09, 0A and 0F: 33 and 6
+    ∷ foretold (0x01 ∷ 0x01 ∷ 0x02 ∷ 0 ∷ 0 ∷ 0 ∷ 1 ∷ 0x09 ∷ 0 ∷ 0 ∷ 0x0A ∷ 0 ∷ 0 ∷ 0x0F ∷ []) 0 14 39
     -- 06 and 07 before three cabinets and one span: 3 and 2 for the span, 3 and 6 for the cabinets
     ∷ foretold
     (0x06 ∷ 0 ∷ 0 ∷ 0 ∷ 1 ∷ 0x07 ∷ 0 ∷ 0 ∷ 0 ∷ 1 ∷ 0x01 ∷ 0x01 ∷ 0x01 ∷ 0x02 ∷ 0 ∷ 0 ∷ 0 ∷ 1 ∷ [])
@@ -229,7 +250,7 @@ forecasts =
     ∷ foretold (replicate 65537 0x00) 3 0 0
     -- 4: an unknown byte, alone, behind a command, and behind one that a run refuses with 7
     ∷ foretold (0x00 ∷ []) 4 0 0
-    ∷ foretold (0x01 ∷ 0x09 ∷ 0x01 ∷ []) 4 1 0
+    ∷ foretold (0x01 ∷ 0x0B ∷ 0x01 ∷ []) 4 1 0
     ∷ foretold (0x08 ∷ 0 ∷ 5 ∷ 0xFF ∷ []) 4 3 0
     -- 5: operands cut off, alone, and behind a command that a run refuses with 8
     ∷ foretold (0x02 ∷ 0 ∷ 0 ∷ []) 5 0 0

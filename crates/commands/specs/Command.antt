@@ -15,13 +15,16 @@ pub data Command : Type 0 where
   soleSpans : ℕ → ℕ → Command
   cutCabinets : ℕ → ℕ → Command
   isSole : ℕ → Command
+  markExchange : ℕ → Command
+  holdsExchange : ℕ → Command
+  exchangeShare : Command
 
 -- What a command byte makes of what follows it: so many operands, and the command that they give, by their place from 0 on.
 pub data Form : Type 0 where
   unknown : Form
   takes : ℕ → ((ℕ → ℕ) → Command) → Form
 
--- The commands by their byte, from 00 on: 01 to 08.
+-- The commands by their byte, from 00 on: 01 to 0A, and 0F.
 unfoldable pub forms : List Form
 forms =
     unknown
@@ -33,6 +36,13 @@ forms =
     ∷ takes 2 (λ x. soleSpans (x 0) (x 1))
     ∷ takes 2 (λ x. cutCabinets (x 0) (x 1))
     ∷ takes 1 (λ x. isSole (x 0))
+    ∷ takes 1 (λ x. markExchange (x 0))
+    ∷ takes 1 (λ x. holdsExchange (x 0))
+    ∷ unknown
+    ∷ unknown
+    ∷ unknown
+    ∷ unknown
+    ∷ takes 0 (λ x. exchangeShare)
     ∷ []
 
 -- Every byte beyond these is unknown.
@@ -68,3 +78,6 @@ commandByte (sharedMesh a b) = 0x05
 commandByte (soleSpans a b) = 0x06
 commandByte (cutCabinets a b) = 0x07
 commandByte (isSole s) = 0x08
+commandByte (markExchange a) = 0x09
+commandByte (holdsExchange a) = 0x0A
+commandByte exchangeShare = 0x0F

@@ -6,7 +6,7 @@ use Prim.Native.Nat.{ℕ, zero, suc, _-_}
 use lib.ListN.{getD}
 use Rattle.commands.specs.Bytes.{number}
 use Rattle.commands.specs.Field.{Kind, district, ring, mesh}
-use Rattle.commands.specs.Answer.{Notice, Answer, cabinetAdded, spanAdded, plain, districtNamed, ringNamed, meshShared, noMeshShared, soleSpansAre, cutCabinetsAre, soleIs}
+use Rattle.commands.specs.Answer.{Notice, Answer, cabinetAdded, spanAdded, plain, districtNamed, ringNamed, meshShared, noMeshShared, soleSpansAre, cutCabinetsAre, soleIs, exchangeMarked, exchangeHeld, shareIs}
 
 -- An answer and the bytes that follow it.
 pub data Decoded : Type 0 where
@@ -52,7 +52,7 @@ flagThen one none′ = byteThen (λ byte. getD (none′ ∷ one ∷ []) byte (λ
 unfoldable pub noughtThen : (List ℕ → Decoded) → List ℕ → Decoded
 noughtThen k = fieldThen (λ n. getD (k ∷ []) n (λ bytes. malformed))
 
--- What follows the byte of an answer, by that byte from 80 on: 81 to 88.
+-- What follows the byte of an answer, by that byte from 80 on: 81 to 8A, and 8F.
 unfoldable pub bodies : List (List ℕ → Decoded)
 bodies =
     (λ bytes. malformed)
@@ -64,6 +64,13 @@ bodies =
     ∷ fieldThen (λ n. fieldsThen n (λ ss. decoded (plain (soleSpansAre ss))))
     ∷ fieldThen (λ n. fieldsThen n (λ cs. decoded (plain (cutCabinetsAre cs))))
     ∷ flagThen (decoded (plain (soleIs true))) (decoded (plain (soleIs false)))
+    ∷ decoded (plain exchangeMarked)
+    ∷ flagThen (decoded (plain (exchangeHeld true))) (decoded (plain (exchangeHeld false)))
+    ∷ (λ bytes. malformed)
+    ∷ (λ bytes. malformed)
+    ∷ (λ bytes. malformed)
+    ∷ (λ bytes. malformed)
+    ∷ fieldThen (λ n. decoded (plain (shareIs n)))
     ∷ []
 
 -- Every other byte is malformed.

@@ -8,22 +8,26 @@ use Rattle.graph.specs.Block.{sharedBlock}
 use Rattle.graph.specs.Between.{bridgesBetween, cutsBetween}
 use Rattle.naming.specs.Rename.{nameOf}
 use Rattle.naming.specs.Book.{Book, Addition, vertex, edge, neither, feed}
-use Rattle.naming.specs.State.{State, afterAddition}
+use Rattle.naming.specs.State.{State, afterAddition, Recording, recordsNothing, recordsMark, afterRecording}
 use Rattle.commands.specs.Field.{Field, cabinet, span, byte, fieldsBytes}
-use Rattle.commands.specs.Command.{Command, addCabinet, addSpan, districtName, ringName, sharedMesh, soleSpans, cutCabinets, isSole, commandByte}
-use Rattle.commands.specs.Answer.{Plain, districtNamed, ringNamed, meshShared, noMeshShared, soleSpansAre, cutCabinetsAre, soleIs, Answer, cabinetAdded, spanAdded, plain, notices}
+use Rattle.commands.specs.Command.{Command, addCabinet, addSpan, districtName, ringName, sharedMesh, soleSpans, cutCabinets, isSole, markExchange, holdsExchange, exchangeShare, commandByte}
+use Rattle.commands.specs.Answer.{Plain, districtNamed, ringNamed, meshShared, noMeshShared, soleSpansAre, cutCabinetsAre, soleIs, exchangeMarked, exchangeHeld, shareIs, Answer, cabinetAdded, spanAdded, plain, notices}
+use Rattle.commands.specs.Exchange.{ringHoldsExchange, shareWithExchange}
 
--- What must hold of two cabinets that a command names.
+-- What must hold of the cabinets that a command names: two differ, one is no exchange, two share a district.
 pub data Demand : Type 0 where
   differ : ℕ → ℕ → Demand
+  noExchange : ℕ → Demand
   shareDistrict : ℕ → ℕ → Demand
 
--- A command that adds nothing to the network: its operands, what must hold of them, its answer from the state, and the length in
--- bytes that document 02 allows it, where there are at most so many cabinets and so many spans (`plain-no-longer`: it never exceeds it).
+-- A command that adds nothing to the network: its operands, what must hold of them, its answer from the state, what it records, and the
+-- length in bytes that document 02 allows its answer, where there are at most so many cabinets and so many spans (`plain-no-longer`: it
+-- never exceeds it).
 pub record PlainCommand : Type 0 where
   pub operands : List Field
   pub demands : List Demand
   pub told : State → Plain
+  pub records : Recording
   pub longest : ℕ → ℕ → ℕ
 
 -- A command adds a cabinet; or a span, whose ends are its first operands and must differ, with what operands and demands there are
@@ -33,9 +37,10 @@ pub data Facts : Type 0 where
   addsSpan : Edge → List Field → List Demand → Facts
   addsNothing : PlainCommand → Facts
 
+-- A question records nothing.
 unfoldable pub asks : List Field → List Demand → (State → Plain) → (ℕ → ℕ → ℕ) → Facts
 asks operands demands told longest =
-    addsNothing (record { operands = operands; demands = demands; told = told; longest = longest })
+    addsNothing (record { operands = operands; demands = demands; told = told; records = recordsNothing; longest = longest })
 
 -- The answer to 05: the name of the block that has an edge at each vertex, if there is one.
 unfoldable pub meshAnswer : Book → Option ℕ → Plain
@@ -69,6 +74,17 @@ facts (cutCabinets a b) =
     (λ s. cutCabinetsAre (cutsBetween (s .book .network) a b))
     (λ cabinets spans. 3 + 2 * cabinets)
 facts (isSole x) = asks (span x ∷ []) [] (λ s. soleIs (bridge (s .book .network) x)) (λ cabinets spans. 2)
+facts (markExchange a) =
+    addsNothing
+    (record {
+      operands = cabinet a ∷ [];
+      demands = noExchange a ∷ [];
+      told = λ s. exchangeMarked;
+      records = recordsMark a;
+      longest = λ cabinets spans. 1;
+    })
+facts (holdsExchange a) = asks (cabinet a ∷ []) [] (λ s. exchangeHeld (ringHoldsExchange s a)) (λ cabinets spans. 2)
+facts exchangeShare = asks [] [] (λ s. shareIs (shareWithExchange s)) (λ cabinets spans. 3)
 
 -- The operands, in their order.
 unfoldable pub operandsOf : Facts → List Field
@@ -91,13 +107,27 @@ additionOf (addsNothing q) = neither
 unfoldable pub addition : Command → Addition
 addition c = additionOf (facts c)
 
+-- What is recorded beside it.
+unfoldable pub recordingOf : Facts → Recording
+recordingOf addsCabinet = recordsNothing
+recordingOf (addsSpan e operands demands) = recordsNothing
+recordingOf (addsNothing q) = q .records
+
+unfoldable pub recording : Command → Recording
+recording c = recordingOf (facts c)
+
 -- A command's bytes.
 unfoldable pub commandBytes : Command → List ℕ
 commandBytes c = fieldsBytes (byte (commandByte c) ∷ operandsOf (facts c))
 
 -- The state after a command.
 unfoldable pub after : State → Command → State
-after s c = afterAddition s (addition c)
+after s c = afterRecording (afterAddition s (addition c)) (recording c)
+
+-- The state after commands, one after another.
+unfoldable pub stateAfter : State → List Command → State
+stateAfter s [] = s
+stateAfter s (c ∷ later) = stateAfter (after s c) later
 
 -- The answer to an added span: its number, its mesh name once it is in, and the notices.
 unfoldable pub spanAnswer : Book → Book → Answer

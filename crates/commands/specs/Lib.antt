@@ -2,8 +2,10 @@ pub mod Bytes
 pub mod Field
 pub mod Command
 pub mod Answer
+pub mod Exchange
 pub mod Facts
 pub mod Refusal
+pub mod Marks
 pub mod Text
 pub mod Run
 pub mod Entry
@@ -13,4 +15,5 @@ pub mod Decode
 pub mod NameList
 pub mod WholeRun
 pub mod Histories
+pub mod ExchangeHistories
 pub mod Calls

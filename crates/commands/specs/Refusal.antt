@@ -11,7 +11,7 @@ use Rattle.naming.specs.Book.{Addition, vertex, edge, neither}
 use Rattle.naming.specs.State.{State}
 use Rattle.commands.specs.Field.{Field, cabinet, span, name, number, byte}
 use Rattle.commands.specs.Command.{Command}
-use Rattle.commands.specs.Facts.{Demand, differ, shareDistrict, facts, operandsOf, demandsOf, addition}
+use Rattle.commands.specs.Facts.{Demand, differ, noExchange, shareDistrict, facts, operandsOf, demandsOf, addition}
 
 pub data Refusal : Type 0 where
   badCapacity : Refusal
@@ -25,6 +25,7 @@ pub data Refusal : Type 0 where
   full : Refusal
   twoDistricts : Refusal
   noRoom : Refusal
+  alreadyExchange : Refusal
 
 unfoldable pub refusalNumber : Refusal → ℕ
 refusalNumber badCapacity = 1
@@ -38,6 +39,7 @@ refusalNumber equalCabinets = 8
 refusalNumber full = 9
 refusalNumber twoDistricts = 10
 refusalNumber noRoom = 11
+refusalNumber alreadyExchange = 12
 
 -- A line of the table: whether its cause is there, and its refusal.
 pub record Line : Type 0 where
@@ -80,11 +82,13 @@ spansKnown s c = allIn (spanKnown (s .book .network)) (operandsOf (facts c))
 -- The demand is met.
 unfoldable pub met : State → Demand → Bool
 met s (differ a b) = not (eqb a b)
+met s (noExchange a) = not (s .marked a)
 met s (shareDistrict a b) = component (s .book .network) a b
 
 -- The refusal where it is not.
 unfoldable pub cause : Demand → Refusal
 cause (differ a b) = equalCabinets
+cause (noExchange a) = alreadyExchange
 cause (shareDistrict a b) = twoDistricts
 
 -- All demands of the command that could give this refusal are met.
@@ -106,6 +110,7 @@ lines caps s c =
     record { applies = not (cabinetsKnown s c); refusal = unknownCabinet }
     ∷ record { applies = not (spansKnown s c); refusal = unknownSpan }
     ∷ record { applies = not (meets equalCabinets s c); refusal = equalCabinets }
+    ∷ record { applies = not (meets alreadyExchange s c); refusal = alreadyExchange }
     ∷ record { applies = isFull caps s c; refusal = full }
     ∷ record { applies = not (meets twoDistricts s c); refusal = twoDistricts }
     ∷ []

@@ -10,7 +10,7 @@ use Rattle.graph.specs.Lists.{allIn}
 use Rattle.graph.specs.Network.{Edge}
 use Rattle.graph.proofs.Truth.{and-left, and-right, leb-le}
 use Rattle.commands.specs.Field.{Field}
-use Rattle.commands.specs.Command.{Command, addCabinet, addSpan, districtName, ringName, sharedMesh, soleSpans, cutCabinets, isSole, commandByte}
+use Rattle.commands.specs.Command.{Command, addCabinet, addSpan, districtName, ringName, sharedMesh, soleSpans, cutCabinets, isSole, markExchange, holdsExchange, exchangeShare, commandByte}
 use Rattle.commands.specs.Facts.{Demand, PlainCommand, addsCabinet, addsSpan, addsNothing, asks, facts, additionOf}
 use Rattle.commands.specs.Forecast.{isCabinet, isSpan, longestPlain}
 use Rattle.forecast.specs.declared.Tally.{Tally}
@@ -48,9 +48,12 @@ counted-by-byte (sharedMesh a b) = answer-counted 4 0 0 (omega arith) (omega ari
 counted-by-byte (soleSpans a b) = answer-counted 3 1 0 (omega arith) (omega arith) (omega arith) (λ c s. omega arith)
 counted-by-byte (cutCabinets a b) = answer-counted 3 0 1 (omega arith) (omega arith) (omega arith) (λ c s. omega arith)
 counted-by-byte (isSole x) = answer-counted 2 0 0 (omega arith) (omega arith) (omega arith) (λ c s. omega arith)
+counted-by-byte (markExchange a) = answer-counted 1 0 0 (omega arith) (omega arith) (omega arith) (λ c s. omega arith)
+counted-by-byte (holdsExchange a) = answer-counted 2 0 0 (omega arith) (omega arith) (omega arith) (λ c s. omega arith)
+counted-by-byte exchangeShare = answer-counted 3 0 0 (omega arith) (omega arith) (omega arith) (λ c s. omega arith)
 
 -- and the tables have an entry for it
-pub byte-in-tables : (k : Command) → commandByte k ≤ 8
+pub byte-in-tables : (k : Command) → commandByte k ≤ 15
 unfolding commandByte
 byte-in-tables addCabinet = omega arith
 byte-in-tables (addSpan a b) = omega arith
@@ -60,6 +63,9 @@ byte-in-tables (sharedMesh a b) = omega arith
 byte-in-tables (soleSpans a b) = omega arith
 byte-in-tables (cutCabinets a b) = omega arith
 byte-in-tables (isSole x) = omega arith
+byte-in-tables (markExchange a) = omega arith
+byte-in-tables (holdsExchange a) = omega arith
+byte-in-tables exchangeShare = omega arith
 
 -- no entry of a table of numbers up to five is above five
 pub few-at : (xs : List ℕ) → allIn (λ x. leb x 5) xs ≡ true → (i : ℕ) → getD xs i 0 ≤ 5

@@ -141,7 +141,7 @@ module _ {journal : List ℕ} {t : Tally} {place : ℕ} (so-far : CountedTo jour
       pub operands-here : place + 1 + width ≤ length journal
       operands-here = operands-stand journal place at-command (command-here .this) width (command-here .is-read)
 
-      pub byte-here : byte ≤ 8
+      pub byte-here : byte ≤ 15
       byte-here = omega (arith, its-own-byte, byte-in-tables (command-here .this))
 
       -- with it in the tally, the journal is counted up to the place behind it

@@ -38,30 +38,30 @@ fn highest_bit(k: u32) -> u32
 }
 
 // An answer more: so many bytes, and so many lists of spans and of cabinets behind them.
-fn answer_more(t: Tally, bytes: u32, spanlists: u32, cabinetlists: u32) -> Tally
+fn answer_more(t: Tally, bytes: u8, spanlists: u8, cabinetlists: u8) -> Tally
     requires { ⌜ Few t × (bytes ≤ 5) × (spanlists ≤ 5) × (cabinetlists ≤ 5) ⌝ }
     ensures { λ r. ⌜ r ≡ answerMore bytes spanlists cabinetlists t ⌝ }
 {
     Tally {
         cabinets: t.cabinets,
         spans: t.spans,
-        bytes: t.bytes + bytes,
-        spanlists: t.spanlists + spanlists,
-        cabinetlists: t.cabinetlists + cabinetlists,
+        bytes: t.bytes + (bytes as u32),
+        spanlists: t.spanlists + (spanlists as u32),
+        cabinetlists: t.cabinetlists + (cabinetlists as u32),
     }
 }
 
 // Of the answer to a command that adds nothing, by its byte: the bytes that do not depend on how many
 // cabinets and spans there are, and the lists of spans and of cabinets.
-const BYTES: [u32; 9] = [0, 0, 0, 3, 3, 4, 3, 3, 2];
+const BYTES: [u8; 16] = [0, 0, 0, 3, 3, 4, 3, 3, 2, 1, 2, 0, 0, 0, 0, 3];
 
-const SPANLISTS: [u32; 9] = [0, 0, 0, 0, 0, 0, 1, 0, 0];
+const SPANLISTS: [u8; 16] = [0, 0, 0, 0, 0, 0, 1, 0, 0, 0, 0, 0, 0, 0, 0, 0];
 
-const CABINETLISTS: [u32; 9] = [0, 0, 0, 0, 0, 0, 0, 1, 0];
+const CABINETLISTS: [u8; 16] = [0, 0, 0, 0, 0, 0, 0, 1, 0, 0, 0, 0, 0, 0, 0, 0];
 
 // The tally with one command more, by its byte.
 fn counted(t: Tally, byte: u8) -> Tally
-    requires { ⌜ Few t × (byte ≤ 8) ⌝ }
+    requires { ⌜ Few t × (byte ≤ 15) ⌝ }
     ensures { λ r. ⌜ r ≡ countedBy byte t ⌝ }
 {
     let mut next = t;

@@ -2,7 +2,7 @@
 use mathlib.Core.Bool.{true, false}
 use mathlib.Core.List.{List, [], _∷_}
 use mathlib.Core.Logic.{_⊎_, inl, inr}
-use mathlib.Core.Path.{_≡_, refl, sym, _∙_, ap}
+use mathlib.Core.Path.{_≡_, refl, sym, _∙_}
 use Prim.Native.Nat.{ℕ, suc, _<_}
 use native.Mathlib.Nat.{le-refl}
 use native.Mathlib.Numerals.{add-one}
@@ -10,8 +10,8 @@ use native.Mathlib.Omega.{arith}
 use lib.Dec.{eqb}
 use Rattle.graph.specs.Groups.{component}
 use Rattle.graph.proofs.Truth.{true-or-false}
-use Rattle.naming.specs.Book.{Book, feed}
-use Rattle.naming.specs.State.{State, afterAddition}
+use Rattle.naming.specs.Book.{feed}
+use Rattle.naming.specs.State.{afterAddition}
 use Rattle.table.specs.Inside.Column
 use Rattle.table.specs.Inside.Layout.{vertexArea, bridgeBlockArea, edgeArea}
 use Rattle.table.specs.Inside.Merge.{nameIn}
@@ -20,6 +20,7 @@ use Rattle.forest.specs.declared.Growth.{Growth}
 use Rattle.forest.specs.Inside.Tree.{GrowsTo, edgeGrown}
 use Rattle.forest.specs.Inside.Valid.{bookOf}
 use Rattle.forest.specs.Promise.{Holds, stateOf, vertexChangeAt, edgeChangeAt, EdgeAdded}
+use Rattle.forest.proofs.Networks.{state-is}
 use Rattle.forest.proofs.Changes.{ChangesListed, changes-written, changes-few}
 use Rattle.forest.proofs.EdgeToAdd.{EdgeToAdd, before, endsStored, Grows, ends-frame}
 use Rattle.forest.proofs.Link.{link-grows}
@@ -52,7 +53,7 @@ module _ (new : EdgeToAdd) where
       rw (to .table-is)
       record {
         holds = rw add-one (grows .valid-after);
-        state-is = rw add-one (ap (λ (b : Book). let s : State = record { book = b } in s) (grows .book-after));
+        state-is = rw add-one (state-is (grows .book-after) (grows .marked-after));
         components-changed = changes-written (vertexArea limits) n n (growth .components) t after (le-refl n) components;
         bridge-blocks-changed = changes-written (bridgeBlockArea limits) n n (growth .«bridge_blocks») t after (le-refl n) bridge-blocks;
         blocks-changed = rw add-one (changes-written (edgeArea limits) m (suc m) (growth .blocks) t after (omega arith) blocks);

@@ -1,10 +1,10 @@
--- One vertex more: the table stays valid, and its naming book is the one with the vertex entered.
+-- One vertex more: the table stays valid, and its naming book is the one with the vertex entered; no mark changes.
 use mathlib.Core.Bool.{true, false}
 use mathlib.Core.List.{List, [], _∷_, _++_, map}
 use mathlib.Core.Logic.{_⊎_, inl, inr, ⊎-elim}
 use mathlib.Core.Path.{_≡_, refl, sym, _∙_, ap}
 use Prim.Native.Nat.{ℕ, suc, _*_, _≤_, _<_}
-use native.Mathlib.Nat.{mul-pos}
+use native.Mathlib.Nat.{le-refl, mul-pos}
 use native.Mathlib.Numerals.{add-one}
 use native.Mathlib.Omega.{arith}
 use Rattle.graph.specs.Network.{Network, addVertex, edge, edgeCount, touches, without, joined}
@@ -16,25 +16,27 @@ use Rattle.graph.proofs.Mates.{component-swap}
 use Rattle.graph.proofs.Ends.{touched-known}
 use Rattle.graph.proofs.VertexMore.{component-vertex-more, bridge-block-vertex-more, block-vertex-more, component-alone, bridge-block-alone, proper-vertex-more}
 use Rattle.naming.specs.Rename.{size}
-use Rattle.naming.specs.Book.{Book, enterVertex, feed}
-use Rattle.naming.specs.State.{State, afterAddition}
+use Rattle.naming.specs.Book.{enterVertex, feed}
+use Rattle.naming.specs.State.{afterAddition}
 use Rattle.naming.proofs.Equivalent.{size-agree, size-others, size-positive}
 use Rattle.numbers.specs.declared.Limits.{Limits}
 use Rattle.table.specs.Inside.Column
 use Rattle.table.specs.Inside.Layout.{cell, put, vertexArea, bridgeBlockArea, edgeArea}
-use Rattle.table.specs.Inside.KindValid.{namesIn, KindValid}
-use Rattle.table.proofs.Cells.{HasColumns, length-put, cell-put-same, cell-put-other-column, cell-put-elsewhere}
+use Rattle.table.specs.Inside.Merge.{nameIn}
+use Rattle.table.specs.Inside.KindValid.{namesIn, KindValid, Counts}
+use Rattle.table.proofs.Cells.{HasColumns, length-put, cell-put-same, cell-put-other-column, cell-put-elsewhere, cell-bridge-block}
 use Rattle.table.proofs.MergeKept.{HasKind}
 use Rattle.table.proofs.KindNames.{name-known}
 use Rattle.forest.specs.Inside.Climb.{upOf, depthOf, aboveEdge}
-use Rattle.forest.specs.Inside.Tree.{newGroup, vertexTable}
-use Rattle.forest.specs.Inside.Valid.{networkOf, bookOf, HangsBelow, ForestValid, Valid}
+use Rattle.forest.specs.Inside.Tree.{newGroup, newMarks, vertexTable}
+use Rattle.forest.specs.Inside.Valid.{networkOf, bookOf, markedIn, HangsBelow, ForestValid, Valid}
 use Rattle.forest.specs.Promise.{Holds, stateOf, VertexAdded}
-use Rattle.forest.proofs.Columns.{among, within, groupColumns}
+use Rattle.forest.proofs.Columns.{among, within, groupColumns, markColumns}
 use Rattle.forest.proofs.Beyond.{frame-beyond}
-use Rattle.forest.proofs.KindWords.{SameWords, names-same, kind-same, kind-agree, kind-new, names-new}
-use Rattle.forest.proofs.Networks.{component-groups, bridge-block-groups, edge-count, vertex-count, ends-same, book-is}
-use Rattle.forest.proofs.Frames.{Frame, _then_, frame-vertex, frame-component, frame-bridge-block, same-components, same-bridge-blocks, same-blocks, same-above}
+use Rattle.forest.proofs.KindWords.{SameWords, names-same, kind-same, kind-agree, kind-new, names-new, new-group-other, new-group-name, counts-new}
+use Rattle.forest.proofs.Networks.{component-groups, bridge-block-groups, edge-count, vertex-count, ends-same, book-is, state-is}
+use Rattle.forest.proofs.Frames.{Frame, _then_, frame-more, frame-vertex, frame-component, frame-bridge-block, same-components, same-bridge-blocks, same-blocks, same-above}
+use Rattle.forest.proofs.MarkWords.{marked-unknown, marked-same, marked-more, marksStored, frame-marks, marks-elsewhere, stored-marks, stored-mark}
 
 -- one vertex more changes no edge, and no vertex is on another block
 edge-vertex-more : (g : Network) (e : ℕ) → edge (addVertex g) e ≡ edge g e
@@ -58,6 +60,9 @@ module _ (limits : Limits) (n m : ℕ) (t : List ℕ) (valid : Valid limits n m 
   t₃ : List ℕ
   t₃ = put t₂ (vertexArea limits) Column.up n 0
 
+  t₄ : List ℕ
+  t₄ = put t₃ (vertexArea limits) Column.depth n 0
+
   abbrev t′ : List ℕ
   t′ = vertexTable t limits n
 
@@ -69,17 +74,31 @@ module _ (limits : Limits) (n m : ℕ) (t : List ℕ) (valid : Valid limits n m 
   unfolding t₂
   bridge-block-step vs es = frame-bridge-block limits vs es t₁ n room
 
-  forest-step : (vs es : List ℕ) → among vs Column.up ≡ true → among vs Column.depth ≡ true → Frame limits vs es t₂ t′
-  unfolding vertexTable t₁ t₂ t₃
+  forest-step : (vs es : List ℕ) → among vs Column.up ≡ true → among vs Column.depth ≡ true → Frame limits vs es t₂ t₄
+  unfolding t₃ t₄
   forest-step vs es p q =
       frame-vertex limits vs es t₂ Column.up n 0 (omega arith) room p then frame-vertex limits vs es t₃ Column.depth n 0 (omega arith) room q
 
+  marks-stored : marksStored limits t₄ n 0 n 0 ≡ t′
+  unfolding vertexTable newMarks t₁ t₂ t₃ t₄
+  marks-stored = refl
+
+  marks-step : (vs es : List ℕ) → within markColumns vs ≡ true → Frame limits vs es t₄ t′
+  marks-step = rw (sym marks-stored) (frame-marks limits t₄ n 0 n 0 room room)
+
+  -- what is stored behind the groups
+  abbrev otherColumns : List ℕ
+  otherColumns = Column.up ∷ Column.depth ∷ markColumns
+
+  behind-groups : (vs : List ℕ) → within otherColumns vs ≡ true → Frame limits vs [] t₂ t′
+  behind-groups vs w = frame-more (forest-step otherColumns [] refl refl then marks-step otherColumns [] refl) w refl
+
   abbrev columns : List ℕ
-  columns = groupColumns ++ map Column.ofBridgeBlocks groupColumns ++ Column.up ∷ Column.depth ∷ []
+  columns = groupColumns ++ map Column.ofBridgeBlocks groupColumns ++ otherColumns
 
   whole : Frame limits columns [] t t′
   whole =
-      component-step columns [] refl then bridge-block-step columns [] refl then forest-step columns [] refl refl
+      component-step columns [] refl then bridge-block-step columns [] refl then behind-groups columns refl
 
   abbrev g : Network
   g = networkOf limits n m t
@@ -93,6 +112,13 @@ module _ (limits : Limits) (n m : ℕ) (t : List ℕ) (valid : Valid limits n m 
   component-apart x h =
       component-vertex-more g n x
       ∙ component-alone g (valid .proper) n x (omega (arith, vertex-count limits n m t))
+      ∙ ne-eqb n x (λ e. omega arith)
+
+  -- and a bridge-block by itself
+  bridge-block-apart : (x : ℕ) → x < n → bridgeBlock (addVertex g) n x ≡ false
+  bridge-block-apart x h =
+      bridge-block-vertex-more g n x
+      ∙ bridge-block-alone g (valid .proper) n x (omega (arith, vertex-count limits n m t))
       ∙ ne-eqb n x (λ e. omega arith)
 
   -- components, bridge-blocks and blocks
@@ -111,7 +137,7 @@ module _ (limits : Limits) (n m : ℕ) (t : List ℕ) (valid : Valid limits n m 
   after-components : SameWords t₁ t′ (vertexArea limits) (suc n)
   after-components =
       same-components
-      (bridge-block-step (map Column.ofBridgeBlocks groupColumns ++ Column.up ∷ Column.depth ∷ []) [] refl then forest-step _ _ refl refl)
+      (bridge-block-step (map Column.ofBridgeBlocks groupColumns ++ otherColumns) [] refl then behind-groups _ refl)
       (suc n)
       room
       refl
@@ -131,7 +157,7 @@ module _ (limits : Limits) (n m : ℕ) (t : List ℕ) (valid : Valid limits n m 
       same-bridge-blocks (component-step groupColumns [] refl) n (valid .vertices-fit) refl
 
   after-bridge-blocks : SameWords t₂ t′ (bridgeBlockArea limits) (suc n)
-  after-bridge-blocks = same-bridge-blocks (forest-step (Column.up ∷ Column.depth ∷ []) [] refl refl) (suc n) room refl
+  after-bridge-blocks = same-bridge-blocks (behind-groups otherColumns refl) (suc n) room refl
 
   has-bridge-blocks : HasKind t₁ (bridgeBlockArea limits)
   has-bridge-blocks = omega (arith, valid .long, component-step groupColumns [] refl .same-length)
@@ -148,10 +174,7 @@ module _ (limits : Limits) (n m : ℕ) (t : List ℕ) (valid : Valid limits n m 
       room
       (omega (arith, valid .small-vertices))
       (λ x y h k. sym (bridge-block-vertex-more g x y))
-      (λ x h.
-      bridge-block-vertex-more g n x
-      ∙ bridge-block-alone g (valid .proper) n x (omega (arith, vertex-count limits n m t))
-      ∙ ne-eqb n x (λ e. omega arith))
+      bridge-block-apart
       (bridge-block-groups (addVertex g))
       (kind-same before-bridge-blocks (valid .bridge-blocks))
 
@@ -173,9 +196,10 @@ module _ (limits : Limits) (n m : ℕ) (t : List ℕ) (valid : Valid limits n m 
   -- the words of an old vertex stay
   old-word : (c x : ℕ) → c < Column.perVertex → x < n → among (groupColumns ++ map Column.ofBridgeBlocks groupColumns) c ≡ false
       → cell t′ (vertexArea limits) c x ≡ cell t (vertexArea limits) c x
-  unfolding vertexTable t₁ t₂ t₃
+  unfolding t₃ t₄
   old-word c x h l o =
-      cell-put-elsewhere t₃ (vertexArea limits) Column.depth n 0 c x room (omega arith) (λ e. omega arith)
+      rw (sym marks-stored) (marks-elsewhere limits t₄ n 0 n 0 room room c x (omega arith) (λ e. omega arith) (λ e. omega arith))
+      ∙ cell-put-elsewhere t₃ (vertexArea limits) Column.depth n 0 c x room (omega arith) (λ e. omega arith)
       ∙ cell-put-elsewhere t₂ (vertexArea limits) Column.up n 0 c x room (omega arith) (λ e. omega arith)
       ∙ groups-step .vertex-word c x h (omega arith) o
 
@@ -184,15 +208,17 @@ module _ (limits : Limits) (n m : ℕ) (t : List ℕ) (valid : Valid limits n m 
 
   -- the new vertex is a root of depth 0
   new-up : upOf t′ limits n ≡ 0
-  unfolding vertexTable t₁ t₂ t₃
+  unfolding t₃ t₄
   new-up =
-      cell-put-other-column t₃ (vertexArea limits) Column.depth n 0 Column.up n room room (λ e. omega arith)
+      marks-step markColumns [] refl .vertex-word Column.up n (omega arith) room refl
+      ∙ cell-put-other-column t₃ (vertexArea limits) Column.depth n 0 Column.up n room room (λ e. omega arith)
       ∙ cell-put-same t₂ (vertexArea limits) Column.perVertex Column.up n 0 has (omega arith) room
 
   new-depth : depthOf t′ limits n ≡ 0
-  unfolding vertexTable t₁ t₂ t₃
+  unfolding t₃ t₄
   new-depth =
-      cell-put-same t₃ (vertexArea limits) Column.perVertex Column.depth n 0 (rw (length-put t₂ (vertexArea limits) Column.up n 0) has) (omega arith) room
+      marks-step markColumns [] refl .vertex-word Column.depth n (omega arith) room refl
+      ∙ cell-put-same t₃ (vertexArea limits) Column.perVertex Column.depth n 0 (rw (length-put t₂ (vertexArea limits) Column.up n 0) has) (omega arith) room
 
   above : (e : ℕ) → e < m → aboveEdge t′ limits e ≡ aboveEdge t limits e
   above e h =
@@ -254,6 +280,51 @@ module _ (limits : Limits) (n m : ℕ) (t : List ℕ) (valid : Valid limits n m 
       bound x (inl l) = rw (old-word Column.depth x (omega arith) l refl, old-size x l) (valid .forest .depth-bound x l)
       bound x (inr q) = rw (q, new-depth) (square-positive (size-positive (suc n) (component (addVertex g)) (component-groups (addVertex g)) n (omega arith)))
 
+  has-marks : HasColumns t₄ (vertexArea limits) Column.perVertex
+  has-marks = rw (forest-step otherColumns [] refl refl .same-length) has
+
+  -- the new vertex is not marked, and an old one is as before
+  mark-word : cell t′ (vertexArea limits) Column.mark n ≡ 0
+  mark-word = rw (sym marks-stored) (stored-mark limits t₄ n 0 n 0 room room has-marks)
+
+  marked-after : (x : ℕ) → markedIn limits (suc n) t′ x ≡ markedIn limits n t x
+  marked-after x =
+      marked-more limits n t′ x mark-word ∙ marked-same limits n t t′ x (λ h. old-word Column.mark x (omega arith) h refl)
+
+  -- so its bridge-block has no marks, and the others have as many as before
+  old-bridge-block : (x : ℕ) → x < n → nameIn t′ (bridgeBlockArea limits) x ≡ nameIn t (bridgeBlockArea limits) x
+  unfolding t₂
+  old-bridge-block x h =
+      after-bridge-blocks Column.name x refl (omega arith)
+      ∙ new-group-other t₁ (bridgeBlockArea limits) n Column.name x room (omega arith) (λ e. omega arith)
+      ∙ before-bridge-blocks Column.name x refl h
+
+  new-bridge-block : nameIn t′ (bridgeBlockArea limits) n ≡ n
+  unfolding t₂
+  new-bridge-block =
+      after-bridge-blocks Column.name n refl (omega arith)
+      ∙ new-group-name t₁ (bridgeBlockArea limits) n has-bridge-blocks room
+
+  old-marks : (x : ℕ) → x < n → cell t′ (bridgeBlockArea limits) Column.markCount x ≡ cell t (bridgeBlockArea limits) Column.markCount x
+  old-marks x h =
+      cell-bridge-block limits t′ Column.markCount x
+      ∙ old-word (Column.ofBridgeBlocks Column.markCount) x (omega arith) h refl
+      ∙ sym (cell-bridge-block limits t Column.markCount x)
+
+  marks : Counts t′ (bridgeBlockArea limits) (suc n) (bridgeBlock (addVertex g)) Column.markCount (markedIn limits (suc n) t′)
+  marks =
+      counts-new
+      (valid .bridge-blocks)
+      old-bridge-block
+      old-marks
+      new-bridge-block
+      (rw (sym marks-stored) (stored-marks limits t₄ n 0 n 0 room room has-marks))
+      (λ x y h k. sym (bridge-block-vertex-more g x y))
+      bridge-block-apart
+      (λ x h. sym (marked-after x))
+      (marked-after n ∙ marked-unknown limits n t n (le-refl n))
+      (valid .marks)
+
   book : bookOf limits (suc n) m t′ ≡ enterVertex (bookOf limits n m t)
   unfolding bookOf enterVertex networkOf
   book =
@@ -277,6 +348,7 @@ module _ (limits : Limits) (n m : ℕ) (t : List ℕ) (valid : Valid limits n m 
         proper = rw network-more (proper-vertex-more g (valid .proper));
         components = rw network-more components;
         bridge-blocks = rw network-more bridge-blocks-named;
+        marks = rw network-more marks;
         blocks = rw network-more blocks;
         forest = rw network-more forest;
       }
@@ -287,6 +359,6 @@ module _ (limits : Limits) (n m : ℕ) (t : List ℕ) (valid : Valid limits n m 
   vertex-added =
       record {
         holds = rw add-one valid-after;
-        state-is = rw add-one (ap (λ (b : Book). let s : State = record { book = b } in s) book);
+        state-is = rw add-one (state-is book marked-after);
         same-beyond = frame-beyond whole;
       }

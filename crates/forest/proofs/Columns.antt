@@ -43,6 +43,10 @@ bridgeBlockColumns = columnsFrom Column.perComponent Column.perBridgeBlock
 abbrev pub blockColumns : List ℕ
 blockColumns = columnsFrom 0 Column.perBlock
 
+-- The columns of marks: of how many marks bridge-blocks have, and of which vertices are marked.
+abbrev pub markColumns : List ℕ
+markColumns = Column.ofBridgeBlocks Column.markCount ∷ Column.mark ∷ []
+
 -- The scratch columns of the vertices, which have the path and its right side.
 abbrev pub scratch : List ℕ
 scratch = Column.pathVertex ∷ Column.pathEdge ∷ Column.rightVertex ∷ Column.rightEdge ∷ []

@@ -13,20 +13,21 @@ use Rattle.naming.specs.Rename.{rename}
 use Rattle.naming.specs.Book.{enterEdge}
 use Rattle.table.specs.Inside.Column
 use Rattle.table.specs.Inside.Layout.{vertexArea, bridgeBlockArea, edgeArea}
-use Rattle.table.specs.Inside.KindValid.{namesIn, KindValid}
+use Rattle.table.specs.Inside.KindValid.{namesIn, KindValid, Counts}
 use Rattle.table.proofs.Cells.{cell-bridge-block}
 use Rattle.forest.specs.Inside.Tree.{Grown, condenseGrown}
-use Rattle.forest.specs.Inside.Valid.{networkOf, bookOf, ForestValid}
+use Rattle.forest.specs.Inside.Valid.{networkOf, bookOf, markedIn, ForestValid}
 use Rattle.forest.proofs.Columns.{bridgeBlockColumns, blockColumns, scratch}
 use Rattle.forest.proofs.KindWords.{SameWords, names-same, kind-same, kind-agree}
 use Rattle.forest.proofs.Networks.{edge-count, book-is}
 use Rattle.forest.proofs.NamesStay.{rename-stays}
 use Rattle.forest.proofs.Frames.{Frame, same-components, same-bridge-blocks}
+use Rattle.forest.proofs.MarkWords.{same-marked}
 use Rattle.forest.proofs.EdgeToAdd.{EdgeToAdd, edgeOf, before, after, Within, endsStored, Grows, network-after, valid-with-edge}
 use Rattle.forest.proofs.Beyond.{frame-beyond}
 use Rattle.forest.proofs.Changes.{ChangesListed, changes-around, no-names-changed}
 use Rattle.forest.proofs.CondenseTables.{bridge-blocks-law, blocks-law, block-words, bridge-block-words, behind-bridge-blocks, behind-ends, whole}
-use Rattle.forest.proofs.CondenseTables.{enter-step, new-name, old-name, names-with-new, valid-with-new, forest-after}
+use Rattle.forest.proofs.CondenseTables.{enter-step, new-name, old-name, names-with-new, valid-with-new, marks-after, forest-after}
 
 module _ (new : EdgeToAdd) (within : Within new) where
   open EdgeToAdd new using (limits, n, m, t, valid, a, b)
@@ -95,6 +96,10 @@ module _ (new : EdgeToAdd) (within : Within new) where
       ∙ behind-bridge-blocks new within .vertex-word (Column.ofBridgeBlocks Column.changed) i (omega arith) (omega (arith, bridge-blocks-law new within .few, valid .vertices-fit)) refl
       ∙ sym (cell-bridge-block limits _ Column.changed i))
 
+  marks : Counts t′ (bridgeBlockArea limits) n (bridgeBlock g′) Column.markCount (markedIn limits n t′)
+  unfolding condenseGrown
+  marks = marks-after new within
+
   -- blocks
   blocks-changed : ChangesListed (edgeArea limits) m (suc m) (grown .blocks) t t′
   unfolding condenseGrown
@@ -123,8 +128,9 @@ module _ (new : EdgeToAdd) (within : Within new) where
   unfolding condenseGrown bookOf enterEdge
   condense-grows =
       record {
-        valid-after = valid-with-edge new network-more (all .same-length) components bridge-blocks blocks forest;
+        valid-after = valid-with-edge new network-more (all .same-length) components bridge-blocks marks blocks forest;
         book-after = book-is network-more component-names bridge-block-names block-names;
+        marked-after = same-marked all n (valid .vertices-fit) refl;
         components = no-names-changed (vertexArea limits) n n t t′ (le-refl n) (λ x h. component-words Column.name x refl h);
         bridge-blocks = bridge-blocks-changed;
         blocks = blocks-changed;

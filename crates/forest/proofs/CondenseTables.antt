@@ -14,18 +14,19 @@ use Rattle.naming.proofs.Merge.{inMerged}
 use Rattle.table.specs.Inside.Column
 use Rattle.table.specs.Inside.Layout.{bridgeBlockArea, edgeArea}
 use Rattle.table.specs.Inside.Merge.{Renamed, nameIn, bestListed, mergeListed}
-use Rattle.table.specs.Inside.KindValid.{namesIn, KindValid}
+use Rattle.table.specs.Inside.KindValid.{namesIn, KindValid, Counts}
 use Rattle.table.proofs.Cells.{HasColumns}
 use Rattle.table.proofs.MergeLaw.{MergedTo, merged-whole}
 use Rattle.table.proofs.KindNames.{name-known, one-group}
 use Rattle.forest.specs.declared.climb.Route.{Route}
 use Rattle.forest.specs.Inside.Climb.{topOf, aboveEdge, climbTable, climbRoute}
 use Rattle.forest.specs.Inside.Tree.{pathVertices, pathEdges, enterBlock}
-use Rattle.forest.specs.Inside.Valid.{networkOf, ForestValid, Valid}
+use Rattle.forest.specs.Inside.Valid.{networkOf, markedIn, ForestValid, Valid}
 use Rattle.forest.proofs.Columns.{groupColumns, bridgeBlockColumns, blockColumns, scratch}
-use Rattle.forest.proofs.KindWords.{SameWords, names-same, kind-same}
+use Rattle.forest.proofs.KindWords.{SameWords, names-same, kind-same, counts-same}
 use Rattle.forest.proofs.Networks.{network-same, block-groups}
 use Rattle.forest.proofs.Frames.{Frame, _then_, same-bridge-blocks, same-blocks, frame-more}
+use Rattle.forest.proofs.MarkWords.{same-marks, same-marked}
 use Rattle.forest.proofs.EdgeToAdd.{EdgeToAdd, before, after, Within, endsStored, ends-frame, ends-old}
 use Rattle.forest.proofs.ClimbLaw.{Climbs, climb-law}
 use Rattle.forest.proofs.ValidFrame.{valid-kept}
@@ -181,6 +182,28 @@ module _ (new : EdgeToAdd) (within : Within new) where
   -- all that changes
   pub whole : Frame limits (bridgeBlockColumns ++ scratch) (blockColumns ++ Column.ends ∷ Column.top ∷ []) t t₅
   whole = ends-frame new _ _ refl then frame-more behind-ends refl refl
+
+  -- up to the path no bridge-block's marks change
+  marks-before : Counts t₂ (bridgeBlockArea limits) n (bridgeBlock g) Column.markCount (markedIn limits n t)
+  marks-before =
+      counts-same
+      (valid .bridge-blocks)
+      bridge-block-words
+      (same-marks to-path n (valid .vertices-fit) refl)
+      (λ x y h k. refl)
+      (λ x h. refl)
+      (valid .marks)
+
+  -- merging adds them up, after it none changes, and the marked vertices are the same
+  pub marks-after : Counts t₅ (bridgeBlockArea limits) n (bridgeBlock g′) Column.markCount (markedIn limits n t₅)
+  marks-after =
+      counts-same
+      (bridge-blocks-law .valid)
+      (same-bridge-blocks behind-bridge-blocks n (valid .vertices-fit) refl)
+      (same-marks behind-bridge-blocks n (valid .vertices-fit) refl)
+      (λ x y h k. refl)
+      (λ x h. sym (same-marked whole n (valid .vertices-fit) refl x))
+      (bridge-blocks-law .counts Column.markCount (markedIn limits n t) marks-before)
 
   -- the edges in blocks of the path
   abbrev on : ℕ → Bool

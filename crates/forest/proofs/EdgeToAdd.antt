@@ -19,11 +19,11 @@ use Rattle.numbers.specs.declared.Limits.{Limits}
 use Rattle.table.specs.Inside.Column
 use Rattle.table.specs.Inside.Layout.{cell, put, vertexArea, bridgeBlockArea, edgeArea}
 use Rattle.table.specs.Inside.Merge.{nameIn}
-use Rattle.table.specs.Inside.KindValid.{KindValid}
+use Rattle.table.specs.Inside.KindValid.{KindValid, Counts}
 use Rattle.table.proofs.Cells.{cell-put-same, cell-put-other-item}
 use Rattle.table.proofs.Halves.{high-half, low-half}
 use Rattle.forest.specs.Inside.Tree.{Grown, endsTable}
-use Rattle.forest.specs.Inside.Valid.{endsOf, networkOf, bookOf, ForestValid, Valid}
+use Rattle.forest.specs.Inside.Valid.{endsOf, networkOf, bookOf, markedIn, ForestValid, Valid}
 use Rattle.forest.specs.Promise.{SameBeyond}
 use Rattle.forest.proofs.Columns.{among}
 use Rattle.forest.proofs.Networks.{network-same, ends-same, vertex-count, edge-count}
@@ -73,6 +73,7 @@ module _ (new : EdgeToAdd) where
   pub record Grows (grown : Grown) : Type 0 where
     pub valid-after : Valid limits n (suc m) (grown .table)
     pub book-after : bookOf limits n (suc m) (grown .table) ≡ enterEdge (bookOf limits n m t) edgeOf
+    pub marked-after : (x : ℕ) → markedIn limits n (grown .table) x ≡ markedIn limits n t x
     -- the items of each kind that change their name are written down
     pub components : ChangesListed (vertexArea limits) n n (grown .components) t (grown .table)
     pub bridge-blocks : ChangesListed (bridgeBlockArea limits) n n (grown .bridgeBlocks) t (grown .table)
@@ -130,14 +131,15 @@ module _ (new : EdgeToAdd) where
   network-after {vs} {es} {t′} f q =
       network-same limits n (suc m) endsStored t′ (λ s h. f .edge-word Column.ends s (omega arith) (omega (arith, room)) q) ∙ network-stored
 
-  -- it is valid if the names, sizes and forest that it holds are
+  -- it is valid if the names, sizes, marks and forest that it holds are
   pub valid-with-edge : {t′ : List ℕ} → networkOf limits n (suc m) t′ ≡ after → length t′ ≡ length t
       → KindValid t′ (vertexArea limits) n (component after)
       → KindValid t′ (bridgeBlockArea limits) n (bridgeBlock after)
+      → Counts t′ (bridgeBlockArea limits) n (bridgeBlock after) Column.markCount (markedIn limits n t′)
       → KindValid t′ (edgeArea limits) (suc m) (block after)
       → ForestValid t′ limits n (suc m) after
       → Valid limits n (suc m) t′
-  valid-with-edge same as-long components bridge-blocks blocks forest =
+  valid-with-edge same as-long components bridge-blocks marks blocks forest =
       record {
         long = rw as-long (valid .long);
         small-vertices = valid .small-vertices;
@@ -147,6 +149,7 @@ module _ (new : EdgeToAdd) where
         proper = rw same proper-after;
         components = rw same components;
         bridge-blocks = rw same bridge-blocks;
+        marks = rw same marks;
         blocks = rw same blocks;
         forest = rw same forest;
       }

@@ -1,16 +1,17 @@
--- The words of one kind of group: on which words their validity depends, and a new group of one item.
-use mathlib.Core.Bool.{true, false}
+-- The words of one kind of group: on which words their validity and the columns that count depend, and a new group of one item.
+use mathlib.Core.Bool.{Bool, true, false, _&&_, and-false}
 use mathlib.Core.List.{List, [], _∷_, _++_}
 use mathlib.Core.Logic.{_⊎_, inl, inr}
-use mathlib.Core.Path.{_≡_, refl, sym, _∙_, ap}
+use mathlib.Core.Path.{_≡_, refl, sym, _∙_, ap, ap₂}
 use Prim.Native.Nat.{ℕ, suc, _+_, _*_, _%_, _≤_, _<_}
 use native.Mathlib.Nat.{le-refl}
 use native.Mathlib.Omega.{arith}
 use Rattle.graph.specs.Below.{tabulate}
-use Rattle.graph.proofs.Below.{below-or-last}
+use Rattle.graph.proofs.Below.{below-or-last, Agree, count-same}
 use Rattle.graph.specs.Network.{Network}
 use Rattle.graph.specs.Block.{block}
 use Rattle.naming.specs.Rename.{Grouping, size}
+use Rattle.naming.proofs.Count.{count-last-out, count-none}
 use Rattle.naming.proofs.Listed.{tabulate-same}
 use Rattle.naming.proofs.Equivalent.{Equivalent, group-swap, size-agree, size-others, size-alone}
 use Rattle.naming.proofs.Rename.{AgreeBelow}
@@ -20,7 +21,7 @@ use Rattle.table.specs.declared.words.Area.{Area}
 use Rattle.table.specs.Inside.Column
 use Rattle.table.specs.Inside.Layout.{cell, put, edgeArea}
 use Rattle.table.specs.Inside.Merge.{nameIn, sizeIn, rangeIn, leastOf, greatestOf}
-use Rattle.table.specs.Inside.KindValid.{namesIn, KindValid}
+use Rattle.table.specs.Inside.KindValid.{namesIn, KindValid, passing, Counts}
 use Rattle.table.proofs.Halves.{high-half, low-half}
 use Rattle.table.proofs.Cells.{length-put, cell-put-same, cell-put-other-column, cell-put-elsewhere}
 use Rattle.table.proofs.MergeKept.{HasKind, kept-put, kept-columns}
@@ -71,6 +72,25 @@ kind-agree {t} {area} {n} {groups} {groups′} agree k =
       from-least = k .from-least;
       to-greatest = k .to-greatest;
       range-known = k .range-known;
+    }
+
+-- of a column that counts, its words, the names, the groups and the test at the items below n are all that matters
+pub counts-same : {t t′ : List ℕ} {area : Area} {n c : ℕ} {groups groups′ : Grouping} {test test′ : ℕ → Bool} → KindValid t area n groups
+    → SameWords t t′ area n
+    → ((x : ℕ) → x < n → cell t′ area c x ≡ cell t area c x)
+    → AgreeBelow n groups groups′
+    → Agree n test test′
+    → Counts t area n groups c test
+    → Counts t′ area n groups′ c test′
+counts-same {t} {t′} {area} {n} {c} {groups} {groups′} {test} {test′} k names f agree same q =
+    record {
+      added-up = q .added-up;
+      of-kind = q .of-kind;
+      counted = λ x h.
+          ap (cell t′ area c) (names Column.name x refl h)
+          ∙ f (nameIn t area x) (name-known k x h)
+          ∙ q .counted x h
+          ∙ count-same n _ _ (λ y l. ap₂ _&&_ (agree x y h l) (same y l));
     }
 
 -- a new group leaves the words of other items
@@ -186,3 +206,35 @@ kind-new {t} {area} {n} {groups} {groups′} has h small agree alone e k =
     known : (x : ℕ) → (x < n) ⊎ (x ≡ n) → greatestOf (rangeIn t′ area (nameIn t′ area x)) < suc n
     known x (inl l) = rw (old-at Column.range x l) (omega (arith, k .range-known x l))
     known x (inr q) = rw (q, new-at Column.range, new-group-greatest t area n has h small) (le-refl (suc n))
+
+-- a column that counts goes on doing so with a new item, alone in its group, that fails the test and has 0 there
+pub counts-new : {t t′ : List ℕ} {area : Area} {n c : ℕ} {groups groups′ : Grouping} {test test′ : ℕ → Bool} → KindValid t area n groups
+    → ((x : ℕ) → x < n → nameIn t′ area x ≡ nameIn t area x)
+    → ((x : ℕ) → x < n → cell t′ area c x ≡ cell t area c x)
+    → nameIn t′ area n ≡ n
+    → cell t′ area c n ≡ 0
+    → AgreeBelow n groups groups′
+    → ((x : ℕ) → x < n → groups′ n x ≡ false)
+    → Agree n test test′
+    → test′ n ≡ false
+    → Counts t area n groups c test
+    → Counts t′ area (suc n) groups′ c test′
+counts-new {t} {t′} {area} {n} {c} {groups} {groups′} {test} {test′} k names f named none agree alone same fails q =
+    record { added-up = q .added-up; of-kind = q .of-kind; counted = λ x h. go x (below-or-last n x h) }
+  where
+    go : (x : ℕ) → (x < n) ⊎ (x ≡ n) → cell t′ area c (nameIn t′ area x) ≡ passing (suc n) groups′ test′ x
+    go x (inl l) =
+        ap (cell t′ area c) (names x l)
+        ∙ f (nameIn t area x) (name-known k x l)
+        ∙ q .counted x l
+        ∙ count-same n _ _ (λ y j. ap₂ _&&_ (agree x y l j) (same y j))
+        ∙ sym (count-last-out n _ (rw fails (and-false (groups′ x n))))
+    go x (inr e) =
+        rw e
+        (ap (cell t′ area c) named
+        ∙ none
+        ∙ sym (count-none (suc n) _ (λ y j. apart y (below-or-last n y j))))
+      where
+        apart : (y : ℕ) → (y < n) ⊎ (y ≡ n) → (groups′ n y && test′ y) ≡ false
+        apart y (inl l) = rw (alone y l)
+        apart y (inr d) = rw (d, fails) (and-false (groups′ n n))

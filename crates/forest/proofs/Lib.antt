@@ -34,6 +34,8 @@ pub mod LinkHang
 pub mod LinkMerge
 pub mod LinkSides
 pub mod LinkTable
+pub mod Marks
+pub mod MarkWords
 pub mod NamesStay
 pub mod Networks
 pub mod QueryBridges

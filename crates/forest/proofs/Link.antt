@@ -16,15 +16,16 @@ use Rattle.naming.proofs.Naming.{nameOf-old, nameOf-new}
 use Rattle.table.specs.Inside.Column
 use Rattle.table.specs.Inside.Layout.{vertexArea, bridgeBlockArea, edgeArea}
 use Rattle.table.specs.Inside.Merge.{nameIn}
-use Rattle.table.specs.Inside.KindValid.{namesIn, KindValid}
+use Rattle.table.specs.Inside.KindValid.{namesIn, KindValid, Counts}
 use Rattle.table.proofs.KindNames.{name-in-list}
 use Rattle.forest.specs.Inside.Tree.{Grown, linkGrown}
-use Rattle.forest.specs.Inside.Valid.{networkOf, bookOf, ForestValid}
+use Rattle.forest.specs.Inside.Valid.{networkOf, bookOf, markedIn, ForestValid}
 use Rattle.forest.proofs.Columns.{among, within, groupColumns, componentColumns}
-use Rattle.forest.proofs.KindWords.{SameWords, names-same, kind-same, kind-agree}
+use Rattle.forest.proofs.KindWords.{SameWords, names-same, kind-same, kind-agree, counts-same}
 use Rattle.forest.proofs.Networks.{network-rule, edge-count, book-is}
 use Rattle.forest.proofs.NamesStay.{rename-stays}
 use Rattle.forest.proofs.Frames.{Frame, _then_, same-components, same-bridge-blocks}
+use Rattle.forest.proofs.MarkWords.{same-marks, same-marked}
 use Rattle.forest.proofs.EdgeToAdd.{EdgeToAdd, edgeOf, before, after, Apart, endsStored, Grows, ends-frame, network-after, valid-with-edge}
 use Rattle.forest.proofs.Beyond.{frame-beyond}
 use Rattle.forest.proofs.Changes.{ChangesListed, changes-around, no-names-changed}
@@ -109,6 +110,10 @@ module _ (new : EdgeToAdd) (apart : Apart new) where
       (λ i h. hang-step (Column.up ∷ Column.depth ∷ []) (groupColumns ++ Column.top ∷ []) refl refl refl refl
       .vertex-word Column.changed i (omega arith) (omega (arith, law new .few, valid .vertices-fit)) refl)
 
+  -- the marked vertices
+  marked-stays : (x : ℕ) → markedIn limits n t′ x ≡ markedIn limits n t x
+  marked-stays = same-marked whole n (valid .vertices-fit) refl
+
   -- bridge-blocks
   same-bridge-block-words : SameWords t t′ (bridgeBlockArea limits) n
   same-bridge-block-words = same-bridge-blocks whole n (valid .vertices-fit) refl
@@ -119,6 +124,16 @@ module _ (new : EdgeToAdd) (apart : Apart new) where
 
   bridge-blocks-named : KindValid t′ (bridgeBlockArea limits) n (bridgeBlock g′)
   bridge-blocks-named = kind-agree (λ x y h k. bridge-blocks-agree x y) (kind-same same-bridge-block-words (valid .bridge-blocks))
+
+  marks : Counts t′ (bridgeBlockArea limits) n (bridgeBlock g′) Column.markCount (markedIn limits n t′)
+  marks =
+      counts-same
+      (valid .bridge-blocks)
+      same-bridge-block-words
+      (same-marks whole n (valid .vertices-fit) refl)
+      (λ x y h k. bridge-blocks-agree x y)
+      (λ x h. sym (marked-stays x))
+      (valid .marks)
 
   bridge-block-names : namesIn t′ (bridgeBlockArea limits) n ≡ rename (bridgeBlock g) (bridgeBlock g′) (namesIn t (bridgeBlockArea limits) n)
   bridge-block-names =
@@ -168,8 +183,9 @@ module _ (new : EdgeToAdd) (apart : Apart new) where
   unfolding linkGrown bookOf enterEdge
   link-grows =
       record {
-        valid-after = valid-with-edge new network-more (whole .same-length) components bridge-blocks-named blocks forest;
+        valid-after = valid-with-edge new network-more (whole .same-length) components bridge-blocks-named marks blocks forest;
         book-after = book-is network-more component-names bridge-block-names block-names;
+        marked-after = marked-stays;
         components = components-changed;
         bridge-blocks =
             no-names-changed (bridgeBlockArea limits) n n t t′ (le-refl n) (λ x h. same-bridge-block-words Column.name x refl h);

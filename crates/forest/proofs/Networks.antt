@@ -13,6 +13,7 @@ use Rattle.graph.proofs.MateLoss.{NoMate}
 use Rattle.graph.proofs.PathEdges.{EachLeast}
 use Rattle.graph.proofs.Block.{block-refl, block-sym, block-trans}
 use Rattle.naming.specs.Book.{Book}
+use Rattle.naming.specs.State.{State}
 use Rattle.naming.proofs.Equivalent.{Equivalent}
 use Rattle.naming.proofs.Listed.{tabulate-same}
 use Rattle.numbers.specs.declared.Limits.{Limits}
@@ -78,3 +79,7 @@ pub book-is : {b b′ : Book} → b .network ≡ b′ .network → b .components
     → b .blocks ≡ b′ .blocks
     → b ≡ b′
 book-is p q r s = λ i. record { network = p i; components = q i; bridgeBlocks = r i; blocks = s i }
+
+-- two states with the same book and the same marked vertices are one
+pub state-is : {s s′ : State} → s .book ≡ s′ .book → ((x : ℕ) → s .marked x ≡ s′ .marked x) → s ≡ s′
+state-is p q = λ i. record { book = p i; marked = λ x. q x i }

@@ -1,32 +1,33 @@
--- A table stays valid where no word that matters changes; where only the words of a path change, it also holds the same naming book.
-use mathlib.Core.List.{List, [], _∷_}
+-- A table stays valid where no word that matters changes; where only the words of a path change, it also holds the same state.
+use mathlib.Core.List.{List, [], _∷_, _++_}
 use mathlib.Core.Logic.{⊎-elim, inl, inr}
-use mathlib.Core.Path.{_≡_, refl, sym, _∙_, ap}
+use mathlib.Core.Path.{_≡_, refl, sym, _∙_}
 use Prim.Native.Nat.{ℕ, _<_}
 use native.Mathlib.Omega.{arith}
 use Rattle.graph.specs.Below.{tabulate}
 use Rattle.graph.specs.Network.{Network}
+use Rattle.graph.specs.Groups.{bridgeBlock}
 use Rattle.graph.proofs.Ends.{touched-known}
-use Rattle.naming.specs.Book.{Book}
-use Rattle.naming.specs.State.{State}
 use Rattle.numbers.specs.declared.Limits.{Limits}
 use Rattle.table.specs.Inside.Column
 use Rattle.table.specs.Inside.Layout.{cell, vertexArea, bridgeBlockArea, edgeArea}
+use Rattle.table.specs.Inside.KindValid.{Counts}
 use Rattle.table.proofs.KindNames.{name-known}
 use Rattle.forest.specs.Inside.Climb.{upOf, depthOf, aboveEdge}
-use Rattle.forest.specs.Inside.Valid.{networkOf, bookOf, HangsBelow, ForestValid, Valid}
+use Rattle.forest.specs.Inside.Valid.{networkOf, bookOf, markedIn, HangsBelow, ForestValid, Valid}
 use Rattle.forest.specs.declared.Shape.{Shape}
 use Rattle.forest.specs.Promise.{Holds, stateOf, ListWritten}
-use Rattle.forest.proofs.Columns.{scratch}
-use Rattle.forest.proofs.KindWords.{names-same, kind-same}
-use Rattle.forest.proofs.Networks.{edge-count, network-same, book-is}
+use Rattle.forest.proofs.Columns.{scratch, markColumns}
+use Rattle.forest.proofs.KindWords.{names-same, kind-same, counts-same}
+use Rattle.forest.proofs.Networks.{edge-count, network-same, book-is, state-is}
 use Rattle.forest.proofs.Frames.{Frame, frame-more, same-components, same-bridge-blocks, same-blocks, same-above}
+use Rattle.forest.proofs.MarkWords.{same-marks, same-marked}
 use Rattle.forest.proofs.ClimbTable.{Scratched}
 use Rattle.forest.proofs.Beyond.{frame-beyond}
 
--- Only scratch columns change, and the ends of edges that are not entered yet.
+-- Only scratch columns and those of marks change, and the ends of edges that are not entered yet.
 module _ {limits : Limits} {n m : ℕ} {t t′ : List ℕ} (valid : Valid limits n m t)
-    (f : Frame limits (Column.changed ∷ Column.ofBridgeBlocks Column.changed ∷ scratch) (Column.changed ∷ Column.ends ∷ []) t t′)
+    (f : Frame limits (markColumns ++ Column.changed ∷ Column.ofBridgeBlocks Column.changed ∷ scratch) (Column.changed ∷ Column.ends ∷ []) t t′)
     (ends : (s : ℕ) → s < m → cell t′ (edgeArea limits) Column.ends s ≡ cell t (edgeArea limits) Column.ends s) where
   abbrev g : Network
   g = networkOf limits n m t
@@ -73,9 +74,9 @@ module _ {limits : Limits} {n m : ℕ} {t t′ : List ℕ} (valid : Valid limits
       o : ForestValid t limits n m g
       o = valid .forest
 
-  -- then a table stays valid
-  pub valid-kept : Valid limits n m t′
-  valid-kept =
+  -- then a table stays valid if it counts its marks
+  pub valid-with-marks : Counts t′ (bridgeBlockArea limits) n (bridgeBlock g) Column.markCount (markedIn limits n t′) → Valid limits n m t′
+  valid-with-marks marks =
       record {
         long = rw (f .same-length) (valid .long);
         small-vertices = valid .small-vertices;
@@ -85,9 +86,35 @@ module _ {limits : Limits} {n m : ℕ} {t t′ : List ℕ} (valid : Valid limits
         proper = rw same-network (valid .proper);
         components = rw same-network (kind-same (same-components f n (valid .vertices-fit) refl) (valid .components));
         bridge-blocks = rw same-network (kind-same (same-bridge-blocks f n (valid .vertices-fit) refl) (valid .bridge-blocks));
+        marks = rw same-network marks;
         blocks = rw same-network (kind-same (same-blocks f m (valid .edges-fit) refl) (valid .blocks));
         forest = rw same-network forest-kept;
       }
+
+  -- and holds the same book
+  pub same-book : bookOf limits n m t′ ≡ bookOf limits n m t
+  unfolding bookOf
+  same-book =
+      book-is
+      same-network
+      (names-same t t′ (vertexArea limits) n (same-components f n (valid .vertices-fit) refl))
+      (names-same t t′ (bridgeBlockArea limits) n (same-bridge-blocks f n (valid .vertices-fit) refl))
+      (names-same t t′ (edgeArea limits) m (same-blocks f m (valid .edges-fit) refl))
+
+-- Only scratch columns change, and the ends of edges that are not entered yet: a table stays valid.
+pub valid-kept : {limits : Limits} {n m : ℕ} {t t′ : List ℕ} → Valid limits n m t
+    → Frame limits (Column.changed ∷ Column.ofBridgeBlocks Column.changed ∷ scratch) (Column.changed ∷ Column.ends ∷ []) t t′
+    → ((s : ℕ) → s < m → cell t′ (edgeArea limits) Column.ends s ≡ cell t (edgeArea limits) Column.ends s)
+    → Valid limits n m t′
+valid-kept {limits} {n} {m} {t} {t′} valid f ends =
+    valid-with-marks valid (frame-more f refl refl) ends
+    (counts-same
+    (valid .bridge-blocks)
+    (same-bridge-blocks f n (valid .vertices-fit) refl)
+    (same-marks f n (valid .vertices-fit) refl)
+    (λ x y h k. refl)
+    (λ x h. sym (same-marked f n (valid .vertices-fit) refl x))
+    (valid .marks))
 
 -- Only scratch words change: those of a path, and those of changed edges.
 abbrev pub ScratchOnly : Limits → List ℕ → List ℕ → Type 0
@@ -110,13 +137,7 @@ module _ {limits : Limits} {n m : ℕ} {t t′ : List ℕ} (valid : Valid limits
 
   -- and holds the same book
   pub frame-book : bookOf limits n m t′ ≡ bookOf limits n m t
-  unfolding bookOf
-  frame-book =
-      book-is
-      frame-network
-      (names-same t t′ (vertexArea limits) n (same-components f n (valid .vertices-fit) refl))
-      (names-same t t′ (bridgeBlockArea limits) n (same-bridge-blocks f n (valid .vertices-fit) refl))
-      (names-same t t′ (edgeArea limits) m (same-blocks f m (valid .edges-fit) refl))
+  frame-book = same-book valid (frame-more f refl refl) ends-kept
 
 -- Of a shape: what the table holds is as before.
 module _ (shape : Shape) {t t′ : List ℕ} (holds : Holds shape t) (f : ScratchOnly (shape .limits) t t′) where
@@ -126,7 +147,7 @@ module _ (shape : Shape) {t t′ : List ℕ} (holds : Holds shape t) (f : Scratc
 
   pub scratch-state : stateOf shape t′ ≡ stateOf shape t
   unfolding Holds stateOf
-  scratch-state = ap (λ (b : Book). let s : State = record { book = b } in s) (frame-book holds f)
+  scratch-state = state-is (frame-book holds f) (same-marked f (shape .vertices) (holds .vertices-fit) refl)
 
   -- so a list is written down there
   pub list-written : (at : ℕ → ℕ) (count : ℕ) (list : List ℕ) → tabulate count at ≡ list → ListWritten shape t t′ at count list

@@ -11,7 +11,7 @@ use Rattle.graph.specs.Network.{Network, edgeBetween, Proper, edgeCount}
 use Rattle.graph.specs.Groups.{component, bridgeBlock}
 use Rattle.naming.specs.Rename.{Grouping, Change, nameOf, changesBetween}
 use Rattle.naming.specs.Book.{Book, vertex, edge}
-use Rattle.naming.specs.State.{State, emptyState, afterAddition}
+use Rattle.naming.specs.State.{State, emptyState, afterAddition, recordsMark, afterRecording}
 use Rattle.numbers.specs.declared.Limits.{Limits}
 use Rattle.table.specs.Inside.Column
 use Rattle.table.specs.Inside.Layout.{cell, vertexArea, edgeArea}
@@ -23,7 +23,7 @@ use Rattle.forest.specs.declared.Shared.{Shared}
 use Rattle.forest.specs.declared.Shared.the-variants.{Block, Nothing}
 pub use Rattle.forest.specs.Rule.{tableRule, table-rule}
 use Rattle.forest.specs.Inside.Words.{groupArea}
-use Rattle.forest.specs.Inside.Valid.{Valid, endsOf, networkOf, bookOf}
+use Rattle.forest.specs.Inside.Valid.{Valid, endsOf, networkOf, bookOf, markedIn}
 
 -- How many words a table takes for so many vertices and edges.
 unfoldable pub wordsNeeded : Limits → ℕ
@@ -40,7 +40,11 @@ Holds shape t = Valid (shape .limits) (shape .vertices) (shape .edges) t
 
 -- The state that it holds.
 unfoldable pub stateOf : Shape → List ℕ → State
-stateOf shape t = record { book = bookOf (shape .limits) (shape .vertices) (shape .edges) t }
+stateOf shape t =
+    record {
+      book = bookOf (shape .limits) (shape .vertices) (shape .edges) t;
+      marked = markedIn (shape .limits) (shape .vertices) t;
+    }
 
 abbrev pub bookIn : Shape → List ℕ → Book
 bookIn shape t = stateOf shape t .book
@@ -154,6 +158,12 @@ pub record EdgeAdded (shape : Shape) (a b : ℕ) (old new : List ℕ) (growth : 
   pub few-bridge-blocks : growth .«bridge_blocks» ≤ shape .vertices
   pub few-blocks : growth .blocks ≤ shape .edges
   pub block-name : growth .block .0 ≡ nameOf (bookIn (oneEdgeMore shape) new .blocks) (shape .edges)
+  pub same-beyond : SameBeyond (shape .limits) old new
+
+-- A vertex is marked.
+pub record VertexMarked (shape : Shape) (x : ℕ) (old new : List ℕ) : Type 0 where
+  pub holds : Holds shape new
+  pub state-is : stateOf shape new ≡ afterRecording (stateOf shape old) (recordsMark x)
   pub same-beyond : SameBeyond (shape .limits) old new
 
 -- The shared block, by its name, or that there is none.

@@ -1,6 +1,6 @@
-// The working table of the register: names and sizes of components, bridge-blocks and blocks, and one block forest, in words that
-// the caller lends. The operations below are all that a caller needs; what they promise stands in specs/Promise.
-ghost use mathlib.Core.Bool.{true};
+// The working table of the register: names and sizes of components, bridge-blocks and blocks, the marks of vertices, and one block
+// forest, in words that the caller lends. The operations below are all that a caller needs; what they promise stands in specs/Promise.
+ghost use mathlib.Core.Bool.{true, false};
 ghost use mathlib.Core.List.{_++_};
 ghost use mathlib.Core.Path.{_≡_};
 ghost use Prim.Native.Nat.{_<_, _≤_, min};
@@ -10,8 +10,9 @@ ghost use Rattle.graph.specs.Groups.{component, bridge};
 ghost use Rattle.graph.specs.Block.{sharedBlock};
 ghost use Rattle.graph.specs.Between.{bridgesBetween, cutsBetween};
 ghost use Rattle.naming.specs.Rename.{size, nameOf};
+ghost use Rattle.naming.specs.State.{marksWith};
 ghost use Rattle.forest.specs.Inside.Words.{groupArea};
-ghost use Rattle.forest.specs.Promise.{wordsNeeded, Holds, bookIn, networkIn, Begun, VertexAdded, EdgeAdded, ListWritten};
+ghost use Rattle.forest.specs.Promise.{wordsNeeded, Holds, stateOf, bookIn, networkIn, Begun, VertexAdded, EdgeAdded, VertexMarked, ListWritten};
 ghost use Rattle.forest.specs.Promise.{vertexNames, vertexGroups, vertexChangeAt, edgeChangeAt, sharedName, bridgeAt, cutAt};
 ghost use Rattle.forest.specs.Promise.{scratchWords, vertexScratch, edgeScratch, VertexScratchStored, EdgeScratchStored};
 
@@ -25,6 +26,8 @@ use numbers::Vertex;
 use table::words::Area;
 use table::words::CHANGED;
 use table::words::ENDS;
+use table::words::MARK;
+use table::words::MARK_COUNT;
 use table::words::NAME;
 use table::words::PATH_VERTEX;
 use table::words::RIGHT_EDGE;
@@ -137,6 +140,34 @@ pub fn add_edge(t: &mut [u32], shape: Shape, a: Vertex, b: Vertex) -> Growth
 {
     let limits = shape.limits;
     tree::grow_edge(t, limits, Edge(shape.edges), a, b)
+}
+
+// Marks a vertex that is not marked.
+pub fn mark(t: &mut [u32], shape: Shape, x: Vertex)
+    requires { ⌜ Holds shape (now t) × (x .0 < shape .vertices) × (stateOf shape (now t) .marked (x .0) ≡ false) ⌝ }
+    ensures { λ r. ⌜ VertexMarked shape (x .0) (now (t .entry)) (now (t .exit)) ⌝ }
+{
+    let limits = shape.limits;
+    tree::mark_vertex(t, limits, x);
+}
+
+// Whether a vertex is marked.
+pub fn is_marked(t: &[u32], shape: Shape, x: Vertex) -> bool
+    requires { ⌜ Holds shape (now t) × (x .0 < shape .vertices) ⌝ }
+    ensures { λ r. ⌜ r ≡ stateOf shape (now (t .entry)) .marked (x .0) ⌝ }
+{
+    let limits = shape.limits;
+    word(t, vertex_area(limits), MARK, x.0) == 1
+}
+
+// How many of the vertices in a vertex's bridge-block are marked.
+pub fn marks_with(t: &[u32], shape: Shape, x: Vertex) -> u32
+    requires { ⌜ Holds shape (now t) × (x .0 < shape .vertices) ⌝ }
+    ensures { λ r. ⌜ r ≡ marksWith (stateOf shape (now (t .entry))) (x .0) ⌝ }
+{
+    let limits = shape.limits;
+    let name = word(t, bridge_block_area(limits), NAME, x.0);
+    word(t, bridge_block_area(limits), MARK_COUNT, name)
 }
 
 // The words of a kind of groups of vertices.

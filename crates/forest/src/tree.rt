@@ -1,8 +1,9 @@
-// Growing the block forest: one vertex more, and one edge more, which links two components or condenses the path between two vertices.
+// Growing the block forest: one vertex more, and one edge more, which links two components or condenses the path between two vertices;
+// and marking a vertex.
 ghost use mathlib.Core.Path.{_≡_};
 ghost use mathlib.Core.Bool.{cond};
 ghost use Prim.Native.Nat.{_<_};
-ghost use Rattle.forest.specs.Inside.Tree.{newGroup, vertexTable, raiseFrom, turnFrom, turnedTable, turnedState, hangTable, linkGrown};
+ghost use Rattle.forest.specs.Inside.Tree.{newGroup, newMarks, vertexTable, markTable, raiseFrom, turnFrom, turnedTable, turnedState, hangTable, linkGrown};
 ghost use Rattle.forest.specs.Inside.Tree.{enterBlock, condenseGrown, edgeGrown};
 ghost use Rattle.forest.specs.Inside.Tree.{GrowsTo};
 use crate::Growth;
@@ -20,6 +21,8 @@ use table::words::Area;
 use table::words::CHANGED;
 use table::words::DEPTH;
 use table::words::ENDS;
+use table::words::MARK;
+use table::words::MARK_COUNT;
 use table::words::NAME;
 use table::words::PATH_EDGE;
 use table::words::PATH_VERTEX;
@@ -51,7 +54,15 @@ fn new_group(t: &mut [u32], area: Area, x: u32)
     set_word(t, area, RANGE, x, range);
 }
 
-// One vertex more: a component, a bridge-block and a root by itself.
+// A new vertex is not marked, and its bridge-block, named by its number, has no marks.
+fn new_marks(t: &mut [u32], limits: Limits, x: Vertex)
+    ensures { λ r. ⌜ now (t .exit) ≡ newMarks (now (t .entry)) limits (x .0) ⌝ }
+{
+    set_word(t, bridge_block_area(limits), MARK_COUNT, x.0, 0);
+    set_word(t, vertex_area(limits), MARK, x.0, 0);
+}
+
+// One vertex more: a component, a bridge-block and a root by itself, not marked.
 pub(crate) fn grow_vertex(t: &mut [u32], limits: Limits, x: Vertex)
     ensures { λ r. ⌜ now (t .exit) ≡ vertexTable (now (t .entry)) limits (x .0) ⌝ }
 {
@@ -59,6 +70,18 @@ pub(crate) fn grow_vertex(t: &mut [u32], limits: Limits, x: Vertex)
     new_group(t, bridge_block_area(limits), x.0);
     set_word(t, vertex_area(limits), UP, x.0, 0);
     set_word(t, vertex_area(limits), DEPTH, x.0, 0);
+    new_marks(t, limits, x);
+}
+
+// The vertex is marked, and its bridge-block has one mark more.
+pub(crate) fn mark_vertex(t: &mut [u32], limits: Limits, x: Vertex)
+    ensures { λ r. ⌜ now (t .exit) ≡ markTable (now (t .entry)) limits (x .0) ⌝ }
+{
+    let name = word(t, bridge_block_area(limits), NAME, x.0);
+    let marks = word(t, bridge_block_area(limits), MARK_COUNT, name);
+    let more = std::num::wrapping_add_u32(marks, 1);
+    set_word(t, bridge_block_area(limits), MARK_COUNT, name, more);
+    set_word(t, vertex_area(limits), MARK, x.0, 1);
 }
 
 // Raises the depths of the vertices written down as changed.

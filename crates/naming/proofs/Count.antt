@@ -1,13 +1,14 @@
 -- Laws of counting the numbers below n that pass a test, and of sums over them.
-use mathlib.Core.Bool.{Bool, true, false, cond}
+use mathlib.Core.Bool.{Bool, true, false, cond, _&&_, _||_, and-false}
 use mathlib.Core.Logic.{_⊎_, inl, inr}
-use mathlib.Core.Path.{_≡_, refl, _∙_}
+use mathlib.Core.Path.{_≡_, refl, sym, _∙_, ap}
 use Prim.Native.Nat.{ℕ, zero, suc, _+_, _*_, _≤_, _<_}
 use native.Mathlib.Nat.{not-suc-le-zero, le-refl}
 use native.Mathlib.Omega.{arith}
-use Rattle.graph.specs.Below.{count}
-use Rattle.graph.proofs.Truth.{not-both}
-use Rattle.graph.proofs.Below.{below-or-last}
+use lib.Dec.{eqb, ltb}
+use Rattle.graph.specs.Below.{anyBelow, count}
+use Rattle.graph.proofs.Truth.{true-or-false, false-of-not, not-both, bool-ext, and-both, or-left, eqb-eq, eqb-same, ne-eqb, ltb-lt, lt-ltb}
+use Rattle.graph.proofs.Below.{below-or-last, any-below, some-below, count-same}
 use Rattle.naming.specs.Total.{total}
 
 -- at most n numbers below n pass
@@ -107,6 +108,78 @@ count-last-in n p e = rw e
 pub count-none : (n : ℕ) (p : ℕ → Bool) → ((i : ℕ) → i < n → p i ≡ false) → count n p ≡ 0
 count-none zero p f = count-zero p
 count-none (suc n) p f = count-last-out n p (f n (omega arith)) ∙ count-none n p (λ i h. f i (omega arith))
+
+-- where a test passes the numbers of another and one more, it counts one more
+count-one-more : (n : ℕ) (p q : ℕ → Bool) (i : ℕ) → i < n → p i ≡ false → q i ≡ true
+    → ((j : ℕ) → j < n → (j ≡ i → ⊥) → p j ≡ q j)
+    → count n q ≡ suc (count n p)
+unfolding count
+count-one-more zero p q i h fails passes others = absurd (not-suc-le-zero h)
+count-one-more (suc n) p q i h fails passes others =
+    go (λ l. count-one-more n p q i l fails passes (λ j k d. others j (omega arith) d)) (below-or-last n i h)
+  where
+    step : (a : Bool) {c d : ℕ} → d ≡ suc c → cond a (suc d) d ≡ suc (cond a (suc c) c)
+    step true e = ap suc e
+    step false e = e
+
+    go : (i < n → count n q ≡ suc (count n p)) → (i < n) ⊎ (i ≡ n)
+        → cond (q n) (suc (count n q)) (count n q) ≡ suc (cond (p n) (suc (count n p)) (count n p))
+    go f (inl l) = rw (sym (others n (omega arith) (λ e. omega arith))) (step (p n) (f l))
+    go f (inr d) =
+        rw
+        (rw d at passes, rw d at fails)
+        (ap suc (sym (count-same n p q (λ j k. others j (omega arith) (λ e. omega arith)))))
+
+-- where number x passes a test besides, one more of some numbers passes it if x is one of them, and else as many
+pub count-with : (n : ℕ) (p test : ℕ → Bool) (x : ℕ) → x < n → test x ≡ false
+    → count n (λ y. p y && (eqb y x || test y)) ≡ cond (p x) (suc (count n (λ y. p y && test y))) (count n (λ y. p y && test y))
+count-with n p test x h fails = go (true-or-false (p x))
+  where
+    others : (y : ℕ) → (y ≡ x → ⊥) → (p y && test y) ≡ (p y && (eqb y x || test y))
+    others y d = rw (ne-eqb y x d)
+
+    without : p x ≡ false → (y : ℕ) → (eqb y x ≡ true) ⊎ (eqb y x ≡ false) → (p y && (eqb y x || test y)) ≡ (p y && test y)
+    without out y (inl e) = rw (eqb-eq y x e, out)
+    without out y (inr e) = rw e
+
+    go : (p x ≡ true) ⊎ (p x ≡ false)
+        → count n (λ y. p y && (eqb y x || test y)) ≡ cond (p x) (suc (count n (λ y. p y && test y))) (count n (λ y. p y && test y))
+    go (inl one) =
+        rw one (count-one-more n _ _ x h (rw fails (and-false (p x))) (and-both one (or-left (eqb-same x) (test x))) (λ y k d. others y d))
+    go (inr out) = rw out (count-same n _ _ (λ y k. without out y (true-or-false (eqb y x))))
+
+-- some number passes exactly if the count is not 0
+pub some-counted : (n : ℕ) (p : ℕ → Bool) → anyBelow n p ≡ ltb 0 (count n p)
+some-counted n p =
+    bool-ext
+    (anyBelow n p)
+    (ltb 0 (count n p))
+    (λ e. let b = some-below n p e in lt-ltb 0 (count n p) (count-positive n p (b .at) (b .below) (b .passes)))
+    (λ e. go (true-or-false (anyBelow n p)) (ltb-lt 0 (count n p) e))
+  where
+    none-passes : anyBelow n p ≡ false → (i : ℕ) → i < n → p i ≡ false
+    none-passes e i h = false-of-not (p i) (λ d. not-both (any-below n p i h d) e)
+
+    go : (anyBelow n p ≡ true) ⊎ (anyBelow n p ≡ false) → 0 < count n p → anyBelow n p ≡ true
+    go (inl e) h = e
+    go (inr e) h = absurd (omega (arith, count-none n p (none-passes e)))
+
+-- where a number passes a test exactly if it passes one of two others, which never both pass, their counts add up to its count
+pub count-parts : (n : ℕ) (p q r : ℕ → Bool)
+    → ((i : ℕ) → r i ≡ (p i || q i))
+    → ((i : ℕ) → p i ≡ true → q i ≡ true → ⊥)
+    → count n r ≡ count n p + count n q
+unfolding count
+count-parts zero p q r f apart = refl
+count-parts (suc n) p q r f apart =
+    rw (f n) (step (p n) (q n) (apart n) (count n p) (count n q) (count n r) (count-parts n p q r f apart))
+  where
+    step : (a b : Bool) → (a ≡ true → b ≡ true → ⊥) → (c d e : ℕ) → e ≡ c + d
+        → cond (a || b) (suc e) e ≡ cond a (suc c) c + cond b (suc d) d
+    step true true w c d e h = absurd (w refl refl)
+    step true false w c d e h = omega arith
+    step false true w c d e h = omega arith
+    step false false w c d e h = h
 
 -- a sum of n numbers, each at most b, is at most n times b
 pub total-at-most : (n b : ℕ) (f : ℕ → ℕ) → ((i : ℕ) → i < n → f i ≤ b) → total n f ≤ n * b

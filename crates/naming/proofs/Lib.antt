@@ -11,4 +11,5 @@ pub mod Doubling
 pub mod Advance
 pub mod Log
 pub mod Bound
+pub mod GroupSum
 pub mod Book

@@ -123,13 +123,37 @@ fn say_group(label: &[u8], t: &[u32], shape: Shape, groups: VertexGroups, x: Ver
     say(b" of ", g.size);
 }
 
-// Prints the names of a vertex, and the sizes of its groups.
+// Marks a vertex, where it is not marked.
+fn mark_one(t: &mut [u32], shape: Shape, x: Vertex)
+    requires { ⌜ Holds shape (now t) × (x .0 < shape .vertices) ⌝ }
+    ensures { λ r. ⌜ Holds shape (now (t .exit)) ⌝ }
+{
+    if forest::is_marked(t, shape, x) {
+        return;
+    }
+    forest::mark(t, shape, x);
+}
+
+// Marks the first vertex and the last, where there are any.
+fn mark_ends(t: &mut [u32], shape: Shape)
+    requires { ⌜ Holds shape (now t) ⌝ }
+    ensures { λ r. ⌜ Holds shape (now (t .exit)) ⌝ }
+{
+    if shape.vertices == 0 {
+        return;
+    }
+    mark_one(t, shape, Vertex(0));
+    mark_one(t, shape, Vertex(shape.vertices - 1));
+}
+
+// Prints the names of a vertex, the sizes of its groups, and how many vertices of its bridge-block are marked.
 fn say_vertex(t: &[u32], shape: Shape, x: Vertex)
     requires { ⌜ Holds shape (now t) × (x .0 < shape .vertices) ⌝ }
 {
     say(b"vertex ", x.0);
     say_group(b": component ", t, shape, VertexGroups::Components, x);
     say_group(b", bridge-block ", t, shape, VertexGroups::BridgeBlocks, x);
+    say(b", marked ", forest::marks_with(t, shape, x));
     io::write_all(1, b"\n");
 }
 
@@ -210,8 +234,8 @@ fn tell(t: &mut [u32], shape: Shape)
     say_between(t, shape, Vertex(0), Vertex(last));
 }
 
-// A network of as many vertices as there is room for, and the edges with these ends: makes it in a table, where a table of 256 words is
-// enough, and prints what it tells.
+// A network of as many vertices as there is room for, the first and the last of them marked, and the edges with these ends: makes it in a
+// table, where a table of 256 words is enough, and prints what it tells.
 fn show(title: &[u8], vertices: u16, edges: u16, ends: &[u32]) {
     let limits = Limits {
         vertices: vertices,
@@ -225,6 +249,7 @@ fn show(title: &[u8], vertices: u16, edges: u16, ends: &[u32]) {
     io::write_all(1, title);
     let empty = forest::begin(t, limits);
     let apart = fill(t, empty);
+    mark_ends(t, apart);
     let whole = grow_all(t, apart, ends);
     tell(t, whole);
 }

@@ -1,7 +1,7 @@
 -- What is read of a command by its byte: the bytes of commands with one operand and with two, and where the operands stand.
 use mathlib.Core.Bool.{true, false, _&&_, and-false}
 use mathlib.Core.List.{List}
-use mathlib.Core.Logic.{_⊎_, inl, inr, ⊎-elim}
+use mathlib.Core.Logic.{_⊎_, inl, inr, ⊎-elim, _≢_}
 use mathlib.Core.Option.{none, some}
 use mathlib.Core.Path.{_≡_, refl, ap, ap₂, _∙_}
 use Prim.Native.Nat.{ℕ, _+_, _*_, _≤_, _<_}
@@ -10,12 +10,12 @@ use lib.Dec.{eqb, leb}
 use lib.ListN.{length, getD, drop}
 use lib.Seq.{getD-drop}
 use Rattle.commands.specs.Bytes.{number}
-use Rattle.graph.proofs.Truth.{true-or-false, eqb-eq}
+use Rattle.graph.proofs.Truth.{true-or-false, eqb-eq, eq-eqb, ne-eqb}
 use Rattle.commands.specs.Command.{Command, Form, unknown, takes, forms, form, operand, Reading, unknownByte, cutOff, command, readForm, readCommand}
 use Rattle.commands.proofs.Cases.{le-or-gt, gt-leb, impossible}
 use Rattle.commands.proofs.ByPlace.{each-at, _also_}
 use Rattle.commands.proofs.Reading.{widthOf, long-enough, too-short, cut-off, unknown-byte, unknown-exactly, known-bytes}
-use Rattle.reading.specs.Inside.Reads.{OneOperand, TwoOperands, made, formWidth, widths, noCommand, cutShort, whole, passOver}
+use Rattle.reading.specs.Inside.Reads.{OneOperand, TwoOperands, made, formWidth, widths, entryWidth, noCommand, cutShort, whole, passOver}
 
 -- a number in a pair of numbers or in three, one after another
 pub one-of-two : (low n : ℕ) → low ≤ n → n < low + 2 → (n ≡ low) ⊎ (n ≡ low + 1)
@@ -33,7 +33,9 @@ pub width-one : (byte : ℕ) → OneOperand byte → widthOf (form byte) ≡ 2 *
 unfolding forms form widthOf
 width-one byte (inl e) = rw e refl
 width-one byte (inr (inl e)) = rw e refl
-width-one byte (inr (inr e)) = rw e refl
+width-one byte (inr (inr (inl e))) = rw e refl
+width-one byte (inr (inr (inr (inl e)))) = rw e refl
+width-one byte (inr (inr (inr (inr e)))) = rw e refl
 
 pub width-two : (byte : ℕ) → TwoOperands byte → widthOf (form byte) ≡ 2 * 2
 unfolding forms form widthOf
@@ -68,13 +70,14 @@ module _ (byte : ℕ) (bytes : List ℕ) where
               impossible (cc)
 
   -- a byte that is no command's
-  pub read-unknown : (byte < 1) ⊎ (8 < byte) → readCommand byte bytes ≡ unknownByte
+  pub read-unknown : (byte < 1) ⊎ (10 < byte) → byte ≢ 15 → readCommand byte bytes ≡ unknownByte
   unfolding readCommand
-  read-unknown k = unknown-byte (form byte) bytes .1 (unknown-exactly byte .1 (known-bytes byte ∙ outside k))
+  read-unknown k other =
+      unknown-byte (form byte) bytes .1 (unknown-exactly byte .1 (known-bytes byte ∙ rw (outside k) (ne-eqb byte 15 other)))
     where
-      outside : (byte < 1) ⊎ (8 < byte) → (leb 1 byte && leb byte 8) ≡ false
+      outside : (byte < 1) ⊎ (10 < byte) → (leb 1 byte && leb byte 10) ≡ false
       outside (inl h) = rw (gt-leb 1 byte h)
-      outside (inr h) = rw (gt-leb byte 8 h) (and-false (leb 1 byte))
+      outside (inr h) = rw (gt-leb byte 10 h) (and-false (leb 1 byte))
 
 -- an operand of the bytes from a place on
 pub operand-at : (journal : List ℕ) (from k place : ℕ) → place ≡ from + 2 * k
@@ -109,25 +112,50 @@ module _ (byte : ℕ) (bytes : List ℕ) (width : ℕ) (wide : formWidth (form b
           let same : 2 * n ≡ width = cc in
           rw (too-short n make bytes (omega arith))
 
--- the table of widths has that of each command byte
-pub widths-are : (byte : ℕ) → 1 ≤ byte → byte ≤ 8 → formWidth (form byte) ≡ some (getD widths byte 0)
-unfolding form forms formWidth
+-- a byte that is no command's is found so
+pub passed-unknown : (byte : ℕ) (bytes : List ℕ) → formWidth (form byte) ≡ none → passOver byte (readCommand byte bytes) ≡ noCommand
+unfolding readCommand formWidth passOver
+passed-unknown byte bytes = go (form byte)
+  where
+    go : (f : Form) → formWidth f ≡ none → passOver byte (readForm f bytes) ≡ noCommand
+    go unknown e = unfold readForm in refl
+    go (takes n make) e = impossible (cc)
+
+-- an entry of the table of widths tells that the byte is no command's, or a width
+pub entry-none : (entry : ℕ) → entry ≡ 255 → entryWidth entry ≡ none
+unfolding entryWidth
+entry-none entry e = rw (eq-eqb entry 255 e)
+
+pub entry-some : (entry : ℕ) → entry ≢ 255 → entryWidth entry ≡ some entry
+unfolding entryWidth
+entry-some entry d = rw (ne-eqb entry 255 d)
+
+-- the table has an entry for each byte up to 0F
+pub widths-are : (byte : ℕ) → byte ≤ 15 → formWidth (form byte) ≡ entryWidth (getD widths byte 0)
+unfolding form forms formWidth entryWidth
 widths-are =
     each-at
-    (λ byte f. 1 ≤ byte → byte ≤ 8 → formWidth f ≡ some (getD widths byte 0))
+    (λ byte f. byte ≤ 15 → formWidth f ≡ entryWidth (getD widths byte 0))
     forms
     unknown
-    ((λ l h. absurd (omega arith))
-    also (λ l h. refl)
-    also (λ l h. refl)
-    also (λ l h. refl)
-    also (λ l h. refl)
-    also (λ l h. refl)
-    also (λ l h. refl)
-    also (λ l h. refl)
-    also (λ l h. refl)
+    ((λ h. refl)
+    also (λ h. refl)
+    also (λ h. refl)
+    also (λ h. refl)
+    also (λ h. refl)
+    also (λ h. refl)
+    also (λ h. refl)
+    also (λ h. refl)
+    also (λ h. refl)
+    also (λ h. refl)
+    also (λ h. refl)
+    also (λ h. refl)
+    also (λ h. refl)
+    also (λ h. refl)
+    also (λ h. refl)
+    also (λ h. refl)
     also tt)
-    (λ byte k l h. absurd (omega arith))
+    (λ byte k h. absurd (omega arith))
 
 -- a command whose operands were passed over: it was read, and has the byte
 pub record CommandPassed (byte : ℕ) (reading : Reading) (passed width : ℕ) : Type 0 where

@@ -5,8 +5,7 @@ ghost use lib.ListN.{length, getD, drop};
 ghost use Rattle.commands.specs.Bytes.{number};
 ghost use Rattle.commands.specs.Command.{readCommand};
 ghost use Rattle.commands.specs.Command.{form};
-ghost use Rattle.reading.specs.Inside.Reads.{meaning, readingOf, OneOperand, TwoOperands, MadeOfOne, MadeOfTwo, formWidth, passingOf, passOver};
-ghost use mathlib.Core.Option.{some};
+ghost use Rattle.reading.specs.Inside.Reads.{meaning, readingOf, OneOperand, TwoOperands, MadeOfOne, MadeOfTwo, formWidth, entryWidth, passingOf, passOver};
 use numbers::Edge;
 use numbers::Vertex;
 
@@ -20,6 +19,9 @@ pub enum Order {
     SoleSpans(Vertex, Vertex),
     CutCabinets(Vertex, Vertex),
     IsSole(Edge),
+    MarkExchange(Vertex),
+    HoldsExchange(Vertex),
+    ExchangeShare,
 }
 
 // What stands at a place of the journal: an unknown byte, a command whose operands are cut off by the journal's end, or a command with the
@@ -38,7 +40,7 @@ fn operand(journal: &[u8], from: usize) -> u32
     (journal[from] as u32) * 256 + (journal[from + 1] as u32)
 }
 
-// The command of 03, 04 or 08.
+// The command of 03, 04, 08, 09 or 0A.
 fn one_operand(byte: u8, x: u32) -> Order
     requires { ⌜ OneOperand byte ⌝ }
     ensures { λ r. ⌜ MadeOfOne byte x (meaning r) ⌝ }
@@ -46,7 +48,9 @@ fn one_operand(byte: u8, x: u32) -> Order
     match byte {
         3 => Order::DistrictName(Vertex(x)),
         4 => Order::RingName(Vertex(x)),
-        _ => Order::IsSole(Edge(x)),
+        8 => Order::IsSole(Edge(x)),
+        9 => Order::MarkExchange(Vertex(x)),
+        _ => Order::HoldsExchange(Vertex(x)),
     }
 }
 
@@ -63,7 +67,7 @@ fn two_operands(byte: u8, x: u32, y: u32) -> Order
     }
 }
 
-// The command of 03, 04 or 08 whose operand stands from a place on.
+// The command of 03, 04, 08, 09 or 0A whose operand stands from a place on.
 fn take_one(journal: &[u8], byte: u8, from: usize) -> Taken
     requires { ⌜ OneOperand byte × (from ≤ length (now journal)) ⌝ }
     ensures { λ r. ⌜ readingOf r ≡ readCommand byte (drop from (now (journal .entry))) ⌝ }
@@ -97,7 +101,8 @@ pub(crate) fn take_at(journal: &[u8], at: usize) -> Taken
     match byte {
         1 => Taken::Command(Order::AddCabinet, 0),
         2 | 5..=7 => take_two(journal, byte, at + 1),
-        3..=4 | 8 => take_one(journal, byte, at + 1),
+        3..=4 | 8..=10 => take_one(journal, byte, at + 1),
+        15 => Taken::Command(Order::ExchangeShare, 0),
         _ => Taken::Unknown,
     }
 }
@@ -110,14 +115,21 @@ pub enum Passed {
     Command(u8, usize),
 }
 
-// The number of the operands' bytes, by the command byte.
-const WIDTHS: [usize; 9] = [0, 0, 4, 2, 2, 4, 4, 4, 2];
+// The entry of a byte that is no command's.
+const NONE: u8 = 255;
 
-// A command with so many bytes of operands, from a place on.
-fn pass_over(journal: &[u8], byte: u8, from: usize, width: usize) -> Passed
-    requires { ⌜ (formWidth (form byte) ≡ some width) × (from ≤ length (now journal)) ⌝ }
+// The number of the operands' bytes, by the command byte, or NONE.
+const WIDTHS: [u8; 16] = [255, 0, 4, 2, 2, 4, 4, 4, 2, 2, 2, 255, 255, 255, 255, 0];
+
+// What a byte is, by its entry in the table; if a command's, its operands stand from a place on.
+fn pass_over(journal: &[u8], byte: u8, from: usize, entry: u8) -> Passed
+    requires { ⌜ (formWidth (form byte) ≡ entryWidth entry) × (from ≤ length (now journal)) ⌝ }
     ensures { λ r. ⌜ passingOf r ≡ passOver byte (readCommand byte (drop from (now (journal .entry)))) ⌝ }
 {
+    if entry == NONE {
+        return Passed::Unknown;
+    }
+    let width = entry as usize;
     if journal.len() - from < width {
         return Passed::CutOff;
     }
@@ -133,7 +145,7 @@ pub(crate) fn pass_at(journal: &[u8], at: usize) -> Passed
     match byte {
         1 => Passed::Command(byte, 0),
         2 => pass_over(journal, byte, at + 1, 4),
-        3..=8 => {
+        3..=15 => {
             let i = byte as usize;
             pass_over(journal, byte, at + 1, WIDTHS[i])
         }

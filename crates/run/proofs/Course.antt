@@ -8,7 +8,7 @@ use native.Mathlib.Omega.{arith}
 use lib.ListN.{length, take, drop, length-append, length-drop, take-append-drop, drop-of-length-le}
 use lib.Seq.{drop-drop, take-all, length-take-le, take-append-seam, drop-append-seam}
 use Rattle.naming.specs.Book.{feedAll}
-use Rattle.naming.specs.State.{afterAddition}
+use Rattle.naming.specs.State.{afterAddition, afterRecording}
 use Rattle.commands.specs.Refusal.{Refusal}
 use Rattle.commands.specs.Answer.{answerBytes}
 use Rattle.commands.specs.Facts.{after}
@@ -74,7 +74,7 @@ pub goes-further : (p p′ : Progress) (old new answers : List ℕ) (a : Accepte
     → p′ .place ≡ p .place + 1 + a .width → p′ .commands ≡ p .commands + 1 → p′ .written ≡ p .written + length (answerBytes (a .answer))
     → stateOf (p′ .shape) new ≡ after (stateOf (p .shape) old) (a .command) → p .written ≤ length answers
     → leavesAfter p′ new (writtenBehind (p .written) (answerBytes (a .answer)) answers) rest ≡ leavesAfter p old answers (andThen a rest)
-unfolding leavesAfter andThen placeAfter bytesOfAnswers commandsOf feedAll after afterAddition
+unfolding leavesAfter andThen placeAfter bytesOfAnswers commandsOf feedAll after afterAddition afterRecording
 goes-further p p′ old new answers a rest place commands written state fits =
     let bytes = answerBytes (a .answer) in
     let later = rest .accepted in

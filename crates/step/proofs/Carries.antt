@@ -11,20 +11,21 @@ use Rattle.graph.specs.Groups.{bridge}
 use Rattle.graph.specs.Block.{sharedBlock}
 use Rattle.graph.specs.Between.{bridgesBetween, cutsBetween}
 use Rattle.naming.specs.Rename.{Change, nameOf, changesBetween}
-use Rattle.naming.specs.Book.{Book, feed}
-use Rattle.naming.specs.State.{State, afterAddition}
+use Rattle.naming.specs.Book.{Book, neither, feed}
+use Rattle.naming.specs.State.{State, afterAddition, recordsNothing, marksAfter, afterRecording}
 use Rattle.naming.proofs.Listed.{map-tabulate}
 use Rattle.commands.specs.Field.{Kind, district, ring, mesh}
-use Rattle.commands.specs.Command.{Command, addCabinet, addSpan, districtName, ringName, sharedMesh, soleSpans, cutCabinets, isSole}
-use Rattle.commands.specs.Answer.{changeNotice, changes, notices, plain, soleIs}
-use Rattle.commands.specs.Facts.{asks, meshAnswer, facts, additionOf, addition, after, spanAnswer, answerTo, answer}
+use Rattle.commands.specs.Command.{Command, addCabinet, addSpan, districtName, ringName, sharedMesh, soleSpans, cutCabinets, isSole, markExchange, holdsExchange, exchangeShare}
+use Rattle.commands.specs.Answer.{changeNotice, changes, notices, plain, soleIs, exchangeHeld, shareIs}
+use Rattle.commands.specs.Exchange.{ringHoldsExchange, shareWithExchange}
+use Rattle.commands.specs.Facts.{asks, meshAnswer, facts, additionOf, addition, recordingOf, recording, after, spanAnswer, answerTo, answer}
 use Rattle.numbers.specs.declared.Vertex.{Vertex}
 use Rattle.forest.specs.declared.Growth.{Growth}
 use Rattle.forest.specs.declared.Shape.{Shape}
 use Rattle.forest.specs.declared.Shared.{Shared}
 use Rattle.forest.specs.declared.VertexGroups.{VertexGroups}
 use Rattle.forest.specs.declared.VertexGroups.the-variants as G
-use Rattle.forest.specs.Promise.{Holds, stateOf, bookIn, networkIn, vertices-held, edges-held, few-vertices, few-edges, same-beyond-refl, oneEdgeMore, VertexAdded, EdgeAdded, ListWritten, vertexNames, sharedName}
+use Rattle.forest.specs.Promise.{Holds, stateOf, bookIn, networkIn, vertices-held, edges-held, few-vertices, few-edges, same-beyond-refl, oneEdgeMore, VertexAdded, EdgeAdded, VertexMarked, ListWritten, vertexNames, sharedName}
 use Rattle.step.specs.declared.Listed.{Listed}
 use Rattle.step.specs.declared.Listed.the-variants as L
 use Rattle.step.specs.declared.Finding.{Finding}
@@ -36,7 +37,7 @@ use Rattle.step.specs.Inside.Asked.{asksName}
 -- a cabinet more
 pub cabinet-carried : (shape : Shape) (old new : List ℕ) → VertexAdded shape old new
     → Carried shape addCabinet old new (R.Cabinet (record { 0 = shape .vertices }))
-unfolding after addition additionOf facts replyAnswer shapeAfter answer answerTo
+unfolding after afterAddition afterRecording marksAfter addition additionOf recording recordingOf facts replyAnswer shapeAfter answer answerTo
 cabinet-carried shape old new a =
     record {
       holds = a .holds;
@@ -46,9 +47,14 @@ cabinet-carried shape old new a =
       same-beyond = a .same-beyond;
     }
 
--- A command that leaves the state as it is.
-module _ (shape : Shape) (c : Command) (leaves : (s : State) → after s c ≡ s) where
-  -- with a table that is not touched
+-- A question: a command that adds nothing and records nothing.
+module _ (shape : Shape) (c : Command) (adds-nothing : addition c ≡ neither) (records-nothing : recording c ≡ recordsNothing) where
+  -- it leaves the state as it is
+  leaves : (s : State) → after s c ≡ s
+  unfolding after afterAddition afterRecording marksAfter feed
+  leaves s = rw (adds-nothing, records-nothing)
+
+  -- so it is carried out with a table that is not touched
   pub question-carried : (t : List ℕ) (finding : Finding) → Holds shape t → plain (findingAnswer shape t finding) ≡ answer (stateOf shape t) c
       → Carried shape c t t (R.Found finding)
   unfolding replyAnswer shapeAfter
@@ -61,7 +67,7 @@ module _ (shape : Shape) (c : Command) (leaves : (s : State) → after s c ≡ s
         same-beyond = same-beyond-refl (shape .limits) t;
       }
 
-  -- with a list written down in it
+  -- and with a list written down in it
   pub list-carried : (old new : List ℕ) (kind : Listed) (count : ℕ) (list : List ℕ)
       → ListWritten shape old new (itemAt kind shape new) count list → plain (listAnswer kind list) ≡ answer (stateOf shape old) c
       → Carried shape c old new (R.Found (F.List kind count))
@@ -79,11 +85,11 @@ module _ (shape : Shape) (c : Command) (leaves : (s : State) → after s c ≡ s
 pub name-carried : (shape : Shape) (groups : VertexGroups) (a : ℕ) (t : List ℕ) (name : Vertex) → Holds shape t
     → name .0 ≡ nameOf (vertexNames groups (bookIn shape t)) a
     → Carried shape (asksName groups a) t t (R.Found (F.Name groups name))
-unfolding asksName after afterAddition feed addition additionOf facts asks findingAnswer nameAnswer answer answerTo
+unfolding asksName addition additionOf recording recordingOf facts asks findingAnswer nameAnswer answer answerTo
 name-carried shape G.Components a t name holds e =
-    question-carried shape (districtName a) (λ s. refl) t (F.Name G.Components name) holds (ap (λ n. plain (nameAnswer G.Components n)) e)
+    question-carried shape (districtName a) refl refl t (F.Name G.Components name) holds (ap (λ n. plain (nameAnswer G.Components n)) e)
 name-carried shape G.BridgeBlocks a t name holds e =
-    question-carried shape (ringName a) (λ s. refl) t (F.Name G.BridgeBlocks name) holds (ap (λ n. plain (nameAnswer G.BridgeBlocks n)) e)
+    question-carried shape (ringName a) refl refl t (F.Name G.BridgeBlocks name) holds (ap (λ n. plain (nameAnswer G.BridgeBlocks n)) e)
 
 mesh-answer : (b : Book) (o : Option ℕ) → sharedAnswer (sharedName (b .blocks) o) ≡ meshAnswer b o
 unfolding sharedAnswer meshAnswer
@@ -94,31 +100,52 @@ mesh-answer b (some s) = refl
 pub shared-carried : (shape : Shape) (a b : ℕ) (t : List ℕ) (shared : Shared) → Holds shape t
     → shared ≡ sharedName (bookIn shape t .blocks) (sharedBlock (networkIn shape t) a b)
     → Carried shape (sharedMesh a b) t t (R.Found (F.Mesh shared))
-unfolding after afterAddition feed addition additionOf facts asks findingAnswer answer answerTo
+unfolding addition additionOf recording recordingOf facts asks findingAnswer answer answerTo
 shared-carried shape a b t shared holds e =
-    question-carried shape (sharedMesh a b) (λ s. refl) t (F.Mesh shared) holds
+    question-carried shape (sharedMesh a b) refl refl t (F.Mesh shared) holds
     (ap (λ (x : Shared). plain (sharedAnswer x)) e ∙ ap plain (mesh-answer (bookIn shape t) (sharedBlock (networkIn shape t) a b)))
 
 -- 06: the sole spans between two cabinets
 pub sole-spans-carried : (shape : Shape) (a b : ℕ) (old new : List ℕ) (count : ℕ)
     → ListWritten shape old new (itemAt L.Spans shape new) count (bridgesBetween (networkIn shape old) a b)
     → Carried shape (soleSpans a b) old new (R.Found (F.List L.Spans count))
-unfolding after afterAddition feed addition additionOf facts asks listAnswer answer answerTo
-sole-spans-carried shape a b old new count w = list-carried shape (soleSpans a b) (λ s. refl) old new L.Spans count _ w refl
+unfolding addition additionOf recording recordingOf facts asks listAnswer answer answerTo
+sole-spans-carried shape a b old new count w = list-carried shape (soleSpans a b) refl refl old new L.Spans count _ w refl
 
 -- 07: the cut cabinets between them
 pub cut-cabinets-carried : (shape : Shape) (a b : ℕ) (old new : List ℕ) (count : ℕ)
     → ListWritten shape old new (itemAt L.Cabinets shape new) count (cutsBetween (networkIn shape old) a b)
     → Carried shape (cutCabinets a b) old new (R.Found (F.List L.Cabinets count))
-unfolding after afterAddition feed addition additionOf facts asks listAnswer answer answerTo
-cut-cabinets-carried shape a b old new count w = list-carried shape (cutCabinets a b) (λ s. refl) old new L.Cabinets count _ w refl
+unfolding addition additionOf recording recordingOf facts asks listAnswer answer answerTo
+cut-cabinets-carried shape a b old new count w = list-carried shape (cutCabinets a b) refl refl old new L.Cabinets count _ w refl
 
 -- 08: whether the span is sole
 pub sole-carried : (shape : Shape) (s : ℕ) (t : List ℕ) (sole : Bool) → Holds shape t → sole ≡ bridge (networkIn shape t) s
     → Carried shape (isSole s) t t (R.Found (F.Sole sole))
-unfolding after afterAddition feed addition additionOf facts asks findingAnswer answer answerTo
+unfolding addition additionOf recording recordingOf facts asks findingAnswer answer answerTo
 sole-carried shape s t sole holds e =
-    question-carried shape (isSole s) (λ s. refl) t (F.Sole sole) holds (ap (λ x. plain (soleIs x)) e)
+    question-carried shape (isSole s) refl refl t (F.Sole sole) holds (ap (λ x. plain (soleIs x)) e)
+
+-- 09: the cabinet is marked
+pub mark-carried : (shape : Shape) (a : ℕ) (old new : List ℕ) → VertexMarked shape a old new
+    → Carried shape (markExchange a) old new (R.Found F.Marked)
+unfolding after afterAddition feed addition additionOf recording recordingOf facts findingAnswer replyAnswer shapeAfter answer answerTo
+mark-carried shape a old new m =
+    record { holds = m .holds; state-is = m .state-is; answer-is = refl; fits = tt; same-beyond = m .same-beyond }
+
+-- 0A: whether the cabinet's ring holds an exchange
+pub held-carried : (shape : Shape) (a : ℕ) (t : List ℕ) (held : Bool) → Holds shape t → held ≡ ringHoldsExchange (stateOf shape t) a
+    → Carried shape (holdsExchange a) t t (R.Found (F.Held held))
+unfolding addition additionOf recording recordingOf facts asks findingAnswer answer answerTo
+held-carried shape a t held holds e =
+    question-carried shape (holdsExchange a) refl refl t (F.Held held) holds (ap (λ x. plain (exchangeHeld x)) e)
+
+-- 0F: the share of the cabinets whose ring holds one
+pub share-carried : (shape : Shape) (t : List ℕ) (share : ℕ) → Holds shape t → share ≡ shareWithExchange (stateOf shape t)
+    → Carried shape exchangeShare t t (R.Found (F.Share share))
+unfolding addition additionOf recording recordingOf facts asks findingAnswer answer answerTo
+share-carried shape t share holds e =
+    question-carried shape exchangeShare refl refl t (F.Share share) holds (ap (λ x. plain (shareIs x)) e)
 
 -- changes that the table has written down, as notices of a kind, are the paper's changes of that kind
 kind-notices : (kind : Kind) (at : ℕ → Change) (k : ℕ) (old new : List ℕ) → tabulate k at ≡ changesBetween old new
@@ -158,7 +185,7 @@ module _ (shape : Shape) (a b : ℕ) (old new : List ℕ) (growth : Growth) (add
 
   pub span-carried : Holds shape old
       → Carried shape (addSpan a b) old new (R.Span (record { 0 = shape .edges }) growth)
-  unfolding after addition additionOf facts answer answerTo edgeBetween afterAddition shapeAfter
+  unfolding after afterAddition afterRecording marksAfter addition additionOf recording recordingOf facts answer answerTo edgeBetween shapeAfter
   span-carried holds =
       record {
         holds = added .holds;

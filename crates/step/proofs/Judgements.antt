@@ -11,7 +11,7 @@ use Rattle.graph.specs.Network.{edgeBetween}
 use Rattle.graph.specs.Groups.{component}
 use Rattle.graph.proofs.Truth.{true-or-false, eqb-eq, eqb-same, eq-eqb, ne-eqb, ltb-lt, not-both}
 use Rattle.commands.specs.Facts.{asks, facts, operandsOf, demandsOf, additionOf, addition}
-use Rattle.commands.specs.Refusal.{refusalNumber, unknownCabinet, unknownSpan, equalCabinets, full, twoDistricts, Refusal, Line, firstThatApplies, cabinetKnown, spanKnown, cabinetsKnown, spansKnown, met, cause, meets, fullFor, isFull, lines, refusalOf}
+use Rattle.commands.specs.Refusal.{refusalNumber, unknownCabinet, unknownSpan, equalCabinets, full, twoDistricts, alreadyExchange, Refusal, Line, firstThatApplies, cabinetKnown, spanKnown, cabinetsKnown, spansKnown, met, cause, meets, fullFor, isFull, lines, refusalOf}
 use Rattle.commands.specs.Entry.{numberOf}
 use Rattle.commands.proofs.Cases.{leb-gt}
 use Rattle.forest.specs.declared.Shape.{Shape}
@@ -20,7 +20,7 @@ use Rattle.reading.specs.declared.read.Order.{Order}
 use Rattle.reading.specs.declared.read.Order.the-variants as O
 use Rattle.reading.specs.Inside.Reads.{meaning}
 use Rattle.step.specs.Promise.{capacitiesOf}
-use Rattle.step.specs.Inside.Judged.{firstOf, cabinetRefusal, spanRefusal, pairRefusal, differentRefusal, newCabinetRefusal, newSpanRefusal, districtRefusal, judgement}
+use Rattle.step.specs.Inside.Judged.{firstOf, cabinetRefusal, spanRefusal, pairRefusal, differentRefusal, exchangeRefusal, newCabinetRefusal, newSpanRefusal, districtRefusal, judgement}
 
 -- the number of the first line that applies; lines that never apply are passed over by computing
 abbrev table : List Line → ℕ
@@ -52,6 +52,13 @@ different-lines true false same = refl
 different-lines true true false = refl
 different-lines true true true = refl
 
+exchange-lines : (a marked : Bool) → firstOf (cond a 0 6) (cond marked 12 0)
+    ≡ table (line (not (a && true)) unknownCabinet ∷ line (not (not marked && true)) alreadyExchange ∷ [])
+unfolding firstOf numberOf firstThatApplies refusalNumber
+exchange-lines false marked = refl
+exchange-lines true false = refl
+exchange-lines true true = refl
+
 new-span-lines : (a b same isfull : Bool)
     → firstOf (firstOf (firstOf (cond a 0 6) (cond b 0 6)) (cond same 8 0)) (cond isfull 9 0)
     ≡ table (line (not (a && (b && true))) unknownCabinet ∷ line (not (not same && true)) equalCabinets ∷ line isfull full ∷ [])
@@ -73,7 +80,7 @@ district-lines true true false = refl
 -- the refusal of each command is the table's
 pub judged : (shape : Shape) (t : List ℕ) (order : Order)
     → judgement shape t order ≡ numberOf (refusalOf (capacitiesOf (shape .limits)) (stateOf shape t) (meaning order))
-unfolding judgement cabinetRefusal spanRefusal pairRefusal differentRefusal newCabinetRefusal newSpanRefusal districtRefusal meaning capacitiesOf refusalOf firstThatApplies lines cabinetsKnown spansKnown meets isFull fullFor addition additionOf facts asks operandsOf demandsOf edgeBetween allIn cabinetKnown spanKnown met cause refusalNumber
+unfolding judgement cabinetRefusal spanRefusal pairRefusal differentRefusal exchangeRefusal newCabinetRefusal newSpanRefusal districtRefusal meaning capacitiesOf refusalOf firstThatApplies lines cabinetsKnown spansKnown meets isFull fullFor addition additionOf facts asks operandsOf demandsOf edgeBetween allIn cabinetKnown spanKnown met cause refusalNumber numberOf
 judged shape t O.AddCabinet = rw (vertices-held shape t) (full-line (leb (shape .limits .vertices) (shape .vertices)))
 judged shape t (O.AddSpan a b) =
     rw (vertices-held shape t, edges-held shape t)
@@ -89,6 +96,10 @@ judged shape t (O.CutCabinets a b) =
     rw (vertices-held shape t)
     (district-lines (ltb (a .0) (shape .vertices)) (ltb (b .0) (shape .vertices)) (component (networkIn shape t) (a .0) (b .0)))
 judged shape t (O.IsSole s) = rw (edges-held shape t) (span-line (ltb (s .0) (shape .edges)))
+judged shape t (O.MarkExchange a) =
+    rw (vertices-held shape t) (exchange-lines (ltb (a .0) (shape .vertices)) (stateOf shape t .marked (a .0)))
+judged shape t (O.HoldsExchange a) = rw (vertices-held shape t) (cabinet-line (ltb (a .0) (shape .vertices)))
+judged shape t O.ExchangeShare = refl
 
 -- a test that refuses or passes has passed where it gives 0
 test-passed : (b : Bool) {number : ℕ} → (number ≡ 0 → ⊥) → cond b 0 number ≡ 0 → b ≡ true
@@ -125,6 +136,12 @@ module _ (shape : Shape) where
   pub cabinet-passes : (a : ℕ) → cabinetRefusal shape a ≡ 0 → a < shape .vertices
   unfolding cabinetRefusal
   cabinet-passes a e = ltb-lt a (shape .vertices) (test-passed (ltb a (shape .vertices)) (λ d. absurd (omega arith)) e)
+
+  pub exchange-passes : (t : List ℕ) (a : ℕ) → exchangeRefusal shape t a ≡ 0 → (a < shape .vertices) × (stateOf shape t .marked a ≡ false)
+  unfolding exchangeRefusal
+  exchange-passes t a e =
+      let both = neither-refuses (cabinetRefusal shape a) (cond (stateOf shape t .marked a) 12 0) e in
+      (cabinet-passes a (both .0), test-failed (stateOf shape t .marked a) (λ d. absurd (omega arith)) (both .1))
 
   pub span-passes : (s : ℕ) → spanRefusal shape s ≡ 0 → s < shape .edges
   unfolding spanRefusal

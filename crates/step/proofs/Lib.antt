@@ -1,4 +1,5 @@
 pub mod Judgements
 pub mod Carries
+pub mod Exchanges
 pub mod Steps
 pub mod Replies

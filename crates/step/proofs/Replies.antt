@@ -63,12 +63,15 @@ length-shared Q.Nothing = refl
 
 finding-counted : (shape : Shape) (t : List ℕ) (finding : Finding)
     → length (answerBytes (plain (findingAnswer shape t finding))) ≡ findingSize finding
-unfolding findingAnswer findingSize answerBytes answerFields plainFields fieldsBytes fieldBytes
+unfolding findingAnswer findingSize answerBytes answerFields plainFields fieldsBytes fieldBytes twoBytes
 finding-counted shape t (F.Name groups name) = length-name groups (name .0)
 finding-counted shape t (F.Mesh shared) = length-shared shared
 finding-counted shape t (F.List list count) =
     length-list list (tabulate count (itemAt list shape t)) ∙ ap (λ (n : ℕ). 3 + 2 * n) (length-tabulate count (itemAt list shape t))
 finding-counted shape t (F.Sole sole) = refl
+finding-counted shape t F.Marked = refl
+finding-counted shape t (F.Held held) = refl
+finding-counted shape t (F.Share share) = refl
 
 -- the answer that a reply is has as many bytes as are counted for it
 pub reply-counted : (shape : Shape) (t : List ℕ) (reply : Reply) → length (answerBytes (replyAnswer shape t reply)) ≡ replySize reply

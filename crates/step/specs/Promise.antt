@@ -6,7 +6,7 @@ use Prim.Native.Nat.{ℕ, _+_, _*_, _<_}
 use Rattle.graph.specs.Below.{tabulate}
 use Rattle.commands.specs.Field.{Kind, district, ring, mesh}
 use Rattle.commands.specs.Command.{Command}
-use Rattle.commands.specs.Answer.{Notice, changeNotice, Plain, districtNamed, ringNamed, meshShared, noMeshShared, soleSpansAre, cutCabinetsAre, soleIs, Answer, cabinetAdded, spanAdded, plain}
+use Rattle.commands.specs.Answer.{Notice, changeNotice, Plain, districtNamed, ringNamed, meshShared, noMeshShared, soleSpansAre, cutCabinetsAre, soleIs, exchangeMarked, exchangeHeld, shareIs, Answer, cabinetAdded, spanAdded, plain}
 use Rattle.commands.specs.Facts.{after, answer}
 use Rattle.commands.specs.Refusal.{Refusal, refusalNumber, Capacities, refusalOf}
 use Rattle.numbers.specs.declared.Limits.{Limits}
@@ -75,6 +75,9 @@ findingAnswer shape t (F.Name groups name) = nameAnswer groups (name .0)
 findingAnswer shape t (F.Mesh shared) = sharedAnswer shared
 findingAnswer shape t (F.List list count) = listAnswer list (tabulate count (itemAt list shape t))
 findingAnswer shape t (F.Sole sole) = soleIs sole
+findingAnswer shape t F.Marked = exchangeMarked
+findingAnswer shape t (F.Held held) = exchangeHeld held
+findingAnswer shape t (F.Share share) = shareIs share
 
 unfoldable pub replyAnswer : Shape → List ℕ → Reply → Answer
 replyAnswer shape t (R.Cabinet a) = cabinetAdded (a .0)
@@ -87,6 +90,9 @@ findingSize (F.Name groups name) = 3
 findingSize (F.Mesh shared) = 4
 findingSize (F.List list count) = 3 + 2 * count
 findingSize (F.Sole sole) = 2
+findingSize F.Marked = 1
+findingSize (F.Held held) = 2
+findingSize (F.Share share) = 3
 
 unfoldable pub replySize : Reply → ℕ
 replySize (R.Cabinet a) = 3

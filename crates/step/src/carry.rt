@@ -1,10 +1,10 @@
 // Carrying out a command that meets no refusal: what becomes of the table, and what is to be answered.
-ghost use mathlib.Core.Bool.{true};
+ghost use mathlib.Core.Bool.{true, false};
 ghost use mathlib.Core.Path.{_≡_};
 ghost use Prim.Native.Nat.{_<_};
 ghost use Rattle.graph.specs.Groups.{component};
-ghost use Rattle.commands.specs.Command.{addCabinet, addSpan, sharedMesh, soleSpans, cutCabinets, isSole};
-ghost use Rattle.forest.specs.Promise.{Holds, networkIn};
+ghost use Rattle.commands.specs.Command.{addCabinet, addSpan, sharedMesh, soleSpans, cutCabinets, isSole, markExchange, holdsExchange, exchangeShare};
+ghost use Rattle.forest.specs.Promise.{Holds, stateOf, networkIn};
 ghost use Rattle.reading.specs.Inside.Reads.{meaning};
 ghost use Rattle.step.specs.Inside.Judged.{judgement};
 ghost use Rattle.step.specs.Promise.{Carried};
@@ -12,6 +12,8 @@ ghost use Rattle.step.specs.Inside.Asked.{asksName};
 use crate::Finding;
 use crate::Listed;
 use crate::Reply;
+use crate::exchange::ring_holds_exchange;
+use crate::exchange::share_with_exchange;
 use forest::Shape;
 use forest::VertexGroups;
 use forest::add_edge;
@@ -20,6 +22,7 @@ use forest::bridges_between;
 use forest::cuts_between;
 use forest::group_of;
 use forest::is_bridge;
+use forest::mark;
 use forest::shared_block;
 use numbers::Edge;
 use numbers::Vertex;
@@ -89,6 +92,33 @@ fn is_sole(t: &[u32], shape: Shape, s: Edge) -> Reply
     Reply::Found(Finding::Sole(sole))
 }
 
+// 09: mark a cabinet as an exchange.
+fn mark_exchange(t: &mut [u32], shape: Shape, a: Vertex) -> Reply
+    requires { ⌜ Holds shape (now t) × (a .0 < shape .vertices) × (stateOf shape (now t) .marked (a .0) ≡ false) ⌝ }
+    ensures { λ r. ⌜ Carried shape (markExchange (a .0)) (now (t .entry)) (now (t .exit)) r ⌝ }
+{
+    mark(t, shape, a);
+    Reply::Found(Finding::Marked)
+}
+
+// 0A: whether a cabinet's ring holds an exchange.
+fn holds_exchange(t: &[u32], shape: Shape, a: Vertex) -> Reply
+    requires { ⌜ Holds shape (now t) × (a .0 < shape .vertices) ⌝ }
+    ensures { λ r. ⌜ Carried shape (holdsExchange (a .0)) (now (t .entry)) (now (t .entry)) r ⌝ }
+{
+    let held = ring_holds_exchange(t, shape, a);
+    Reply::Found(Finding::Held(held))
+}
+
+// 0F: the share of the cabinets whose ring holds an exchange.
+fn exchange_share(t: &[u32], shape: Shape) -> Reply
+    requires { ⌜ Holds shape (now t) ⌝ }
+    ensures { λ r. ⌜ Carried shape exchangeShare (now (t .entry)) (now (t .entry)) r ⌝ }
+{
+    let share = share_with_exchange(t, shape);
+    Reply::Found(Finding::Share(share))
+}
+
 // A command that meets no refusal.
 pub(crate) fn carry_out(t: &mut [u32], shape: Shape, order: Order) -> Reply
     requires { ⌜ Holds shape (now t) × (judgement shape (now t) order ≡ 0) ⌝ }
@@ -103,5 +133,8 @@ pub(crate) fn carry_out(t: &mut [u32], shape: Shape, order: Order) -> Reply
         Order::SoleSpans(a, b) => sole_spans(t, shape, a, b),
         Order::CutCabinets(a, b) => cut_cabinets(t, shape, a, b),
         Order::IsSole(s) => is_sole(t, shape, s),
+        Order::MarkExchange(a) => mark_exchange(t, shape, a),
+        Order::HoldsExchange(a) => holds_exchange(t, shape, a),
+        Order::ExchangeShare => exchange_share(t, shape),
     }
 }

@@ -1,8 +1,9 @@
 // The refusal that a command meets, room apart, by its number; 0 if it meets none. Each function tests lines of the table in their order.
 ghost use mathlib.Core.Path.{_≡_};
 ghost use Rattle.forest.specs.Promise.{Holds};
-ghost use Rattle.step.specs.Inside.Judged.{cabinetRefusal, spanRefusal, pairRefusal, differentRefusal, newCabinetRefusal, newSpanRefusal, districtRefusal, judgement};
+ghost use Rattle.step.specs.Inside.Judged.{cabinetRefusal, spanRefusal, pairRefusal, differentRefusal, exchangeRefusal, newCabinetRefusal, newSpanRefusal, districtRefusal, judgement};
 use forest::Shape;
+use forest::is_marked;
 use forest::same_component;
 use numbers::Edge;
 use numbers::Vertex;
@@ -42,6 +43,18 @@ fn different_refusal(shape: Shape, a: Vertex, b: Vertex) -> u32
         return unknown;
     }
     if a.0 == b.0 { 8 } else { 0 }
+}
+
+// 6, then 12: the cabinet is an exchange already.
+fn exchange_refusal(t: &[u32], shape: Shape, a: Vertex) -> u32
+    requires { ⌜ Holds shape (now t) ⌝ }
+    ensures { λ r. ⌜ r ≡ exchangeRefusal shape (now (t .entry)) (a .0) ⌝ }
+{
+    let unknown = cabinet_refusal(shape, a);
+    if unknown != 0 {
+        return unknown;
+    }
+    if is_marked(t, shape, a) { 12 } else { 0 }
 }
 
 // 9: there are as many cabinets as there may be.
@@ -102,5 +115,8 @@ pub(crate) fn judge(t: &[u32], shape: Shape, order: Order) -> u32
         Order::SoleSpans(a, b) => district_refusal(t, shape, a, b),
         Order::CutCabinets(a, b) => district_refusal(t, shape, a, b),
         Order::IsSole(s) => span_refusal(shape, s),
+        Order::MarkExchange(a) => exchange_refusal(t, shape, a),
+        Order::HoldsExchange(a) => cabinet_refusal(shape, a),
+        Order::ExchangeShare => 0,
     }
 }

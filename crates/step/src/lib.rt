@@ -7,6 +7,7 @@ ghost use Rattle.reading.specs.Inside.Reads.{meaning};
 ghost use Rattle.step.specs.Promise.{findingSize, replySize, shapeAfter, StepPromise};
 
 pub mod carry;
+pub mod exchange;
 pub mod judge;
 
 use crate::carry::carry_out;
@@ -26,12 +27,16 @@ pub enum Listed {
 }
 
 // What a command that adds nothing is answered with: the name of a cabinet's district or ring; a shared mesh; a list, by its length; whether a
-// span is sole. A list stands in the table until the next command.
+// span is sole; that a cabinet is marked; whether a ring holds an exchange; a share in thousandths. A list stands in the table until the next
+// command.
 pub enum Finding {
     Name(VertexGroups, Vertex),
     Mesh(Shared),
     List(Listed, u32),
     Sole(bool),
+    Marked,
+    Held(bool),
+    Share(u32),
 }
 
 // What is to be answered: a new cabinet; a new span with the names that it changed, which stand in the table until the next command; or what a
@@ -57,6 +62,9 @@ fn finding_size(finding: Finding) -> usize
         Finding::Mesh(_shared) => 4,
         Finding::List(_list, count) => 3 + 2 * (count as usize),
         Finding::Sole(_sole) => 2,
+        Finding::Marked => 1,
+        Finding::Held(_held) => 2,
+        Finding::Share(_share) => 3,
     }
 }
 

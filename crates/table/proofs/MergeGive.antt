@@ -35,7 +35,7 @@ module _ (area : Area) (w name : ℕ) (wide : w < area .size) (wide′ : name < 
 
     one-kept : Kept area t one
     unfolding givenIn
-    one-kept = kept-trans (kept-put area t c w sum known wide) (kept-put area stored c name 0 known wide′)
+    one-kept = kept-trans (kept-put area t c w _ known wide) (kept-put area _ c name 0 known wide′)
 
     one-winner : cell one area c w ≡ sum
     unfolding givenIn

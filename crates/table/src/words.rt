@@ -20,10 +20,13 @@ pub const CHANGED: u8 = 2;
 
 pub const SIZE: u8 = 3;
 
+// Of bridge-blocks besides: by a name, how many of its group's vertices are marked.
+pub const MARK_COUNT: u8 = 4;
+
 // How many columns components have, bridge-blocks, and blocks. Those of the bridge-blocks stand behind those of the components.
 const COMPONENT_COLUMNS: u8 = 4;
 
-const BRIDGE_BLOCK_COLUMNS: u8 = 4;
+const BRIDGE_BLOCK_COLUMNS: u8 = 5;
 
 const BLOCK_COLUMNS: u8 = 4;
 
@@ -32,7 +35,8 @@ pub const ENDS: u8 = BLOCK_COLUMNS;
 
 pub const TOP: u8 = ENDS + 1;
 
-// The other columns of the vertices: the way up, the depth, the path's vertices and edges, and those of its right side.
+// The other columns of the vertices: the way up, the depth, the path's vertices and edges, those of its right side, and whether the vertex
+// is marked.
 pub const UP: u8 = COMPONENT_COLUMNS + BRIDGE_BLOCK_COLUMNS;
 
 pub const DEPTH: u8 = UP + 1;
@@ -44,6 +48,8 @@ pub const PATH_EDGE: u8 = UP + 3;
 pub const RIGHT_VERTEX: u8 = UP + 4;
 
 pub const RIGHT_EDGE: u8 = UP + 5;
+
+pub const MARK: u8 = UP + 6;
 
 // The columns of a kind of group, and those behind them: where they begin, how many items each has a word for, and how many are of the
 // kind.

@@ -13,8 +13,10 @@ pub mod write;
 
 use crate::notice::write_span;
 use crate::write::write_cabinet;
+use crate::write::write_code;
 use crate::write::write_flag;
 use crate::write::write_list;
+use crate::write::write_number;
 use crate::write::write_shared;
 use forest::Shape;
 use forest::VertexGroups;
@@ -41,6 +43,9 @@ fn write_finding(t: &[u32], shape: Shape, out: &mut [u8], finding: Finding)
         Finding::Mesh(shared) => write_shared(out, shared),
         Finding::List(list, count) => write_list(t, shape, out, list, count),
         Finding::Sole(sole) => write_flag(out, 0x88, sole as u8),
+        Finding::Marked => write_code(out, 0x89),
+        Finding::Held(held) => write_flag(out, 0x8A, held as u8),
+        Finding::Share(share) => write_number(out, 0x8F, share),
     }
 }
 

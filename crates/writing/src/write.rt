@@ -36,13 +36,28 @@ pub(crate) fn put_two(out: &mut [u8], at: usize, value: u32)
     put_byte(out, at + 1, (value % 256) as u8);
 }
 
+// An answer of one byte.
+pub(crate) fn write_code(out: &mut [u8], code: u8)
+    ensures { λ r. ⌜ now (out .exit) ≡ sets (now (out .entry)) 0 (code ∷ []) ⌝ }
+{
+    put_byte(out, 0, code);
+}
+
+// An answer of a byte and a number.
+pub(crate) fn write_number(out: &mut [u8], code: u8, value: u32)
+    requires { ⌜ 3 ≤ length (now out) ⌝ }
+    ensures { λ r. ⌜ now (out .exit) ≡ sets (now (out .entry)) 0 (code ∷ twoBytes value) ⌝ }
+{
+    put_byte(out, 0, code);
+    put_two(out, 1, value);
+}
+
 // An answer of a byte and a cabinet, or the name of a group of cabinets.
 pub(crate) fn write_cabinet(out: &mut [u8], code: u8, a: Vertex)
     requires { ⌜ 3 ≤ length (now out) ⌝ }
     ensures { λ r. ⌜ now (out .exit) ≡ sets (now (out .entry)) 0 (code ∷ twoBytes (a .0)) ⌝ }
 {
-    put_byte(out, 0, code);
-    put_two(out, 1, a.0);
+    write_number(out, code, a.0);
 }
 
 // An answer of two bytes and the name of a mesh.

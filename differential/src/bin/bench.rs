@@ -10,7 +10,7 @@
 
 use differential::engine::{work_needed, Call, Engine, LONGEST_JOURNAL, REPORT_NUMBERS};
 use differential::incremental::Incremental;
-use differential::journals::Writer;
+use differential::journals::{operand_count, Writer, COMMANDS};
 use differential::layouts::{self, Layout};
 use differential::random::Random;
 use differential::second::forecast::counts;
@@ -23,7 +23,7 @@ const ANSWER_ROOM: usize = 24 << 20;
 
 type Shape = (&'static str, fn(usize) -> Writer);
 
-const SHAPES: [Shape; 8] = [
+const SHAPES: [Shape; 10] = [
     ("random", random),
     ("chain then loops", chain_then_loops),
     ("one long loop", long_loop),
@@ -32,6 +32,8 @@ const SHAPES: [Shape; 8] = [
     ("star", star),
     ("name look-ups", look_ups),
     ("wide ranges", wide_ranges),
+    ("exchange questions", exchange_questions),
+    ("shares", shares),
 ];
 
 fn written(layout: &Layout) -> Writer {
@@ -90,6 +92,33 @@ fn wide_ranges(cabinets: usize) -> Writer {
     written(&layout)
 }
 
+/// One cabinet in sixteen is marked, then random spans are entered.
+fn with_exchanges(random: &mut Random, cabinets: usize) -> Writer {
+    let layout = layouts::random_spans(random, cabinets, cabinets);
+    let marked: Vec<usize> = (0..cabinets / 16).map(|_| random.below(cabinets)).collect();
+    let mut writer = Writer::new();
+    writer.enter_marked(&layout, &marked);
+    writer
+}
+
+fn exchange_questions(cabinets: usize) -> Writer {
+    let mut random = Random::new(7);
+    let mut writer = with_exchanges(&mut random, cabinets);
+    for _ in 0..3 * cabinets {
+        writer.command(0x0A, &[random.below(cabinets)]);
+    }
+    writer
+}
+
+/// Each question is a pass over the cabinets, so there are fewer.
+fn shares(cabinets: usize) -> Writer {
+    let mut writer = with_exchanges(&mut Random::new(7), cabinets);
+    for _ in 0..cabinets / 4 {
+        writer.command(0x0F, &[]);
+    }
+    writer
+}
+
 type Long = (&'static str, fn() -> Vec<u8>);
 
 /// Journals to forecast, as long as they may be. A run need not accept them.
@@ -98,13 +127,8 @@ const LONG: [Long; 3] =
 
 /// A command with this byte and random operands.
 fn command(byte: u8, random: &mut Random) -> Vec<u8> {
-    let length = match byte {
-        0x01 => 1,
-        0x03 | 0x04 | 0x08 => 3,
-        _ => 5,
-    };
     let mut bytes = vec![byte];
-    bytes.extend((1..length).map(|_| random.number() as u8));
+    bytes.extend((0..2 * operand_count(byte)).map(|_| random.number() as u8));
     bytes
 }
 
@@ -119,7 +143,7 @@ fn mixed() -> Vec<u8> {
     let mut random = Random::new(6);
     let mut journal = Vec::new();
     while journal.len() + 5 <= LONGEST_JOURNAL {
-        let byte = random.between(0x01, 0x08) as u8;
+        let (byte, _) = *random.pick(&COMMANDS);
         journal.extend(command(byte, &mut random));
     }
     journal.resize(LONGEST_JOURNAL, 0x01);

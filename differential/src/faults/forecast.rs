@@ -10,9 +10,18 @@ type Wrong = (&'static str, Misforecast);
 
 /// Lengths that do not suffice for some journals: a run with exactly so much room must find them
 /// where the second implementation has them too.
-pub const TOO_SMALL: [Wrong; 3] = [
+pub const TOO_SMALL: [Wrong; 6] = [
     ("the part of 06 left out", |journal, right| {
         of_length(journal, right, |counts| length(counts) - (3 + 2 * counts[2]) * counts[6])
+    }),
+    ("0 for 09", |journal, right| {
+        of_length(journal, right, |counts| length(counts) - counts[0x09])
+    }),
+    ("1 for 0A", |journal, right| {
+        of_length(journal, right, |counts| length(counts) - counts[0x0A])
+    }),
+    ("2 for 0F", |journal, right| {
+        of_length(journal, right, |counts| length(counts) - counts[0x0F])
     }),
     ("L one less", |journal, right| {
         let once = |k: usize| if k > 1 { k } else { 0 };
@@ -29,7 +38,7 @@ pub const TOO_SMALL: [Wrong; 3] = [
 pub const WRONG: [Wrong; 6] = [
     ("c and s exchanged in the parts of 06 and 07", |journal, right| {
         of_length(journal, right, |counts| {
-            let [_, c, s, .., sole, cut, _] = *counts;
+            let [c, s, sole, cut] = [1, 2, 6, 7].map(|byte| counts[byte]);
             length(counts) + 2 * (c * sole + s * cut) - 2 * (s * sole + c * cut)
         })
     }),

@@ -3,8 +3,9 @@
 
 use crate::engine::{Forecast, LONGEST_JOURNAL};
 
-/// The lengths of the questions 03 to 08, each a hexadecimal digit at its command byte's place.
-const LENGTHS: u64 = 0x3_5553_3000;
+/// The lengths of the commands 03 to 0A and 0F, each a hexadecimal digit at its byte's place; 0 for
+/// the bytes between that are no command's.
+const LENGTHS: u64 = 0x1000_0333_5553_3000;
 
 /// The whole part of log2 k, and 0 for 0.
 fn log(k: usize) -> usize {
@@ -15,7 +16,7 @@ pub fn forecast(journal: &[u8]) -> Forecast {
     if journal.len() > LONGEST_JOURNAL {
         return Forecast::refused(3, 0);
     }
-    let (mut c, mut s, mut asked) = (0, 0, [0; 9]);
+    let (mut c, mut s, mut asked) = (0, 0, [0; 16]);
     let (mut last, mut place) = (0, 0);
     while place < journal.len() {
         last = place;
@@ -29,10 +30,14 @@ pub fn forecast(journal: &[u8]) -> Forecast {
                 s += 1;
                 place += 5;
             }
-            // Questions come in any order: their length is taken without a branch.
-            0x03..=0x08 => {
+            // These come in any order: their length is taken without a branch.
+            0x03..=0x0F => {
+                let length = (LENGTHS >> (4 * byte)) as usize & 0xF;
                 asked[usize::from(byte)] += 1;
-                place += (LENGTHS >> (4 * byte)) as usize & 0xF;
+                place += length;
+                if length == 0 {
+                    return Forecast::refused(4, place);
+                }
             }
             _ => return Forecast::refused(4, place),
         }
@@ -40,9 +45,15 @@ pub fn forecast(journal: &[u8]) -> Forecast {
     if place > journal.len() {
         return Forecast::refused(5, last);
     }
+    Forecast::accepted(journal, length(c, s, asked))
+}
+
+/// The length, with c cabinet and s span commands and so many of each other byte.
+fn length(c: usize, s: usize, asked: [usize; 16]) -> usize {
     let added = 3 * c + 7 * s + 5 * (2 * c * log(c) + s * log(s));
-    let [_, _, _, district, ring, mesh, sole, cut, is_sole] = asked;
+    let [_, _, _, district, ring, mesh, sole, cut, is_sole, mark, is_fed, .., share] = asked;
     let names = 3 * (district + ring) + 4 * mesh + 2 * is_sole;
     let lists = (3 + 2 * s) * sole + (3 + 2 * c) * cut;
-    Forecast::accepted(journal, added + names + lists)
+    let exchanges = mark + 2 * is_fed + 3 * share;
+    added + names + lists + exchanges
 }

@@ -17,6 +17,10 @@ pub struct Forest {
     ends: Vec<(u32, u32)>,
     /// For each block name the vertex above the block.
     top: Vec<u32>,
+    /// For each vertex whether it is an exchange.
+    exchange: Vec<bool>,
+    /// For each bridge-block name how many exchanges the bridge-block holds.
+    exchanges: Vec<u32>,
     path: Path,
 }
 
@@ -40,6 +44,8 @@ impl Forest {
             depth: Vec::with_capacity(vertices),
             ends: Vec::with_capacity(edges),
             top: Vec::with_capacity(edges),
+            exchange: Vec::with_capacity(vertices),
+            exchanges: Vec::with_capacity(vertices),
             path: Path {
                 vertices: vec![0; vertices],
                 blocks: vec![0; vertices],
@@ -70,6 +76,27 @@ impl Forest {
         self.ring(a) != self.ring(b)
     }
 
+    pub fn is_exchange(&self, vertex: u32) -> bool {
+        self.exchange[vertex as usize]
+    }
+
+    /// Makes a vertex an exchange, which it is not yet.
+    pub fn mark(&mut self, vertex: u32) {
+        self.exchange[vertex as usize] = true;
+        let name = self.ring(vertex);
+        self.exchanges[name as usize] += 1;
+    }
+
+    /// Does the vertex's bridge-block hold an exchange?
+    pub fn is_fed(&self, vertex: u32) -> bool {
+        self.exchanges[self.ring(vertex) as usize] > 0
+    }
+
+    /// How many vertices have an exchange in their bridge-block.
+    pub fn fed(&self) -> u32 {
+        self.ring.name.iter().filter(|&&name| self.exchanges[name as usize] > 0).count() as u32
+    }
+
     /// The block above a vertex; none at a root.
     fn above(&self, vertex: u32) -> Option<u32> {
         let up = self.up[vertex as usize];
@@ -81,6 +108,8 @@ impl Forest {
         self.ring.add();
         self.up.push(0);
         self.depth.push(0);
+        self.exchange.push(false);
+        self.exchanges.push(0);
     }
 
     /// Adds an edge and gives its block name.
@@ -106,12 +135,20 @@ impl Forest {
         self.climb(a, b);
         let vertices = &self.path.vertices[..self.path.length];
         let rings: Vec<u32> = vertices.iter().map(|&v| self.ring(v)).collect();
-        self.ring.merge(&rings);
+        let ring = self.ring.merge(&rings);
+        self.add_up_exchanges(&rings, ring);
         let name = self.mesh.merge(&self.path.blocks[..self.path.length - 1]);
         self.mesh.add_to(name);
         self.top.push(0);
         self.top[name as usize] = self.path.meeting;
         name
+    }
+
+    /// The bridge-blocks of these names have become the one of this name. A name may occur twice.
+    fn add_up_exchanges(&mut self, names: &[u32], merged: u32) {
+        let take = |name: &u32| std::mem::take(&mut self.exchanges[*name as usize]);
+        let sum = names.iter().map(take).sum();
+        self.exchanges[merged as usize] = sum;
     }
 
     /// An edge between two components: the one whose name loses is turned and put below the other.

@@ -2,6 +2,7 @@
 
 use super::book::Book;
 use super::groups::{cut_cabinets, is_sole, route, shared_mesh, sole_spans};
+use super::State;
 use crate::kinds::KINDS;
 
 #[derive(Clone, Copy, PartialEq, Eq, Debug)]
@@ -14,6 +15,9 @@ pub enum Command {
     SoleSpans(usize, usize),
     CutCabinets(usize, usize),
     IsSole(usize),
+    Mark(usize),
+    IsFed(usize),
+    Share,
 }
 
 /// The capacities of a run.
@@ -32,9 +36,9 @@ impl Capacities {
 /// The number of operands of a command byte; none for a byte that is no command.
 fn operand_count(byte: u8) -> Option<usize> {
     match byte {
-        0x01 => Some(0),
+        0x01 | 0x0F => Some(0),
         0x02 | 0x05..=0x07 => Some(2),
-        0x03 | 0x04 | 0x08 => Some(1),
+        0x03 | 0x04 | 0x08..=0x0A => Some(1),
         _ => None,
     }
 }
@@ -56,17 +60,22 @@ pub fn read(bytes: &[u8]) -> Result<(Command, usize), u32> {
         0x05 => Command::SharedMesh(operand(0), operand(1)),
         0x06 => Command::SoleSpans(operand(0), operand(1)),
         0x07 => Command::CutCabinets(operand(0), operand(1)),
-        _ => Command::IsSole(operand(0)),
+        0x08 => Command::IsSole(operand(0)),
+        0x09 => Command::Mark(operand(0)),
+        0x0A => Command::IsFed(operand(0)),
+        _ => Command::Share,
     };
     Ok((command, length))
 }
 
-/// The refusal, from 6 to 10, that meets this command: the first line of the table that applies.
-pub fn refusal(command: Command, book: &Book, capacities: Capacities) -> Option<u32> {
+/// The refusal that meets this command whatever the room: the first line of the table that applies.
+pub fn refusal(command: Command, state: &State, capacities: Capacities) -> Option<u32> {
+    let book = &state.book;
     let lines = [
         (has_unknown_cabinet(command, book), 6),
         (has_unknown_span(command, book), 7),
         (has_equal_cabinets(command), 8),
+        (marks_an_exchange(command, state), 12),
         (finds_no_capacity(command, book, capacities), 9),
     ];
     let first = lines.into_iter().find(|line| line.0).map(|line| line.1);
@@ -76,8 +85,10 @@ pub fn refusal(command: Command, book: &Book, capacities: Capacities) -> Option<
 fn has_unknown_cabinet(command: Command, book: &Book) -> bool {
     let unknown = |cabinet: usize| cabinet >= book.network.cabinets;
     match command {
-        Command::AddCabinet | Command::IsSole(_) => false,
-        Command::DistrictName(a) | Command::RingName(a) => unknown(a),
+        Command::AddCabinet | Command::IsSole(_) | Command::Share => false,
+        Command::DistrictName(a) | Command::RingName(a) | Command::Mark(a) | Command::IsFed(a) => {
+            unknown(a)
+        }
         Command::AddSpan(a, b)
         | Command::SharedMesh(a, b)
         | Command::SoleSpans(a, b)
@@ -91,6 +102,10 @@ fn has_unknown_span(command: Command, book: &Book) -> bool {
 
 fn has_equal_cabinets(command: Command) -> bool {
     matches!(command, Command::AddSpan(a, b) | Command::SharedMesh(a, b) if a == b)
+}
+
+fn marks_an_exchange(command: Command, state: &State) -> bool {
+    matches!(command, Command::Mark(a) if state.exchanges.hold(a))
 }
 
 fn finds_no_capacity(command: Command, book: &Book, capacities: Capacities) -> bool {
@@ -110,17 +125,9 @@ fn goes_across_districts(command: Command, book: &Book) -> bool {
     }
 }
 
-/// The book after a command that no line up to 10 refuses.
-pub fn feed(book: &Book, command: Command) -> Option<Book> {
-    match command {
-        Command::AddCabinet => Some(book.with_cabinet()),
-        Command::AddSpan(a, b) => Some(book.with_span(a, b)),
-        _ => None,
-    }
-}
-
-/// The answer to a command, given the book before it and the book after it.
-pub fn answer(command: Command, before: &Book, after: &Book) -> Vec<u8> {
+/// The answer to a command, given the state before it and the state after it.
+pub fn answer(command: Command, before: &State, after: &State) -> Vec<u8> {
+    let (before, exchanges, after) = (&before.book, &after.exchanges, &after.book);
     let network = &after.network;
     let groups = &after.groups;
     let names = &after.names;
@@ -137,6 +144,9 @@ pub fn answer(command: Command, before: &Book, after: &Book) -> Vec<u8> {
         Command::SoleSpans(a, b) => list(0x86, &sole_spans(network, groups, &route(a, b))),
         Command::CutCabinets(a, b) => list(0x87, &cut_cabinets(groups, &route(a, b))),
         Command::IsSole(s) => vec![0x88, is_sole(network, groups, s) as u8],
+        Command::Mark(_) => vec![0x89],
+        Command::IsFed(a) => vec![0x8A, exchanges.feed(groups, a) as u8],
+        Command::Share => fields(0x8F, &[exchanges.share(groups)]),
     }
 }
 

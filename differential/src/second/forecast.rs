@@ -1,11 +1,12 @@
 //! The forecast of document 02's first request: a sufficient length of the answer buffer, from the
-//! journal only, without running it.
+//! journal only, without running it. Later commands join it with the greatest length that their
+//! answer can have.
 
 use super::command::read;
 use crate::engine::{Forecast, LONGEST_JOURNAL};
 
-/// How many commands there are of each byte, from 01 to 08.
-pub type Counts = [usize; 9];
+/// How many commands there are of each byte, up to 0F.
+pub type Counts = [usize; 16];
 
 /// L(k): the place of the highest one bit of k, counted from 0, and L(0) is 0.
 fn highest_bit(k: usize) -> usize {
@@ -16,7 +17,7 @@ fn highest_bit(k: usize) -> usize {
 /// The commands of a journal, or the number and the place of the first one that has an unknown byte
 /// or cut-off operands.
 pub fn counts(journal: &[u8]) -> Result<Counts, (u32, usize)> {
-    let mut counts = [0; 9];
+    let mut counts = [0; 16];
     let mut place = 0;
     while place < journal.len() {
         let (_, length) = read(&journal[place..]).map_err(|number| (number, place))?;
@@ -37,6 +38,9 @@ pub fn length(counts: &Counts) -> usize {
         + (3 + 2 * s) * counts[6]
         + (3 + 2 * c) * counts[7]
         + 2 * counts[8]
+        + counts[0x09]
+        + 2 * counts[0x0A]
+        + 3 * counts[0x0F]
 }
 
 pub fn forecast(journal: &[u8]) -> Forecast {

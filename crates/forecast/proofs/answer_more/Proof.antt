@@ -5,18 +5,18 @@ use borrow.Author.Needs.{needs}
 use Rattle.forecast.proofs.answer_more.Statement.{statement}
 use Rattle.forecast.proofs.answer_more.Tie as tie
 
-add-t5 : tie.Need-add-t5
-add-t5 c = search needs
-
 add-t6 : tie.Need-add-t6
 add-t6 c = search needs
 
-add-t7 : tie.Need-add-t7
-add-t7 c = search needs
+add-t8 : tie.Need-add-t8
+add-t8 c = search needs
+
+add-t10 : tie.Need-add-t10
+add-t10 c = search needs
 
 returns : tie.Need-returns
 unfolding answerMore
 returns c = refl
 
 pub answer-more-spec : {M : Type 1} → statement M
-answer-more-spec = tie.close (tie.spec add-t5 add-t6 add-t7 returns)
+answer-more-spec = tie.close (tie.spec add-t6 add-t8 add-t10 returns)

@@ -15,20 +15,11 @@ add-next c = search needs
 add-next-2 : tie.Need-add-next-2
 add-next-2 c = search needs
 
-mul-answer-more : tie.Need-mul-answer-more
-mul-answer-more c = search needs
-
 array-read-answer-more : tie.Need-array-read-answer-more
 array-read-answer-more c = search needs
 
-mul-answer-more-2 : tie.Need-mul-answer-more-2
-mul-answer-more-2 c = search needs
-
 array-read-answer-more-2 : tie.Need-array-read-answer-more-2
 array-read-answer-more-2 c = search needs
-
-mul-answer-more-3 : tie.Need-mul-answer-more-3
-mul-answer-more-3 c = search needs
 
 array-read-answer-more-3 : tie.Need-array-read-answer-more-3
 array-read-answer-more-3 c = search needs
@@ -61,11 +52,8 @@ counted-spec =
     (tie.spec
     add-next
     add-next-2
-    mul-answer-more
     array-read-answer-more
-    mul-answer-more-2
     array-read-answer-more-2
-    mul-answer-more-3
     array-read-answer-more-3
     answer-more-requires
     returns

@@ -47,13 +47,13 @@ answerMore n spanlists cabinetlists t =
 
 -- Of the answer to a command that adds nothing, by its byte: the bytes, the lists of spans and the lists of cabinets.
 abbrev pub bytesOf : List ℕ
-bytesOf = 0 ∷ 0 ∷ 0 ∷ 3 ∷ 3 ∷ 4 ∷ 3 ∷ 3 ∷ 2 ∷ []
+bytesOf = 0 ∷ 0 ∷ 0 ∷ 3 ∷ 3 ∷ 4 ∷ 3 ∷ 3 ∷ 2 ∷ 1 ∷ 2 ∷ 0 ∷ 0 ∷ 0 ∷ 0 ∷ 3 ∷ []
 
 abbrev pub spanlistsOf : List ℕ
-spanlistsOf = 0 ∷ 0 ∷ 0 ∷ 0 ∷ 0 ∷ 0 ∷ 1 ∷ 0 ∷ 0 ∷ []
+spanlistsOf = 0 ∷ 0 ∷ 0 ∷ 0 ∷ 0 ∷ 0 ∷ 1 ∷ 0 ∷ 0 ∷ 0 ∷ 0 ∷ 0 ∷ 0 ∷ 0 ∷ 0 ∷ 0 ∷ []
 
 abbrev pub cabinetlistsOf : List ℕ
-cabinetlistsOf = 0 ∷ 0 ∷ 0 ∷ 0 ∷ 0 ∷ 0 ∷ 0 ∷ 1 ∷ 0 ∷ []
+cabinetlistsOf = 0 ∷ 0 ∷ 0 ∷ 0 ∷ 0 ∷ 0 ∷ 0 ∷ 1 ∷ 0 ∷ 0 ∷ 0 ∷ 0 ∷ 0 ∷ 0 ∷ 0 ∷ 0 ∷ []
 
 -- A command more, by its byte.
 unfoldable pub countedBy : ℕ → Tally → Tally

@@ -1,4 +1,5 @@
--- What one vertex more and one edge more do to the table, step by step: link two components, or condense the path between two vertices.
+-- What one vertex more, one edge more and a mark do to the table, step by step. An edge links two components, or condenses the path
+-- between two vertices.
 use mathlib.Core.Bool.{cond}
 use mathlib.Core.List.{List}
 use mathlib.Core.Path.{_≡_}
@@ -18,15 +19,22 @@ use Rattle.forest.specs.Inside.Climb.{upOf, depthOf, blockOf, aboveEdge,
 unfoldable pub newGroup : List ℕ → Area → ℕ → List ℕ
 newGroup t area x = put (put (put t area Column.name x x) area Column.size x 1) area Column.range x (x % 65536 * 65536 + x % 65536)
 
--- One vertex more: a component, a bridge-block and a root by itself.
+-- A new vertex is not marked, and its bridge-block, named by its number, has no marks.
+unfoldable pub newMarks : List ℕ → Limits → ℕ → List ℕ
+newMarks t limits x = put (put t (bridgeBlockArea limits) Column.markCount x 0) (vertexArea limits) Column.mark x 0
+
+-- One vertex more: a component, a bridge-block and a root by itself, not marked.
 unfoldable pub vertexTable : List ℕ → Limits → ℕ → List ℕ
 vertexTable t limits x =
-    put
-    (put (newGroup (newGroup t (vertexArea limits) x) (bridgeBlockArea limits) x) (vertexArea limits) Column.up x 0)
-    (vertexArea limits)
-    Column.depth
-    x
-    0
+    let groups = newGroup (newGroup t (vertexArea limits) x) (bridgeBlockArea limits) x in
+    newMarks (put (put groups (vertexArea limits) Column.up x 0) (vertexArea limits) Column.depth x 0) limits x
+
+-- A vertex marked: its bridge-block has one mark more.
+unfoldable pub markTable : List ℕ → Limits → ℕ → List ℕ
+markTable t limits x =
+    let name = nameIn t (bridgeBlockArea limits) x in
+    let marks = cell t (bridgeBlockArea limits) Column.markCount name in
+    put (put t (bridgeBlockArea limits) Column.markCount name ((marks + 1) % 2 ^ 32)) (vertexArea limits) Column.mark x 1
 
 -- The depths of k changed vertices, from the one written down at place i on, raised.
 unfoldable pub raiseFrom : ℕ → List ℕ → Limits → ℕ → ℕ → List ℕ

@@ -1,9 +1,10 @@
--- When the words of a table are those of a network with its names, and which naming book they hold.
-use mathlib.Core.Bool.{true}
+-- When the words of a table are those of a network with its names and marks, and which naming book and which marks they hold.
+use mathlib.Core.Bool.{Bool, true, _&&_}
 use mathlib.Core.List.{List}
 use mathlib.Core.Logic.{_⊎_}
 use mathlib.Core.Path.{_≡_}
 use Prim.Native.Nat.{ℕ, suc, _+_, _*_, _/_, _%_, _≤_, _<_}
+use lib.Dec.{eqb, ltb}
 use lib.ListN.{length}
 use Rattle.graph.specs.Below.{tabulate}
 use Rattle.graph.specs.Network.{Network, Edge, edgeBetween, Proper, edge, touches}
@@ -14,7 +15,7 @@ use Rattle.naming.specs.Book.{Book}
 use Rattle.numbers.specs.declared.Limits.{Limits}
 use Rattle.table.specs.Inside.Column
 use Rattle.table.specs.Inside.Layout.{cell, vertexArea, bridgeBlockArea, edgeArea}
-use Rattle.table.specs.Inside.KindValid.{namesIn, KindValid}
+use Rattle.table.specs.Inside.KindValid.{namesIn, KindValid, Counts}
 use Rattle.forest.specs.Rule.{tableRule}
 use Rattle.forest.specs.Inside.Climb.{upOf, depthOf, aboveEdge}
 
@@ -37,6 +38,10 @@ bookOf limits n m t =
       blocks = namesIn t (edgeArea limits) m;
     }
 
+-- Vertex x, one of n, is marked.
+unfoldable pub markedIn : Limits → ℕ → List ℕ → ℕ → Bool
+markedIn limits n t x = ltb x n && eqb (cell t (vertexArea limits) Column.mark x) 1
+
 -- Some edge of the block of edge e is the one above vertex x.
 pub record HangsBelow (t : List ℕ) (limits : Limits) (g : Network) (e x : ℕ) : Type 0 where
   pub by : ℕ
@@ -57,7 +62,7 @@ pub record ForestValid (t : List ℕ) (limits : Limits) (n m : ℕ) (g : Network
   pub depth-falls : (x e : ℕ) → x < n → upOf t limits x ≡ suc e → depthOf t limits (aboveEdge t limits e) < depthOf t limits x
   pub depth-bound : (x : ℕ) → x < n → depthOf t limits x < size n (component g) x * size n (component g) x
 
--- The table is long enough, and holds the names, sizes and forest of its network.
+-- The table is long enough, and holds the names, sizes and forest of its network, and the marks of each bridge-block.
 pub record Valid (limits : Limits) (n m : ℕ) (t : List ℕ) : Type 0 where
   pub long : limits .vertices * Column.perVertex + limits .edges * Column.perEdge ≤ length t
   pub small-vertices : limits .vertices ≤ 4096
@@ -67,5 +72,6 @@ pub record Valid (limits : Limits) (n m : ℕ) (t : List ℕ) : Type 0 where
   pub proper : Proper (networkOf limits n m t)
   pub components : KindValid t (vertexArea limits) n (component (networkOf limits n m t))
   pub bridge-blocks : KindValid t (bridgeBlockArea limits) n (bridgeBlock (networkOf limits n m t))
+  pub marks : Counts t (bridgeBlockArea limits) n (bridgeBlock (networkOf limits n m t)) Column.markCount (markedIn limits n t)
   pub blocks : KindValid t (edgeArea limits) m (block (networkOf limits n m t))
   pub forest : ForestValid t limits n m (networkOf limits n m t)

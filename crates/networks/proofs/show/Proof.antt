@@ -23,6 +23,9 @@ begin-requires c κs =
 fill-requires : tie.Need-fill-requires
 fill-requires c κs = search needs
 
+mark-ends-requires : tie.Need-mark-ends-requires
+mark-ends-requires c κs = search needs
+
 grow-all-requires : tie.Need-grow-all-requires
 grow-all-requires c κs = search needs
 
@@ -42,6 +45,7 @@ show-spec =
     write-all-requires
     begin-requires
     fill-requires
+    mark-ends-requires
     grow-all-requires
     tell-requires
     returns-2)

@@ -6,7 +6,7 @@ use mathlib.Core.Option.{Option, none, some}
 use mathlib.Core.Path.{_≡_}
 use Prim.Native.Nat.{ℕ, _*_}
 use lib.Dec.{eqb}
-use Rattle.commands.specs.Command.{Command, addCabinet, addSpan, districtName, ringName, sharedMesh, soleSpans, cutCabinets, isSole, Form, unknown, takes, form, Reading, unknownByte, cutOff, command}
+use Rattle.commands.specs.Command.{Command, addCabinet, addSpan, districtName, ringName, sharedMesh, soleSpans, cutCabinets, isSole, markExchange, holdsExchange, exchangeShare, Form, unknown, takes, form, Reading, unknownByte, cutOff, command}
 use Rattle.reading.specs.declared.read.Order.{Order}
 use Rattle.reading.specs.declared.read.Order.the-variants as O
 use Rattle.reading.specs.declared.read.Taken.{Taken}
@@ -24,6 +24,9 @@ meaning (O.SharedMesh a b) = sharedMesh (a .0) (b .0)
 meaning (O.SoleSpans a b) = soleSpans (a .0) (b .0)
 meaning (O.CutCabinets a b) = cutCabinets (a .0) (b .0)
 meaning (O.IsSole s) = isSole (s .0)
+meaning (O.MarkExchange a) = markExchange (a .0)
+meaning (O.HoldsExchange a) = holdsExchange (a .0)
+meaning O.ExchangeShare = exchangeShare
 
 -- What was read: an unknown byte is refusal 4, cut-off operands are refusal 5.
 unfoldable pub readingOf : Taken → Reading
@@ -33,7 +36,7 @@ readingOf (K.Command o width) = command (meaning o) width
 
 -- The bytes of the commands with one operand, and of those with two.
 abbrev pub OneOperand : ℕ → Type 0
-OneOperand byte = (byte ≡ 3) ⊎ ((byte ≡ 4) ⊎ (byte ≡ 8))
+OneOperand byte = (byte ≡ 3) ⊎ ((byte ≡ 4) ⊎ ((byte ≡ 8) ⊎ ((byte ≡ 9) ⊎ (byte ≡ 10))))
 
 abbrev pub TwoOperands : ℕ → Type 0
 TwoOperands byte = (byte ≡ 2) ⊎ ((byte ≡ 5) ⊎ ((byte ≡ 6) ⊎ (byte ≡ 7)))
@@ -55,9 +58,13 @@ unfoldable pub formWidth : Form → Option ℕ
 formWidth unknown = none
 formWidth (takes n make) = some (2 * n)
 
--- The same by the command byte, from 00 on, as a table.
+-- The same by the command byte, from 00 on, as a table; 255 where the byte is no command's.
 abbrev pub widths : List ℕ
-widths = 0 ∷ 0 ∷ 4 ∷ 2 ∷ 2 ∷ 4 ∷ 4 ∷ 4 ∷ 2 ∷ []
+widths = 255 ∷ 0 ∷ 4 ∷ 2 ∷ 2 ∷ 4 ∷ 4 ∷ 4 ∷ 2 ∷ 2 ∷ 2 ∷ 255 ∷ 255 ∷ 255 ∷ 255 ∷ 0 ∷ []
+
+-- What an entry of the table says.
+unfoldable pub entryWidth : ℕ → Option ℕ
+entryWidth entry = cond (eqb entry 255) none (some entry)
 
 -- What is known of a reading where the operands are passed over: of a command its byte and the number of its operands' bytes.
 pub data Passing : Type 0 where

@@ -25,6 +25,15 @@ add-result c = search needs
 enum-known-finding-4 : tie.Need-enum-known-finding-4
 enum-known-finding-4 c = search needs
 
+enum-told : tie.Need-enum-told
+enum-told c = search needs
+
+enum-known-finding-5 : tie.Need-enum-known-finding-5
+enum-known-finding-5 c = search needs
+
+enum-known-finding-6 : tie.Need-enum-known-finding-6
+enum-known-finding-6 c = search needs
+
 returns : tie.Need-returns
 unfolding findingSize
 returns c = rw (c .before .finding .given .1)
@@ -41,6 +50,18 @@ returns-4 : tie.Need-returns-4
 unfolding findingSize
 returns-4 c = rw (c .before .finding4 .given .1)
 
+returns-5 : tie.Need-returns-5
+unfolding findingSize
+returns-5 c = rw (c .enum-told .given .1)
+
+returns-6 : tie.Need-returns-6
+unfolding findingSize
+returns-6 c = rw (c .before .finding5 .given .1)
+
+returns-7 : tie.Need-returns-7
+unfolding findingSize
+returns-7 c = rw (c .before .finding6 .given .1)
+
 pub finding-size-spec : {M : Type 1} → statement M
 finding-size-spec =
     tie.close
@@ -52,7 +73,13 @@ finding-size-spec =
     mul-result
     add-result
     enum-known-finding-4
+    enum-told
+    enum-known-finding-5
+    enum-known-finding-6
     returns
     returns-2
     returns-3
-    returns-4)
+    returns-4
+    returns-5
+    returns-6
+    returns-7)

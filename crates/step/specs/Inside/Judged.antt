@@ -5,7 +5,7 @@ use Prim.Native.Nat.{ℕ}
 use lib.Dec.{eqb, leb, ltb}
 use Rattle.graph.specs.Groups.{component}
 use Rattle.forest.specs.declared.Shape.{Shape}
-use Rattle.forest.specs.Promise.{networkIn}
+use Rattle.forest.specs.Promise.{stateOf, networkIn}
 use Rattle.reading.specs.declared.read.Order.{Order}
 use Rattle.reading.specs.declared.read.Order.the-variants as O
 
@@ -24,6 +24,9 @@ pairRefusal shape a b = firstOf (cabinetRefusal shape a) (cabinetRefusal shape b
 
 unfoldable pub differentRefusal : Shape → ℕ → ℕ → ℕ
 differentRefusal shape a b = firstOf (pairRefusal shape a b) (cond (eqb a b) 8 0)
+
+unfoldable pub exchangeRefusal : Shape → List ℕ → ℕ → ℕ
+exchangeRefusal shape t a = firstOf (cabinetRefusal shape a) (cond (stateOf shape t .marked a) 12 0)
 
 unfoldable pub newCabinetRefusal : Shape → ℕ
 newCabinetRefusal shape = cond (leb (shape .limits .vertices) (shape .vertices)) 9 0
@@ -44,3 +47,6 @@ judgement shape t (O.SharedMesh a b) = differentRefusal shape (a .0) (b .0)
 judgement shape t (O.SoleSpans a b) = districtRefusal shape t (a .0) (b .0)
 judgement shape t (O.CutCabinets a b) = districtRefusal shape t (a .0) (b .0)
 judgement shape t (O.IsSole s) = spanRefusal shape (s .0)
+judgement shape t (O.MarkExchange a) = exchangeRefusal shape t (a .0)
+judgement shape t (O.HoldsExchange a) = cabinetRefusal shape (a .0)
+judgement shape t O.ExchangeShare = 0

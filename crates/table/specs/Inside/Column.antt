@@ -23,12 +23,16 @@ changed = 2
 abbrev pub size : ℕ
 size = 3
 
+-- Of bridge-blocks besides: by a name, how many of its group's vertices are marked.
+abbrev pub markCount : ℕ
+markCount = 4
+
 -- How many columns components have, bridge-blocks, and blocks.
 abbrev pub perComponent : ℕ
 perComponent = 4
 
 abbrev pub perBridgeBlock : ℕ
-perBridgeBlock = 4
+perBridgeBlock = 5
 
 abbrev pub perBlock : ℕ
 perBlock = 4
@@ -44,7 +48,8 @@ ends = perBlock
 abbrev pub top : ℕ
 top = ends + 1
 
--- The other columns of the vertices, behind those of bridge-blocks: the way up, the depth, the path's vertices and edges, and those of its right side.
+-- The other columns of the vertices, behind those of bridge-blocks: the way up, the depth, the path's vertices and edges, those of its right
+-- side, and whether the vertex is marked.
 abbrev pub up : ℕ
 up = ofBridgeBlocks perBridgeBlock
 
@@ -62,3 +67,6 @@ rightVertex = up + 4
 
 abbrev pub rightEdge : ℕ
 rightEdge = up + 5
+
+abbrev pub mark : ℕ
+mark = up + 6

@@ -41,6 +41,28 @@ cast-write-flag c = search needs
 write-flag-requires : tie.Need-write-flag-requires
 write-flag-requires c κs = search needs
 
+enum-told : tie.Need-enum-told
+enum-told c = search needs
+
+write-code-requires : tie.Need-write-code-requires
+write-code-requires c κs = search needs
+
+enum-known-finding-5 : tie.Need-enum-known-finding-5
+enum-known-finding-5 c = search needs
+
+cast-write-flag-2 : tie.Need-cast-write-flag-2
+cast-write-flag-2 c = search needs
+
+write-flag-requires-2 : tie.Need-write-flag-requires-2
+write-flag-requires-2 c κs = search needs
+
+enum-known-finding-6 : tie.Need-enum-known-finding-6
+enum-known-finding-6 c = search needs
+
+write-number-requires : tie.Need-write-number-requires
+unfolding findingSize
+write-number-requires c κs = let s = c .before .before .before .before .before .before in rw (c .before .before .finding6 .given .1) at (s .pre)
+
 same-length : tie.Need-same-length
 same-length c = search needs
 
@@ -80,6 +102,33 @@ returns-4 c =
     let at-write-flag = c .before .before in
     rw (at-write-flag .before .before .before .finding4 .given .1, ← flag-byte _) (at-write-flag .write-flag .ensures)
 
+same-length-5 : tie.Need-same-length-5
+same-length-5 c = search needs
+
+returns-5 : tie.Need-returns-5
+unfolding findingAnswer answerBytes answerFields plainFields fieldsBytes fieldBytes
+returns-5 c =
+    let at-write-code = c .before .before in
+    rw (at-write-code .before .before .enum-told .given .1) (at-write-code .write-code .ensures)
+
+same-length-6 : tie.Need-same-length-6
+same-length-6 c = search needs
+
+returns-6 : tie.Need-returns-6
+unfolding findingAnswer answerBytes answerFields plainFields fieldsBytes fieldBytes twoBytes
+returns-6 c =
+    let at-write-flag2 = c .before .before in
+    rw (at-write-flag2 .before .before .before .finding5 .given .1, ← flag-byte _) (at-write-flag2 .write-flag2 .ensures)
+
+same-length-7 : tie.Need-same-length-7
+same-length-7 c = search needs
+
+returns-7 : tie.Need-returns-7
+unfolding findingAnswer answerBytes answerFields plainFields fieldsBytes fieldBytes twoBytes
+returns-7 c =
+    let at-write-number = c .before .before in
+    rw (at-write-number .before .before .before .finding6 .given .1) (at-write-number .write-number .ensures)
+
 pub write-finding-spec : {M : Type 1} → statement M
 write-finding-spec =
     tie.close
@@ -94,6 +143,13 @@ write-finding-spec =
     enum-known-finding-4
     cast-write-flag
     write-flag-requires
+    enum-told
+    write-code-requires
+    enum-known-finding-5
+    cast-write-flag-2
+    write-flag-requires-2
+    enum-known-finding-6
+    write-number-requires
     same-length
     returns
     same-length-2
@@ -101,4 +157,10 @@ write-finding-spec =
     same-length-3
     returns-3
     same-length-4
-    returns-4)
+    returns-4
+    same-length-5
+    returns-5
+    same-length-6
+    returns-6
+    same-length-7
+    returns-7)

@@ -1,4 +1,4 @@
--- `tree::grow_vertex` makes a vertex a component, a bridge-block and a root: the steps of the code are those of `vertexTable`.
+-- `tree::grow_vertex` makes a vertex a component, a bridge-block and a root, not marked: the steps of the code are those of `vertexTable`.
 use borrow.Author.Needs.{needs}
 use Rattle.forest.specs.Inside.Tree.{vertexTable}
 use Rattle.forest.proofs.tree.grow_vertex.Statement.{statement}
@@ -28,13 +28,17 @@ vertex-area-requires-3 c κs = search needs
 set-word-requires-2 : tie.Need-set-word-requires-2
 set-word-requires-2 c κs = search needs
 
+new-marks-requires : tie.Need-new-marks-requires
+new-marks-requires c κs = search needs
+
 same-length : tie.Need-same-length
 same-length c = search needs
 
 returns : tie.Need-returns
 unfolding vertexTable
 returns c =
-    let at-set-word2 = c .before .before in
+    let at-new-marks = c .before .before in
+    let at-set-word2 = at-new-marks .before .before .before .before in
     let at-vertex-area3 = at-set-word2 .before in
     let at-set-word = at-vertex-area3 .before .before .before .before in
     let at-vertex-area2 = at-set-word .before in
@@ -43,6 +47,7 @@ returns c =
     let at-new-group = at-bridge-block-area .before .before .before .before in
     let at-vertex-area = at-new-group .before in
     rw (
+      at-new-marks .new-marks .ensures,
       at-set-word2 .set-word2 .ensures,
       at-set-word .set-word .ensures,
       at-new-group2 .new-group2 .ensures,
@@ -65,5 +70,6 @@ grow-vertex-spec =
     set-word-requires
     vertex-area-requires-3
     set-word-requires-2
+    new-marks-requires
     same-length
     returns)

@@ -5,7 +5,7 @@ use Prim.Native.Nat.{_+_}
 use native.Mathlib.Omega.{arith}
 use lib.ListN.{getD, drop}
 use Rattle.commands.specs.Command.{forms, form}
-use Rattle.reading.specs.Inside.Reads.{formWidth, passingOf, passOver}
+use Rattle.reading.specs.Inside.Reads.{formWidth, entryWidth, passingOf, passOver}
 use Rattle.reading.proofs.ReadSteps.{read-unknown, passed-whole, widths-are}
 use borrow.Author.Needs.{needs}
 use Rattle.reading.proofs.read.pass_at.Statement.{statement}
@@ -18,7 +18,7 @@ add-pass-over : tie.Need-add-pass-over
 add-pass-over c = search needs
 
 pass-over-requires : tie.Need-pass-over-requires
-unfolding form forms formWidth
+unfolding form forms formWidth entryWidth
 pass-over-requires c κs = (rw (c .match .keys2) refl, omega arith)
 
 cast-i : tie.Need-cast-i
@@ -27,16 +27,13 @@ cast-i c = search needs
 add-pass-over-2 : tie.Need-add-pass-over-2
 add-pass-over-2 c = search needs
 
-mul-pass-over : tie.Need-mul-pass-over
-mul-pass-over c = search needs
-
 array-read-pass-over : tie.Need-array-read-pass-over
 array-read-pass-over c = search needs
 
 pass-over-requires-2 : tie.Need-pass-over-requires-2
 pass-over-requires-2 c κs =
     let s = c .before .before .before .before .before in
-    (widths-are (getD (s .args .journal .now) (s .args .at) 0) (omega arith) (omega arith), omega arith)
+    (widths-are (getD (s .args .journal .now) (s .args .at) 0) (omega arith), omega arith)
 
 returns : tie.Need-returns
 unfolding form forms formWidth passingOf
@@ -56,14 +53,14 @@ unfolding passingOf passOver
 returns-4 c =
     let a = c .before .before .before .before .args in
     let byte = getD (a .journal .now) (a .at) 0 in
-    sym (ap (passOver byte) (read-unknown byte (drop (a .at + 1) (a .journal .now)) (inl (omega arith))))
+    sym (ap (passOver byte) (read-unknown byte (drop (a .at + 1) (a .journal .now)) (inl (omega arith)) (λ e. omega arith)))
 
 returns-5 : tie.Need-returns-5
 unfolding passingOf passOver
 returns-5 c =
     let a = c .before .before .before .before .before .args in
     let byte = getD (a .journal .now) (a .at) 0 in
-    sym (ap (passOver byte) (read-unknown byte (drop (a .at + 1) (a .journal .now)) (inr (omega arith))))
+    sym (ap (passOver byte) (read-unknown byte (drop (a .at + 1) (a .journal .now)) (inr (omega arith)) (λ e. omega arith)))
 
 pub pass-at-spec : {M : Type 1} → statement M
 pass-at-spec =
@@ -74,7 +71,6 @@ pass-at-spec =
     pass-over-requires
     cast-i
     add-pass-over-2
-    mul-pass-over
     array-read-pass-over
     pass-over-requires-2
     returns

@@ -5,7 +5,7 @@ use Prim.Native.Nat.{_+_}
 use native.Mathlib.Omega.{arith}
 use borrow.Author.Needs.{needs}
 use lib.ListN.{getD, drop}
-use Rattle.commands.specs.Command.{addCabinet, forms, form}
+use Rattle.commands.specs.Command.{addCabinet, exchangeShare, forms, form}
 use Rattle.reading.specs.Inside.Reads.{meaning, readingOf, made}
 use Rattle.reading.proofs.ReadSteps.{one-of-two, one-of-three, read-operands, read-unknown}
 use Rattle.reading.proofs.read.take_at.Statement.{statement}
@@ -18,13 +18,16 @@ add-take-one : tie.Need-add-take-one
 add-take-one c = search needs
 
 take-one-requires : tie.Need-take-one-requires
-take-one-requires c κs = (
-  ⊎-elim
-      (λ w. inr (inr (w .keys3)))
-      (λ w. ⊎-elim inl (λ e. inr (inl e)) (one-of-two 3 _ (omega (arith, w .1 .left, w .0 .rest .0 .0 .1, w .0 .rest .0 .1)) (w .2 .taken)))
-      (c .match .came),
-  omega arith,
-)
+take-one-requires c κs =
+    let rest = c .before .before .match .rest in
+    let a = c .before .before .before .before .before .args in
+    let byte = getD (a .journal .now) (a .at) 0 in (
+      ⊎-elim
+          (λ w. ⊎-elim inl (λ e. inr (inl e)) (one-of-two 3 byte (omega (arith, c .before .if1 .left, rest .0 .0 .1, rest .0 .1)) (omega (arith, w .taken))))
+          (λ w. inr (inr (one-of-three 8 byte (omega (arith, w .1 .left)) (omega (arith, w .2 .taken)))))
+          (c .if2 .came),
+      omega arith,
+    )
 
 add-take-two : tie.Need-add-take-two
 add-take-two c = search needs
@@ -41,24 +44,35 @@ returns c =
     (read-operands (getD (a .journal .now) (a .at) 0) (drop (a .at + 1) (a .journal .now)) 0 addCabinet (rw (c .match .keys1) refl) (omega arith))
 
 returns-2 : tie.Need-returns-2
-unfolding readingOf
+unfolding forms form made readingOf meaning
 returns-2 c =
-    let a = c .before .before .before .before .args in
-    sym (read-unknown (getD (a .journal .now) (a .at) 0) (drop (a .at + 1) (a .journal .now)) (inl (c .if1 .taken)))
+    let a = c .before .before .before .args in
+    sym
+    (read-operands (getD (a .journal .now) (a .at) 0) (drop (a .at + 1) (a .journal .now)) 0 exchangeShare (rw (c .match .keys3) refl) (omega arith))
 
 returns-3 : tie.Need-returns-3
-unfolding readingOf
-returns-3 c =
-    let rest = c .before .before .before in
-    let a = rest .before .before .before .args in
-    sym (read-unknown (getD (a .journal .now) (a .at) 0) (drop (a .at + 1) (a .journal .now))
-    (inr (omega (arith, c .if3 .left, rest .match .rest .1))))
+returns-3 c = search needs
 
 returns-4 : tie.Need-returns-4
-returns-4 c = search needs
+unfolding readingOf
+returns-4 c =
+    let rest = c .before in
+    let a = rest .before .before .before .args in
+    sym
+    (read-unknown (getD (a .journal .now) (a .at) 0) (drop (a .at + 1) (a .journal .now)) (inl (c .if1 .taken)) (rest .match .rest .1))
 
 returns-5 : tie.Need-returns-5
-returns-5 c = search needs
+unfolding readingOf
+returns-5 c =
+    let rest = c .before .before .before .before in
+    let a = rest .before .before .before .args in
+    sym
+    (read-unknown (getD (a .journal .now) (a .at) 0) (drop (a .at + 1) (a .journal .now))
+    (inr (omega (arith, c .if4 .left)))
+    (rest .match .rest .1))
+
+returns-6 : tie.Need-returns-6
+returns-6 c = search needs
 
 pub take-at-spec : {M : Type 1} → statement M
 take-at-spec =
@@ -73,4 +87,5 @@ take-at-spec =
     returns-2
     returns-3
     returns-4
-    returns-5)
+    returns-5
+    returns-6)

@@ -2,7 +2,7 @@
 use Rattle.reading.specs.Inside.Reads.{meaning}
 use Rattle.step.specs.Inside.Judged.{judgement}
 use Rattle.step.specs.Inside.Asked.{asksName}
-use Rattle.step.proofs.Judgements.{cabinet-passes, span-passes, new-cabinet-passes, pair-passes, different-passes, new-span-passes, district-passes}
+use Rattle.step.proofs.Judgements.{cabinet-passes, exchange-passes, span-passes, new-cabinet-passes, pair-passes, different-passes, new-span-passes, district-passes}
 use borrow.Author.Needs.{needs}
 use Rattle.step.proofs.carry.carry_out.Statement.{statement}
 use Rattle.step.proofs.carry.carry_out.Tie as tie
@@ -95,6 +95,33 @@ is-sole-requires c κs =
     let passed = rw (c .before .before .order7 .given .1) at (s .pre .1) in
     (s .pre .0, span-passes (s .args .shape) _ passed)
 
+enum-known-order-8 : tie.Need-enum-known-order-8
+enum-known-order-8 c = search needs
+
+mark-exchange-requires : tie.Need-mark-exchange-requires
+unfolding judgement
+mark-exchange-requires c κs =
+    let s = c .before .before .before .before .before in
+    let passed = rw (c .before .before .order8 .given .1) at (s .pre .1) in
+    let both = exchange-passes (s .args .shape) (s .args .t .now) _ passed in
+    (s .pre .0, both .0, both .1)
+
+enum-known-order-9 : tie.Need-enum-known-order-9
+enum-known-order-9 c = search needs
+
+holds-exchange-requires : tie.Need-holds-exchange-requires
+unfolding judgement
+holds-exchange-requires c κs =
+    let s = c .before .before .before .before .before in
+    let passed = rw (c .before .before .order9 .given .1) at (s .pre .1) in
+    (s .pre .0, cabinet-passes (s .args .shape) _ passed)
+
+enum-told-2 : tie.Need-enum-told-2
+enum-told-2 c = search needs
+
+exchange-share-requires : tie.Need-exchange-share-requires
+exchange-share-requires c κs = let s = c .before .before .before .before in s .pre .0
+
 same-length : tie.Need-same-length
 same-length c = search needs
 
@@ -151,6 +178,27 @@ returns-8 : tie.Need-returns-8
 unfolding meaning
 returns-8 c = rw (c .before .before .before .order7 .given .1) (c .is-sole .ensures)
 
+same-length-9 : tie.Need-same-length-9
+same-length-9 c = search needs
+
+returns-9 : tie.Need-returns-9
+unfolding meaning
+returns-9 c = let at-mark-exchange = c .before .before in rw (at-mark-exchange .before .before .before .order8 .given .1) (at-mark-exchange .mark-exchange .ensures)
+
+same-length-10 : tie.Need-same-length-10
+same-length-10 c = search needs
+
+returns-10 : tie.Need-returns-10
+unfolding meaning
+returns-10 c = rw (c .before .before .before .order9 .given .1) (c .holds-exchange .ensures)
+
+same-length-11 : tie.Need-same-length-11
+same-length-11 c = search needs
+
+returns-11 : tie.Need-returns-11
+unfolding meaning
+returns-11 c = rw (c .before .before .enum-told2 .given .1) (c .exchange-share .ensures)
+
 pub carry-out-spec : {M : Type 1} → statement M
 carry-out-spec =
     tie.close
@@ -171,6 +219,12 @@ carry-out-spec =
     cut-cabinets-requires
     enum-known-order-7
     is-sole-requires
+    enum-known-order-8
+    mark-exchange-requires
+    enum-known-order-9
+    holds-exchange-requires
+    enum-told-2
+    exchange-share-requires
     same-length
     returns
     same-length-2
@@ -186,4 +240,10 @@ carry-out-spec =
     same-length-7
     returns-7
     same-length-8
-    returns-8)
+    returns-8
+    same-length-9
+    returns-9
+    same-length-10
+    returns-10
+    same-length-11
+    returns-11)

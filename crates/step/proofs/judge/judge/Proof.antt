@@ -52,6 +52,21 @@ enum-known-order-7 c = search needs
 span-refusal-requires : tie.Need-span-refusal-requires
 span-refusal-requires c κs = search needs
 
+enum-known-order-8 : tie.Need-enum-known-order-8
+enum-known-order-8 c = search needs
+
+exchange-refusal-requires : tie.Need-exchange-refusal-requires
+exchange-refusal-requires c κs = search needs
+
+enum-known-order-9 : tie.Need-enum-known-order-9
+enum-known-order-9 c = search needs
+
+cabinet-refusal-requires-3 : tie.Need-cabinet-refusal-requires-3
+cabinet-refusal-requires-3 c κs = search needs
+
+enum-told-2 : tie.Need-enum-told-2
+enum-told-2 c = search needs
+
 returns : tie.Need-returns
 unfolding judgement
 returns c = rw (c .before .enum-told .given .1) (c .new-cabinet-refusal .ensures)
@@ -84,6 +99,18 @@ returns-8 : tie.Need-returns-8
 unfolding judgement
 returns-8 c = rw (c .before .before .order7 .given .1) (c .span-refusal .ensures)
 
+returns-9 : tie.Need-returns-9
+unfolding judgement
+returns-9 c = rw (c .before .before .order8 .given .1) (c .exchange-refusal .ensures)
+
+returns-10 : tie.Need-returns-10
+unfolding judgement
+returns-10 c = rw (c .before .before .order9 .given .1) (c .cabinet-refusal3 .ensures)
+
+returns-11 : tie.Need-returns-11
+unfolding judgement
+returns-11 c = rw (c .enum-told2 .given .1)
+
 pub judge-spec : {M : Type 1} → statement M
 judge-spec =
     tie.close
@@ -104,6 +131,11 @@ judge-spec =
     district-refusal-requires-2
     enum-known-order-7
     span-refusal-requires
+    enum-known-order-8
+    exchange-refusal-requires
+    enum-known-order-9
+    cabinet-refusal-requires-3
+    enum-told-2
     returns
     returns-2
     returns-3
@@ -111,4 +143,7 @@ judge-spec =
     returns-5
     returns-6
     returns-7
-    returns-8)
+    returns-8
+    returns-9
+    returns-10
+    returns-11)

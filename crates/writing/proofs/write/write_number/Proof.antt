@@ -1,8 +1,8 @@
--- `write::write_cabinet` writes an answer of a byte and a cabinet.
+-- `write::write_number` writes an answer of a byte and a number.
 use Rattle.commands.specs.Bytes.{twoBytes}
 use borrow.Author.Needs.{needs}
-use Rattle.writing.proofs.write.write_cabinet.Statement.{statement}
-use Rattle.writing.proofs.write.write_cabinet.Tie as tie
+use Rattle.writing.proofs.write.write_number.Statement.{statement}
+use Rattle.writing.proofs.write.write_number.Tie as tie
 
 put-byte-requires : tie.Need-put-byte-requires
 put-byte-requires c κs = search needs
@@ -20,5 +20,5 @@ returns c =
     let at-put-byte = at-put-two .before .before .before .before in
     rw (at-put-two .put-two .ensures, at-put-byte .put-byte .ensures)
 
-pub write-cabinet-spec : {M : Type 1} → statement M
-write-cabinet-spec = tie.close (tie.spec put-byte-requires put-two-requires same-length returns)
+pub write-number-spec : {M : Type 1} → statement M
+write-number-spec = tie.close (tie.spec put-byte-requires put-two-requires same-length returns)
