@@ -48,16 +48,35 @@ enum {
     REGISTER_SHORT_BUFFER = 2, /* working table or report too short */
     REGISTER_LONG_JOURNAL = 3, /* journal longer than 65,536 bytes */
     /* Stopped at a command. From a run: the report is filled, the answers before it stand. */
-    REGISTER_BAD_COMMAND = 4,       /* a byte that is no command's: not 01 to 0A, nor 0F */
+    REGISTER_BAD_COMMAND = 4,       /* a byte that is no command's: not 01 to 0B, nor 0F */
     REGISTER_CUT_OFF = 5,           /* operands cut off by the journal's end */
     REGISTER_UNKNOWN_CABINET = 6,   /* a cabinet number not yet given */
     REGISTER_UNKNOWN_SPAN = 7,      /* a span number not yet given */
-    REGISTER_EQUAL_CABINETS = 8,    /* 02 or 05 with equal cabinets */
+    REGISTER_EQUAL_CABINETS = 8,    /* 02, 05 or 0B with equal cabinets */
     REGISTER_ALREADY_EXCHANGE = 12, /* 09 with a cabinet that is already an exchange */
-    REGISTER_FULL = 9,              /* 01 with c cabinets present, or 02 with s spans */
+    REGISTER_NO_DUCT = 13,          /* 0B with duct 0 */
+    REGISTER_FULL = 9,              /* 01 with c cabinets present, or 02 or 0B with s spans */
     REGISTER_ACROSS_DISTRICTS = 10, /* 06 or 07 across districts */
     REGISTER_NO_ROOM = 11           /* the answer is longer than what is left of the answers */
 };
+
+/*
+ * Spans in ducts. Command 0B a b d, with operands of two bytes each, adds a span between a and b in
+ * duct d. It is answered by 82, as 02 is; no answer begins with 8B.
+ *
+ * Spans of one duct between the same two cabinets, in either direction, are mates. A span from 02 has
+ * no mate, and the same duct between other cabinets means nothing. To lose a span is to lose its mates
+ * with it, so mates do not protect each other:
+ *
+ * rings     Two cabinets share a ring exactly if they share a district, and no loss of one span with
+ *           its mates parts them.
+ * meshes    Two spans share a mesh exactly if they are mates, or some simple cycle holds both. Such a
+ *           cycle uses at most one of a set of mates: two spans between one pair are a cycle unless
+ *           they are mates. The size of a mesh counts single spans.
+ * 06 a b    lists every set of mates whose loss parts a and b, once and by its least number, in the
+ *           order in which they are met from a to b. A span without mates is a set by itself.
+ * 08 s      answers 1 exactly if the loss of s with its mates parts its two ends, else 0.
+ */
 
 /*
  * Runs a journal.
@@ -79,7 +98,7 @@ enum {
  *
  * REGISTER_STACK bytes of stack must be there.
  *
- * Returns 0 if the whole journal was accepted, else the number of the refusal, 1 to 12.
+ * Returns 0 if the whole journal was accepted, else the number of the refusal, 1 to 13.
  */
 uint32_t register_run(uint32_t c, uint32_t s,
                       const uint8_t *journal, size_t journal_len,

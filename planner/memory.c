@@ -28,7 +28,8 @@
 #include <sys/mman.h>
 #include <unistd.h>
 
-enum { SMALL_CABINETS = 24, SMALL_COMMANDS = 80, MOST_ROOM = 1 << 21, MOST_CUT = 5 };
+enum { SMALL_CABINETS = 24, SMALL_COMMANDS = 80, MOST_ROOM = 1 << 21, MOST_CUT = 6 };
+enum { LINKS_IN_DUCTS = 1000 };
 enum { LONGEST = REGISTER_LONGEST_JOURNAL, TOO_LONG = LONGEST + 1, FAR_TOO_LONG = 2 * LONGEST };
 
 /* ---- The journal ---- */
@@ -38,6 +39,11 @@ static size_t journal_length;
 static unsigned cabinets, spans;
 static uint8_t exchange[REGISTER_MOST_CABINETS];
 static uint64_t random_state;
+
+/* The tree that a small journal begins with: for each of its cabinets but the first a lesser one that
+   it is linked to. */
+static unsigned linked_to[SMALL_CABINETS + 2];
+static unsigned linked;
 
 /* The journal's place among all, and whether its buffers lie between fences. */
 static unsigned journal_number;
@@ -63,7 +69,14 @@ static void command(unsigned byte, unsigned operands, unsigned a, unsigned b)
         put(values[i] & 0xFF);
     }
     cabinets += byte == 0x01;
-    spans += byte == 0x02;
+    spans += byte == 0x02 || byte == 0x0B;
+}
+
+static void add_in_duct(unsigned a, unsigned b, unsigned duct)
+{
+    command(0x0B, 2, a, b);
+    put(duct >> 8);
+    put(duct & 0xFF);
 }
 
 static void start_journal(unsigned seed)
@@ -82,13 +95,20 @@ static void mark(unsigned cabinet)
     exchange[cabinet] = 1;
 }
 
+/* A span beside a link of the tree: in duct 1, where its mates are, or now and then in another. */
+static void add_beside_link(void)
+{
+    unsigned cabinet = 1 + below(linked - 1);
+    add_in_duct(linked_to[cabinet], cabinet, below(4) == 0 ? 2 : 1);
+}
+
 /* A command whose operands are known, but for one in a hundred. */
 static void any_command(void)
 {
     unsigned a = below(cabinets), b = (a + 1 + below(cabinets - 1)) % cabinets;
     if (below(100) == 0)
         b = below(2) == 0 ? a : cabinets;
-    switch (below(35)) {
+    switch (below(45)) {
     case 0: command(0x01, 0, 0, 0); break;
     case 1: command(0x08, 1, below(spans), 0); break;
     case 2: command(0x03, 1, a, 0); break;
@@ -99,6 +119,8 @@ static void any_command(void)
     case 10: case 11: mark(a); break;
     case 12: case 13: command(0x0A, 1, b, 0); break;
     case 14: command(0x0F, 0, 0, 0); break;
+    case 15: case 16: add_in_duct(a, b, below(20) == 0 ? 0 : 0xFFFF); break;
+    case 17: case 18: case 19: case 20: case 21: case 22: case 23: case 24: add_beside_link(); break;
     default: command(0x02, 2, a, b);
     }
 }
@@ -109,9 +131,15 @@ static void small_journal(unsigned seed)
     unsigned first = 2 + below(SMALL_CABINETS);
     while (cabinets < first)
         command(0x01, 0, 0, 0);
-    /* A tree first, so that 06 and 07 find their two cabinets in one district. */
-    for (unsigned i = 1; i < first; i++)
-        command(0x02, 2, i, below(i));
+    /* A tree first, so that 06 and 07 find their two cabinets in one district; every other link of it
+       is in duct 1. */
+    for (linked = 1; linked < first; linked++) {
+        linked_to[linked] = below(linked);
+        if (linked % 2 == 0)
+            command(0x02, 2, linked, linked_to[linked]);
+        else
+            add_in_duct(linked, linked_to[linked], 1);
+    }
     for (unsigned i = below(SMALL_COMMANDS); i > 0; i--)
         any_command();
     if (below(10) == 0)
@@ -127,16 +155,21 @@ static void ask_exchanges(void)
         command(0x0F, 0, 0, 0);
 }
 
-/* All cabinets in a chain, exchanges in it, its lists, the span that closes it, spans until there are
-   no more, and questions until the journal is as long as it may be. */
+/* All cabinets in a chain, the first links of it in ducts and with mates; exchanges in it, its lists,
+   the span that closes it, spans until there are no more, and questions until the journal is as long
+   as it may be. */
 static void large_journal(void)
 {
     unsigned most = REGISTER_MOST_CABINETS;
     start_journal(1);
     while (cabinets < most)
         command(0x01, 0, 0, 0);
-    for (unsigned i = 1; i < most; i++)
+    for (unsigned i = 1; i <= LINKS_IN_DUCTS; i++)
+        add_in_duct(i - 1, i, i);
+    for (unsigned i = LINKS_IN_DUCTS + 1; i < most; i++)
         command(0x02, 2, i - 1, i);
+    for (unsigned i = 1; i <= LINKS_IN_DUCTS; i++)
+        add_in_duct(i, i - 1, i);
     for (unsigned i = 0; i < 100; i++)
         command(0x09, 1, 8 * i, 0);
     ask_exchanges();
@@ -471,11 +504,16 @@ static int forecast_longest(void)
 {
     const struct forecast all = {REGISTER_ACCEPTED, LONGEST, 10682368};
     const struct forecast shares = {REGISTER_ACCEPTED, LONGEST, 196608};
+    const struct forecast in_ducts = {REGISTER_ACCEPTED, LONGEST - 2, 674064};
+    const struct forecast cut_in_duct = {REGISTER_CUT_OFF, LONGEST - 2, 0};
     const struct forecast cut_off = {REGISTER_CUT_OFF, LONGEST - 1, 0};
     const struct forecast unknown = {REGISTER_BAD_COMMAND, LONGEST - 1, 0};
     const struct forecast too_long = {REGISTER_LONG_JOURNAL, 0, 0};
     memset(journal, 0x0F, sizeof journal);
     if (!forecasts(LONGEST, shares) || !forecasts(TOO_LONG, too_long))
+        return 0;
+    memset(journal, 0x0B, sizeof journal);
+    if (!forecasts(LONGEST - 2, in_ducts) || !forecasts(LONGEST, cut_in_duct))
         return 0;
     memset(journal, 0x01, sizeof journal);
     if (!forecasts(LONGEST, all) || !forecasts(TOO_LONG, too_long)

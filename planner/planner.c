@@ -1,10 +1,12 @@
 /*
  * A small shift planner. It writes a journal, sets aside as much room for the answers as the register
  * forecasts, has the journal run by the register in one call with its own buffers, and reads the
- * answers. It keeps a name for each cabinet and span from the notices alone, and a mark for each
- * exchange that it entered (09). It holds each name that it asked for (03, 04 and 05) against its
- * own, each new number against the next one, and what is answered about exchanges (0A and 0F) against
- * its own marks and ring names. It prints the names, and exits with 1 if any two differ.
+ * answers. It keeps a name for each cabinet and span from the notices alone, a mark for each exchange
+ * that it entered (09), and the spans that it entered (02 and 0B). It holds each name that it asked
+ * for (03, 04 and 05) against its own, each new number against the next one, what is answered about
+ * exchanges (0A and 0F) against its own marks and ring names, and what is answered about sole spans
+ * (06 and 08) against its own spans and ring names. It prints the names, and exits with 1 if any two
+ * differ.
  */
 #include "register.h"
 
@@ -21,8 +23,8 @@ static uint8_t *answers;
 static uint32_t answers_length;
 static uint32_t report[REGISTER_REPORT];
 
-/* The spans as entered, for reading the answers to 05. */
-static unsigned ends[SPANS][2];
+/* The spans as entered, for reading the answers to 05, 06 and 08. Those from 02 have duct 0. */
+static unsigned ends[SPANS][2], duct[SPANS];
 static size_t spans_entered;
 
 /* ---- Writing the journal ---- */
@@ -43,14 +45,29 @@ static void add_cabinet(void)
     put_byte(0x01);
 }
 
+static void enter_span(unsigned a, unsigned b, unsigned d)
+{
+    ends[spans_entered][0] = a;
+    ends[spans_entered][1] = b;
+    duct[spans_entered] = d;
+    spans_entered++;
+}
+
 static void add_span(unsigned a, unsigned b)
 {
     put_byte(0x02);
     put_operand(a);
     put_operand(b);
-    ends[spans_entered][0] = a;
-    ends[spans_entered][1] = b;
-    spans_entered++;
+    enter_span(a, b, 0);
+}
+
+static void add_in_duct(unsigned a, unsigned b, unsigned d)
+{
+    put_byte(0x0B);
+    put_operand(a);
+    put_operand(b);
+    put_operand(d);
+    enter_span(a, b, d);
 }
 
 static void ask_names(unsigned cabinet)
@@ -64,6 +81,19 @@ static void ask_names(unsigned cabinet)
 static void ask_mesh(size_t span)
 {
     put_byte(0x05);
+    put_operand(ends[span][0]);
+    put_operand(ends[span][1]);
+}
+
+static void ask_sole(size_t span)
+{
+    put_byte(0x08);
+    put_operand((unsigned)span);
+}
+
+static void ask_sole_list(size_t span)
+{
+    put_byte(0x06);
     put_operand(ends[span][0]);
     put_operand(ends[span][1]);
 }
@@ -85,22 +115,25 @@ static void ask_share(void)
     put_byte(0x0F);
 }
 
-/* Asks for every name there is, which rings hold an exchange, and the share. */
+/* Asks for every name there is, which spans are sole, which rings hold an exchange, and the share. */
 static void ask_all(unsigned cabinets)
 {
     for (unsigned cabinet = 0; cabinet < cabinets; cabinet++) {
         ask_names(cabinet);
         ask_exchange(cabinet);
     }
-    for (size_t span = 0; span < spans_entered; span++)
+    for (size_t span = 0; span < spans_entered; span++) {
         ask_mesh(span);
+        ask_sole(span);
+        ask_sole_list(span);
+    }
     ask_share();
 }
 
 /* Villages of three cabinets, each closed to a ring, every other one with an exchange; then the
-   villages one after the other in a great loop, whose last span makes all their rings one: a join of
-   equal sizes. The last cabinet stays by itself, so that a share can need rounding. The first question
-   is about an empty network. */
+   villages one after the other in a great loop. Each link of it is two spans in one duct, which
+   protect nothing; the last makes all the rings one: a join of equal sizes. The last cabinet stays by
+   itself, so that a share can need rounding. The first question is about an empty network. */
 static void write_journal(unsigned villages)
 {
     unsigned cabinets = 3 * villages + 1;
@@ -117,7 +150,10 @@ static void write_journal(unsigned villages)
         ask_all(cabinets);
     }
     for (unsigned village = 0; village < villages; village++) {
-        add_span(3 * village + 1, 3 * ((village + 1) % villages));
+        unsigned here = 3 * village + 1, there = 3 * ((village + 1) % villages);
+        add_in_duct(here, there, 5);
+        ask_all(cabinets);
+        add_in_duct(there, here, 5);
         ask_all(cabinets);
     }
 }
@@ -209,7 +245,25 @@ static void read_notice(const uint8_t *at)
     notices_read++;
 }
 
-static void read_span(void)
+/* Do two spans join the same two cabinets, in either direction? */
+static int beside(size_t one, size_t other)
+{
+    return (ends[one][0] == ends[other][0] && ends[one][1] == ends[other][1])
+        || (ends[one][0] == ends[other][1] && ends[one][1] == ends[other][0]);
+}
+
+/* The least of a span and its mates. */
+static size_t least_mate(size_t span)
+{
+    for (size_t other = 0; other < span; other++)
+        if (duct[span] != 0 && duct[other] == duct[span] && beside(other, span))
+            return other;
+    return span;
+}
+
+/* The answer to 02, of 5 bytes, and to 0B, of 7. Mates share a mesh, and protect nothing: a span with
+   a lesser mate changes no name. */
+static void read_span(size_t command_length)
 {
     const uint8_t *answer = answers + answered_at;
     unsigned number = two_bytes(answer + 1), count = two_bytes(answer + 5);
@@ -218,7 +272,10 @@ static void read_span(void)
     spans_known = number + 1;
     for (unsigned i = 0; i < count; i++)
         read_notice(answer + 7 + 5 * i);
-    asked_at += 5;
+    hold("mesh of the mates of", number, mesh[number], mesh[least_mate(number)]);
+    if (least_mate(number) != number)
+        hold("notices for a mate", number, count, 0);
+    asked_at += command_length;
     answered_at += 7 + 5 * (size_t)count;
 }
 
@@ -246,6 +303,37 @@ static void read_mesh(void)
     }
     asked_at += 5;
     answered_at += 4;
+}
+
+/* A span is sole between its ends exactly if they are in two rings. */
+static unsigned is_sole(size_t span)
+{
+    return ring[ends[span][0]] != ring[ends[span][1]];
+}
+
+static void read_sole(void)
+{
+    unsigned span = two_bytes(journal + asked_at + 1);
+    hold("sole span", span, answers[answered_at + 1], is_sole(span));
+    asked_at += 3;
+    answered_at += 2;
+}
+
+/* Between the two ends of a span its mates are listed by the least, or nothing. */
+static void read_sole_list(void)
+{
+    const uint8_t *answer = answers + answered_at;
+    unsigned a = two_bytes(journal + asked_at + 1), b = two_bytes(journal + asked_at + 3);
+    unsigned count = two_bytes(answer + 1);
+    for (size_t span = 0; span < spans_known; span++) {
+        if (ends[span][0] == a && ends[span][1] == b) {
+            hold("sole spans at the ends of", span, count, is_sole(span));
+            if (count == 1)
+                hold("least mate of", span, two_bytes(answer + 3), (unsigned)least_mate(span));
+        }
+    }
+    asked_at += 5;
+    answered_at += 3 + 2 * (size_t)count;
 }
 
 static void read_mark(void)
@@ -286,17 +374,25 @@ static void read_share(void)
     answered_at += 3;
 }
 
+/* The byte that answers a command: 0B as 02, every other one by its own plus 80. */
+static unsigned answering(unsigned byte)
+{
+    return (byte == 0x0B ? 0x02 : byte) + 0x80;
+}
+
 /* Reads one answer; 0 if its first byte is not the one that answers the command. */
 static int read_answer(void)
 {
-    if (answers[answered_at] != journal[asked_at] + 0x80)
+    if (answers[answered_at] != answering(journal[asked_at]))
         return 0;
     switch (answers[answered_at]) {
     case 0x81: read_cabinet(); return 1;
-    case 0x82: read_span(); return 1;
+    case 0x82: read_span(journal[asked_at] == 0x0B ? 7 : 5); return 1;
     case 0x83: read_name("district", district, asked_district); return 1;
     case 0x84: read_name("ring", ring, asked_ring); return 1;
     case 0x85: read_mesh(); return 1;
+    case 0x86: read_sole_list(); return 1;
+    case 0x88: read_sole(); return 1;
     case 0x89: read_mark(); return 1;
     case 0x8A: read_exchange(); return 1;
     case 0x8F: read_share(); return 1;
@@ -338,7 +434,8 @@ int main(void)
     print_names();
     printf("%u bytes of room were forecast for the answers, %u were taken\n",
            (unsigned)answers_length, (unsigned)report[REGISTER_REPORT_ANSWERS]);
-    printf("%u commands, %u notices read, %u names, numbers and exchanges compared, %u differ\n",
+    printf("%u commands, %u notices read, %u names, numbers, exchanges and sole spans compared, "
+           "%u differ\n",
            (unsigned)report[REGISTER_REPORT_COMMANDS], notices_read, compared, differences);
     return differences != 0 || asked_at != journal_length
         || answered_at != report[REGISTER_REPORT_ANSWERS];

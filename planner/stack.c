@@ -36,11 +36,14 @@ static int failed;
 
 /* ---- The journals ---- */
 
+/* The duct of every span by 0B. */
+enum { DUCT = 5 };
+
 /* A command of so many bytes. */
 static void put(size_t length, unsigned byte, unsigned a, unsigned b)
 {
-    const uint8_t bytes[5] = {(uint8_t)byte, (uint8_t)(a >> 8), (uint8_t)a,
-                              (uint8_t)(b >> 8), (uint8_t)b};
+    const uint8_t bytes[7] = {(uint8_t)byte, (uint8_t)(a >> 8), (uint8_t)a,
+                              (uint8_t)(b >> 8), (uint8_t)b, DUCT >> 8, DUCT & 0xFF};
     memcpy(journal + journal_length, bytes, length);
     journal_length += length;
 }
@@ -48,6 +51,11 @@ static void put(size_t length, unsigned byte, unsigned a, unsigned b)
 static void command(unsigned byte, unsigned a, unsigned b)
 {
     put(5, byte, a, b);
+}
+
+static void add_in_duct(unsigned a, unsigned b)
+{
+    put(7, 0x0B, a, b);
 }
 
 static void add_cabinets(void)
@@ -103,6 +111,17 @@ static void two_chains(void)
     ask_and_close(0, half);
 }
 
+/* A chain in ducts, then a mate beside each link. */
+static void chain_of_mates(void)
+{
+    add_cabinets();
+    for (unsigned i = 1; i < cabinets; i++)
+        add_in_duct(i - 1, i);
+    for (unsigned i = 1; i < cabinets; i++)
+        add_in_duct(i, i - 1);
+    ask_and_close(0, cabinets - 1);
+}
+
 /* ---- The calls ---- */
 
 static size_t untouched(const uint8_t *below)
@@ -121,7 +140,8 @@ static void note(const uint8_t *frame, size_t *most)
         *most = taken;
 }
 
-static void run_one(const char *name, void (*write_journal)(void))
+/* Runs a journal that enters so many spans. */
+static void run_one(const char *name, void (*write_journal)(void), unsigned spans)
 {
     uint8_t here;
     write_journal();
@@ -130,7 +150,7 @@ static void run_one(const char *name, void (*write_journal)(void))
                                    answers, sizeof answers,
                                    report, sizeof report / sizeof report[0]);
     note(&here, &runs_took);
-    if (number != REGISTER_ACCEPTED || report[REGISTER_REPORT_SPANS] != cabinets) {
+    if (number != REGISTER_ACCEPTED || report[REGISTER_REPORT_SPANS] != spans) {
         printf("%s: refused: %u at byte %u\n", name, (unsigned)number,
                (unsigned)report[REGISTER_REPORT_PLACE]);
         failed = 1;
@@ -161,6 +181,8 @@ static void forecast_all(void)
         forecast_one(byte, longest - 1, REGISTER_ACCEPTED);
         forecast_one(byte, longest, REGISTER_CUT_OFF);
     }
+    forecast_one(0x0B, longest - 2, REGISTER_ACCEPTED);
+    forecast_one(0x0B, longest - 1, REGISTER_CUT_OFF);
     forecast_one(0x00, longest, REGISTER_BAD_COMMAND);
     forecast_one(0x01, longest + 1, REGISTER_LONG_JOURNAL);
 }
@@ -169,9 +191,10 @@ static void forecast_all(void)
 static void *call_all(void *unused)
 {
     forecast_all();
-    run_one("chain from the first", chain_from_the_first);
-    run_one("chain from the last", chain_from_the_last);
-    run_one("two chains", two_chains);
+    run_one("chain from the first", chain_from_the_first, cabinets);
+    run_one("chain from the last", chain_from_the_last, cabinets);
+    run_one("two chains", two_chains, cabinets);
+    run_one("chain of mates", chain_of_mates, 2 * cabinets - 1);
     return unused;
 }
 

@@ -15,8 +15,8 @@ const GUARD: usize = 64;
 #[derive(Clone, Copy, Default)]
 pub struct Tally {
     pub journals: usize,
-    /// How often each number from 0 to 12 was returned.
-    pub returned: [usize; 13],
+    /// How often each number from 0 to 13 was returned.
+    pub returned: [usize; 14],
     pub commands: usize,
     pub notices: usize,
     /// How often each number from 0 to 5 was returned by a forecast.

@@ -6,14 +6,8 @@
 
 use crate::cases::{unhex, Case};
 use crate::engine::MOST_CABINETS;
-use crate::histories::{TRIANGLE, TRIANGLE_ANSWERS};
+use crate::histories::{worked_out, Known, Line, TRIANGLE, TRIANGLE_ANSWERS};
 use crate::journals::Writer;
-
-/// Commands, and their answers; none where the command is refused.
-type Line = (&'static str, &'static str);
-
-/// A history: what it is, its lines, and the report, whose first number is the one returned.
-type Known = (&'static str, &'static [Line], [u32; 6]);
 
 const THREE_CABINETS: Line = ("01 01 01", "81 0000 81 0001 81 0002");
 
@@ -22,7 +16,7 @@ const RING_AND_SINGLE: [Line; 2] = [(TRIANGLE, TRIANGLE_ANSWERS), ("01", "81 000
 
 /// Cabinets 0 and 1 in ring 0, cabinets 2 and 3 in ring 2. With the two lines below these are
 /// document 01's spans 0-1, 0-1, 2-3, 2-3, 1-2, 0-3.
-const TWO_RINGS: Line = (
+pub const TWO_RINGS: Line = (
     "01 01 01 01 02 0000 0001 02 0000 0001 02 0002 0003 02 0002 0003",
     "81 0000 81 0001 81 0002 81 0003 \
      82 0000 0000 0001 01 0001 0000 82 0001 0000 0001 02 0001 0000 \
@@ -220,22 +214,14 @@ const OF_4096: [(usize, u16); 6] = [(1, 0), (4, 0), (5, 1), (2048, 500), (4095, 
 
 /// All of them, each with room to the byte and, where a byte is needed, with one byte less.
 pub fn known() -> Vec<Case> {
-    let mut cases = Vec::new();
-    for (label, lines, report) in KNOWN {
-        let journal: Vec<u8> = lines.iter().flat_map(|line| unhex(line.0)).collect();
-        let answers: Vec<u8> = lines.iter().flat_map(|line| unhex(line.1)).collect();
-        let case = |room| Case::with_room(label, 256, 512, journal.clone(), room);
-        let less = answers.len().checked_sub(1);
-        cases.push(case(0).leaves(answers, report));
-        cases.extend(less.map(|room| case(room).returns(11)));
-    }
+    let mut cases = worked_out(&KNOWN);
     cases.push(growing_ring());
     cases.push(shares_of_4096());
     cases
 }
 
 /// A first byte and fields of 2 bytes.
-fn fields(first: u8, values: &[u16]) -> Vec<u8> {
+pub fn fields(first: u8, values: &[u16]) -> Vec<u8> {
     let values = values.iter().flat_map(|value| value.to_be_bytes());
     [first].into_iter().chain(values).collect()
 }

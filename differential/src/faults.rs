@@ -6,6 +6,7 @@ use crate::engine::{work_needed, Call, Engine};
 use crate::kinds::KINDS;
 use crate::second::book::Fault;
 use crate::second::exchanges::Misfeed;
+use crate::second::mates::Misduct;
 use crate::second::Second;
 use std::ops::BitXor;
 
@@ -43,9 +44,9 @@ impl Left<'_> {
         end.filter(|&end| self.behind_answers().is_some_and(|behind| behind < end))
     }
 
-    /// Returns 11 for a refusal with 12 where no room is left.
-    fn room_first(&mut self) {
-        if self.number == 12 && self.behind_answers() == Some(self.call.answers.len()) {
+    /// Returns 11 for a refusal with this number where no room is left.
+    fn room_before(&mut self, number: u32) {
+        if self.number == number && self.behind_answers() == Some(self.call.answers.len()) {
             self.number = 11;
             self.call.report[0] = 11;
         }
@@ -67,9 +68,10 @@ fn change<T: Copy + From<u8> + BitXor<Output = T>>(at: Option<usize>, buffer: &m
 /// What is wrong, and how it is made so.
 type Spoil = (&'static str, fn(&mut Left));
 
-const SPOILS: [Spoil; 18] = [
+const SPOILS: [Spoil; 19] = [
     ("another number returned", |left| left.number += 1),
-    ("11 before 12", |left| left.room_first()),
+    ("11 before 12", |left| left.room_before(12)),
+    ("11 before 13", |left| left.room_before(13)),
     ("another refusal reported", |left| change(left.ran(0), left.call.report)),
     ("another place reported", |left| change(left.ran(1), left.call.report)),
     ("another count of commands", |left| change(left.ran(2), left.call.report)),
@@ -122,6 +124,9 @@ pub fn engines() -> Vec<Named> {
     for (fault, _) in IN_EXCHANGES {
         engines.push((format!("{fault:?}"), Box::new(Second::with_misfeed(fault))));
     }
+    for fault in IN_DUCTS {
+        engines.push((format!("{fault:?}"), Box::new(Second::with_misduct(fault))));
+    }
     for spoil in SPOILS {
         engines.push((spoil.0.to_string(), Box::new(Spoiled(spoil))));
     }
@@ -149,6 +154,43 @@ pub const IN_EXCHANGES: [(Misfeed, &str); 7] = [
     (Misfeed::ShareAmongExchanges, "cabinets are fed"),
     (Misfeed::RoundedUp, "cabinets are fed"),
     (Misfeed::MarkedTwice, "commands 09 accepted"),
+];
+
+/// Faults in the ducts that the histories worked out by hand must find where the second
+/// implementation has them too.
+pub const IN_DUCTS: [Misduct; 17] = [
+    Misduct::ByDuctAlone,
+    Misduct::ByEndsAlone,
+    Misduct::WithoutDuct,
+    Misduct::OneDirection,
+    Misduct::LowByte,
+    Misduct::LostAlone,
+    Misduct::ApartInMeshes,
+    Misduct::RingOfMates,
+    Misduct::SoleInverted,
+    Misduct::EveryMate,
+    Misduct::GreatestMate,
+    Misduct::MeasuredInSets,
+    Misduct::TakenWithoutMates,
+    Misduct::AnsweredByItsOwn,
+    Misduct::DuctFirst,
+    Misduct::DuctBeforeEnds,
+    Misduct::DuctAfterCapacity,
+];
+
+/// Those of them that a planner must find besides, by its name list and by its own mates, and what is
+/// said then.
+pub const IN_DUCTS_BY_PLANNER: [(Misduct, &str); 10] = [
+    (Misduct::OneDirection, "has notices"),
+    (Misduct::LostAlone, "has notices"),
+    (Misduct::ApartInMeshes, "are in two meshes"),
+    (Misduct::RingOfMates, "does not double"),
+    (Misduct::SoleInverted, "is sole: "),
+    (Misduct::EveryMate, "is less"),
+    (Misduct::GreatestMate, "is less"),
+    (Misduct::MeasuredInSets, "does not double"),
+    (Misduct::TakenWithoutMates, "are in two meshes"),
+    (Misduct::AnsweredByItsOwn, "begins no answer"),
 ];
 
 /// Faults that demand 3 must find where the second implementation has them too, and what is said

@@ -1,5 +1,6 @@
 //! Journals whose forecast is known beforehand, worked out by hand from document 02's first request
-//! and from what its second request has 09, 0A and 0F answer: 1, 2 and 3 bytes.
+//! and from what its second request has 09, 0A and 0F answer: 1, 2 and 3 bytes. Command 0B of its
+//! third request counts as a span command, so it lengthens what 02 lengthens.
 
 use crate::cases::{unhex, Case};
 use crate::engine::LONGEST_JOURNAL;
@@ -9,7 +10,7 @@ use crate::journals::{operand_count, unknown_bytes, Writer, COMMANDS};
 /// What a journal is, its bytes, and its forecast: number, place and length.
 type Known = (&'static str, &'static str, [u32; 3]);
 
-const SMALL: [Known; 22] = [
+const SMALL: [Known; 28] = [
     ("empty journal", "", [0, 0, 0]),
     ("01 alone", "01", [0, 1, 3]),
     ("02 alone", "02 0000 0001", [0, 5, 7]),
@@ -21,6 +22,7 @@ const SMALL: [Known; 22] = [
     ("08 alone", "08 0000", [0, 3, 2]),
     ("09 alone", "09 0000", [0, 3, 1]),
     ("0A alone", "0A 0000", [0, 3, 2]),
+    ("0B alone", "0B 0000 0001 0005", [0, 7, 7]),
     ("0F alone", "0F", [0, 1, 3]),
     ("an exchange and the questions about it", "01 09 0000 0A 0000 0F", [0, 8, 9]),
     ("triangle", TRIANGLE, [0, 18, 75]),
@@ -28,24 +30,38 @@ const SMALL: [Known; 22] = [
     ("a span is no cabinet: 07 with one span", "02 0000 0001 07 0000 0000", [0, 10, 10]),
     (
         "every command, all accepted",
-        "01 01 02 0000 0001 03 0000 04 0001 05 0000 0001 06 0000 0001 07 0000 0001 08 0000 \
-         09 0000 0A 0001 0F",
-        [0, 38, 63],
+        "01 01 02 0000 0001 0B 0001 0000 0005 03 0000 04 0001 05 0000 0001 06 0000 0001 \
+         07 0000 0001 08 0000 09 0000 0A 0001 0F",
+        [0, 45, 82],
     ),
     ("06 before the spans that it counts", "06 0000 0001 02 0000 0001 02 0000 0001", [0, 15, 31]),
     ("07 before the cabinets that it counts", "07 0000 0001 01 01 01", [0, 8, 48]),
     (
         "every command, the questions first",
         "0F 0A 0000 09 0000 08 0000 07 0000 0001 06 0000 0001 05 0000 0001 04 0000 03 0000 \
-         02 0000 0001 02 0000 0001 01 01 01 01 01",
-        [0, 46, 177],
+         02 0000 0001 02 0000 0001 0B 0000 0001 0005 01 01 01 01 01",
+        [0, 53, 191],
     ),
     ("an exchange lengthens no list", "09 0000 09 0001 06 0000 0001 07 0000 0001", [0, 16, 8]),
-    ("unknown bytes for operands", "03 FFFF 05 0B0C 0000 09 0D0E 0A 1000 0F 01", [0, 16, 16]),
+    ("unknown bytes for operands", "03 FFFF 05 0C0D 0000 09 0D0E 0A 1000 0F 01", [0, 16, 16]),
+    // s is 2: 14, and 5 × 2 × L(2).
+    ("02 and 0B are both span commands", "02 0000 0001 0B 0000 0001 0005", [0, 12, 24]),
+    // s is 4, of which three are mates: 28, 5 × 4 × L(4), and 3 + 2 × 4 for 06.
+    (
+        "06 counts every mate",
+        "0B 0000 0001 0005 0B 0000 0001 0005 06 0000 0001 0B 0001 0000 0005 02 0000 0001",
+        [0, 31, 79],
+    ),
+    // s is 1 and c is 0: 7, then 3 + 2 and 3.
+    ("0B is no cabinet", "0B 0000 0001 0005 06 0000 0001 07 0000 0001", [0, 17, 15]),
+    // A forecast knows nothing of 6, 8 and 13.
+    ("0B that a run refuses", "0B 0007 0007 0000", [0, 7, 7]),
+    // 0B with the bytes of other commands as operands, then 01.
+    ("commands for operands of 0B", "0B 0102 0B0F 0101 01", [0, 8, 10]),
 ];
 
 /// Journals of one command alone: its byte, how often it stands there, the place and the length.
-const ALIKE: [(u8, usize, u32, u32); 35] = [
+const ALIKE: [(u8, usize, u32, u32); 44] = [
     (0x01, 2, 2, 26),
     (0x01, 3, 3, 39),
     (0x01, 4, 4, 92),
@@ -79,6 +95,15 @@ const ALIKE: [(u8, usize, u32, u32); 35] = [
     (0x09, 21_845, 65_535, 21_845),
     (0x0A, 4, 12, 8),
     (0x0A, 21_845, 65_535, 43_690),
+    (0x0B, 2, 14, 24),
+    (0x0B, 3, 21, 36),
+    (0x0B, 4, 28, 68),
+    (0x0B, 7, 49, 119),
+    (0x0B, 8, 56, 176),
+    (0x0B, 4_096, 28_672, 274_432),
+    (0x0B, 8_191, 57_337, 548_797),
+    (0x0B, 8_192, 57_344, 589_824),
+    (0x0B, 9_362, 65_534, 674_064),
     (0x0F, 4, 4, 12),
     (0x0F, 65_536, 65_536, 196_608),
 ];
@@ -87,7 +112,7 @@ const ALIKE: [(u8, usize, u32, u32); 35] = [
 /// answers and the report of its run.
 type Damaged = (&'static str, &'static str, [u32; 2], &'static str, [u32; 6]);
 
-const DAMAGED: [Damaged; 10] = [
+const DAMAGED: [Damaged; 13] = [
     ("02 00 00 alone", "02 00 00", [5, 0], "", [5, 0, 0, 0, 0, 0]),
     (
         "02 00 00 behind accepted commands",
@@ -127,7 +152,22 @@ const DAMAGED: [Damaged; 10] = [
         "81 0000 89",
         [12, 4, 2, 4, 1, 0],
     ),
-    ("unknown byte behind a full register", "01 01 0B", [4, 2], "81 0000", [9, 1, 1, 3, 1, 0]),
+    ("unknown byte behind a full register", "01 01 0C", [4, 2], "81 0000", [9, 1, 1, 3, 1, 0]),
+    (
+        "unknown byte behind duct 0",
+        "01 01 0B 0000 0001 0000 8B",
+        [4, 9],
+        "81 0000 81 0001",
+        [13, 2, 2, 6, 2, 0],
+    ),
+    (
+        "cut off behind duct 0",
+        "01 01 0B 0000 0001 0000 0B 0000 0001 00",
+        [5, 9],
+        "81 0000 81 0001",
+        [13, 2, 2, 6, 2, 0],
+    ),
+    ("a duct of one byte", "01 0B 0000 0000 00", [5, 1], "81 0000", [5, 1, 1, 3, 1, 0]),
 ];
 
 /// What stands before a damaged place, and how many bytes that is: nothing, commands that a run
@@ -155,7 +195,7 @@ fn without_capacities(label: &str, journal: Vec<u8>) -> Case {
 
 /// So many commands with this byte.
 fn repeated(byte: u8, count: usize) -> Vec<u8> {
-    let operands = &[0, 1][..operand_count(byte)];
+    let operands = &[0, 1, 5][..operand_count(byte)];
     let mut writer = Writer::new();
     (0..count).for_each(|_| writer.command(byte, operands));
     writer.bytes
@@ -175,11 +215,13 @@ fn longest() -> Vec<Case> {
     let fed = [repeated(0x01, 1), repeated(0x09, 1), repeated(0x0A, 21_844)].concat();
     let shares = [repeated(0x01, 1), repeated(0x0F, 65_535)].concat();
     let lists = [repeated(0x01, 32_771), repeated(0x07, 6_553)].concat();
+    let sole = [repeated(0x0B, 4_681), repeated(0x06, 6_553), repeated(0x01, 4)].concat();
     vec![
         Case::new("65,536 bytes", 1, 1, names).returns(0).forecasts([0, 65_536, 65_538]),
         Case::new("65,536 bytes, 0A", 1, 1, fed).returns(0).forecasts([0, 65_536, 43_692]),
         Case::new("65,536 bytes, 0F", 1, 1, shares).returns(0).forecasts([0, 65_536, 196_608]),
         without_capacities("65,536 bytes, long lists", lists).forecasts([0, 65_536, 434_530_348]),
+        without_capacities("65,536 bytes, 0B and 06", sole).forecasts([0, 65_536, 61_682_564]),
     ]
 }
 

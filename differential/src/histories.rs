@@ -4,12 +4,33 @@
 use crate::cases::{unhex, Case};
 use crate::engine::{LONGEST_JOURNAL, MOST_CABINETS, MOST_SPANS};
 use crate::journals::{large, Writer};
-use crate::layouts;
+use crate::layouts::{self, Layout};
 use crate::random::Random;
+use crate::spans::Span;
 
 /// A history: what it is, its journal, all its answers, and the report, whose first number is the
 /// one returned.
 type History = (&'static str, &'static str, &'static str, [u32; 6]);
+
+/// Commands, and their answers; none where the command is refused.
+pub type Line = (&'static str, &'static str);
+
+/// A history in lines: what it is, its lines, and the report, whose first number is the one returned.
+pub type Known = (&'static str, &'static [Line], [u32; 6]);
+
+/// Each of these with room to the byte and, where a byte is needed, with one byte less.
+pub fn worked_out(known: &[Known]) -> Vec<Case> {
+    let mut cases = Vec::new();
+    for &(label, lines, report) in known {
+        let journal: Vec<u8> = lines.iter().flat_map(|line| unhex(line.0)).collect();
+        let answers: Vec<u8> = lines.iter().flat_map(|line| unhex(line.1)).collect();
+        let case = |room| Case::with_room(label, 256, 512, journal.clone(), room);
+        let less = answers.len().checked_sub(1);
+        cases.push(case(0).leaves(answers, report));
+        cases.extend(less.map(|room| case(room).returns(11)));
+    }
+    cases
+}
 
 pub const TRIANGLE: &str = "01 01 01 02 0000 0001 02 0001 0002 02 0002 0000";
 
@@ -123,7 +144,7 @@ fn full_spans() -> Vec<Case> {
     let mut cases = Vec::new();
     for s in [1, 2, 3, 255, 256, 257, MOST_SPANS] {
         let mut writer = Writer::new();
-        writer.enter(&layouts::Layout { cabinets: 2, spans: vec![(0, 1); s as usize] });
+        writer.enter(&Layout { cabinets: 2, spans: vec![Span::new(0, 1); s as usize] });
         let room = 40 + 7 * s as usize;
         cases.push(Case::with_room("S spans", 2, s, writer.bytes.clone(), room).returns(0));
         writer.span(1, 0);
@@ -150,12 +171,15 @@ fn to_the_byte() -> Vec<Case> {
 pub fn largest() -> Vec<Case> {
     let mut random = Random::new(2);
     let (cabinets, spans) = (MOST_CABINETS as usize, MOST_SPANS as usize);
+    let mut in_ducts = layouts::star(cabinets, 2);
+    in_ducts.lay(&mut random, 60, &[1]);
     let shapes = [
         ("random", layouts::random_spans(&mut random, cabinets, spans)),
         ("sparse", layouts::random_spans(&mut random, cabinets, cabinets)),
         ("chain then loops", layouts::chain_then_loops(&mut random, cabinets, cabinets)),
         ("pairwise doubling", layouts::doubling(&mut random, cabinets, 2)),
         ("star", layouts::star(cabinets, 2)),
+        ("star in ducts", in_ducts),
     ];
     let mut cases = Vec::new();
     for (seed, (label, layout)) in shapes.iter().enumerate() {

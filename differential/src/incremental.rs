@@ -101,6 +101,7 @@ impl Run<'_> {
             0x01 | 0x0F => 1,
             0x03 | 0x04 | 0x08..=0x0A => 3,
             0x02 | 0x05..=0x07 => 5,
+            0x0B => 7,
             _ => return Err(4),
         };
         if self.journal.len() - self.place < length {
@@ -108,7 +109,7 @@ impl Run<'_> {
         }
         match byte {
             0x01 => self.add_cabinet()?,
-            0x02 => self.add_span()?,
+            0x02 => self.add_span(None)?,
             0x03 => {
                 let name = self.forest.district(self.one_cabinet()?);
                 self.field_answer(0x83, name)?;
@@ -126,6 +127,7 @@ impl Run<'_> {
                 let is_fed = self.forest.is_fed(self.one_cabinet()?);
                 self.flag_answer(0x8A, is_fed)?;
             }
+            0x0B => self.add_span(Some(self.operand(2)))?,
             _ => {
                 let share = thousandths(self.forest.fed(), self.forest.cabinets());
                 self.field_answer(0x8F, share)?;
@@ -151,13 +153,17 @@ impl Run<'_> {
         Ok(())
     }
 
-    fn add_span(&mut self) -> Result<(), u32> {
+    /// By 02, or by 0B with a duct.
+    fn add_span(&mut self, duct: Option<u32>) -> Result<(), u32> {
         let (a, b) = self.two_different()?;
+        if duct == Some(0) {
+            return Err(13);
+        }
         let number = self.forest.spans();
         if number >= self.capacities.1 {
             return Err(9);
         }
-        let mesh = self.forest.add_span(a, b);
+        let mesh = self.forest.add_span(a, b, duct.unwrap_or(0));
         let count = self.forest.changed().map(|(_, changed)| changed.len()).sum::<usize>();
         self.out.need(7 + 5 * count)?;
         self.out.byte(0x82);

@@ -2,12 +2,14 @@
 
 use crate::cases::Case;
 use crate::engine::{work_needed, MOST_CABINETS, MOST_SPANS, REPORT_NUMBERS};
-use crate::layouts::{self, random_spans, Layout, MEDIUM, STYLES};
+use crate::layouts::{self, random_spans, Layout, DUCTS, MEDIUM, STYLES};
+use crate::literal::of_one_duct;
 use crate::random::Random;
 use crate::second::Second;
+use crate::spans::Span;
 
 /// The command bytes, each with the number of its operands.
-pub const COMMANDS: [(u8, usize); 11] = [
+pub const COMMANDS: [(u8, usize); 12] = [
     (0x01, 0),
     (0x02, 2),
     (0x03, 1),
@@ -18,6 +20,7 @@ pub const COMMANDS: [(u8, usize); 11] = [
     (0x08, 1),
     (0x09, 1),
     (0x0A, 1),
+    (0x0B, 3),
     (0x0F, 0),
 ];
 
@@ -27,7 +30,7 @@ pub fn operand_count(byte: u8) -> usize {
     known.expect("the byte is a command's").1
 }
 
-/// The bytes that are no command's: 00, 0B to 0E, and 10 to FF.
+/// The bytes that are no command's: 00, 0C to 0E, and 10 to FF.
 pub fn unknown_bytes() -> impl Iterator<Item = u8> {
     (0x00..=0xFF).filter(|&byte| COMMANDS.iter().all(|command| command.0 != byte))
 }
@@ -63,8 +66,18 @@ impl Writer {
         self.cabinets += 1;
     }
 
+    /// A span by 02.
     pub fn span(&mut self, a: usize, b: usize) {
-        self.command(0x02, &[a, b]);
+        self.add(Span::new(a, b));
+    }
+
+    /// A span by 02, or by 0B where it lies in a duct.
+    pub fn add(&mut self, span: Span) {
+        let Span { a, b, duct } = span;
+        match duct {
+            0 => self.command(0x02, &[a, b]),
+            _ => self.command(0x0B, &[a, b, duct]),
+        }
         let (one, other) = (self.stands_for(a), self.stands_for(b));
         self.toward[one] = other;
         self.spans += 1;
@@ -79,11 +92,11 @@ impl Writer {
     }
 
     /// A span, and before it the cabinets that it needs and that are not there yet.
-    fn span_with_cabinets(&mut self, a: usize, b: usize) {
-        while self.cabinets <= a.max(b) {
+    fn add_with_cabinets(&mut self, span: Span) {
+        while self.cabinets <= span.a.max(span.b) {
             self.cabinet();
         }
-        self.span(a, b);
+        self.add(span);
     }
 
     fn stands_for(&mut self, cabinet: usize) -> usize {
@@ -108,7 +121,7 @@ impl Writer {
     pub fn enter_marked(&mut self, layout: &Layout, marked: &[usize]) {
         (0..layout.cabinets).for_each(|_| self.cabinet());
         marked.iter().for_each(|&cabinet| self.mark(cabinet));
-        layout.spans.iter().for_each(|&(a, b)| self.span(a, b));
+        layout.spans.iter().for_each(|&span| self.add(span));
     }
 
     /// A question that is accepted; nothing if the cabinets or spans for it are missing.
@@ -131,18 +144,21 @@ impl Writer {
         }
     }
 
-    /// A command or question whose operands may be unknown, equal, in two districts, or an exchange
-    /// already.
+    /// A command or question whose operands may be unknown, equal, in two districts, an exchange
+    /// already, or duct 0.
     fn any(&mut self, random: &mut Random) {
         if random.chance(20) && !self.exchanges.is_empty() {
             return self.command(0x09, &[*random.pick(&self.exchanges)]);
         }
-        let mut operands = [(); 2].map(|_| random.below(self.cabinets + 2));
+        let mut operands = [(); 3].map(|_| random.below(self.cabinets + 2));
         if random.chance(20) {
             operands[1] = operands[0];
         }
-        let (byte, count) = *random.pick(&COMMANDS[1..]);
-        self.command(byte, &operands[..count]);
+        if random.chance(50) {
+            operands[2] = 0;
+        }
+        let byte = if random.chance(20) { 0x0B } else { random.pick(&COMMANDS[1..]).0 };
+        self.command(byte, &operands[..operand_count(byte)]);
     }
 
     /// Every question about exchanges.
@@ -173,10 +189,19 @@ impl Writer {
     }
 }
 
+/// A layout of one of the styles, some with spans laid in ducts besides, and the style's name.
+fn layout(random: &mut Random) -> (&'static str, Layout) {
+    let (name, style) = if random.chance(1) { MEDIUM } else { *random.pick(&STYLES) };
+    let mut layout = style(random);
+    let percent = *random.pick(&[0, 0, 0, 15, 50, 100]);
+    let ducts = *random.pick(&DUCTS);
+    layout.lay(random, percent, ducts);
+    (name, layout)
+}
+
 /// A journal of one of the styles, with marks and questions between, and the style's name.
 pub fn styled(random: &mut Random) -> (&'static str, Writer) {
-    let (name, style) = if random.chance(1) { MEDIUM } else { *random.pick(&STYLES) };
-    let layout = style(random);
+    let (name, layout) = layout(random);
     let late = random.chance(50);
     let marks = *random.pick(&[0, 5, 15, 50]);
     let questions = *random.pick(&[0, 0, 10, 50, 150]);
@@ -187,8 +212,8 @@ pub fn styled(random: &mut Random) -> (&'static str, Writer) {
     if !late {
         (0..layout.cabinets).for_each(|_| writer.cabinet());
     }
-    for &(a, b) in &layout.spans {
-        writer.span_with_cabinets(a, b);
+    for &span in &layout.spans {
+        writer.add_with_cabinets(span);
         if random.chance(marks) {
             writer.mark(random.below(writer.cabinets));
         }
@@ -288,18 +313,10 @@ fn capacities(random: &mut Random, cabinets: usize, spans: usize) -> (u32, u32) 
     (near(random, cabinets, MOST_CABINETS), near(random, spans, MOST_SPANS))
 }
 
-/// Every list of so many spans between so many cabinets, in both directions.
-fn lists_of_spans(cabinets: usize, spans: usize, each: &mut dyn FnMut(usize, Vec<(usize, usize)>)) {
-    let mut pairs = Vec::new();
-    for a in 0..cabinets {
-        for b in 0..cabinets {
-            if a != b {
-                pairs.push((a, b));
-            }
-        }
-    }
+/// Every list of so many spans from 02 between so many cabinets, in both directions.
+fn lists_of_spans(cabinets: usize, spans: usize, each: &mut dyn FnMut(usize, Vec<Span>)) {
     let mut number = 0;
-    layouts::every_list(&pairs, spans, &mut |spans| {
+    layouts::every_list(&layouts::both_directions(cabinets), spans, &mut |spans| {
         each(number, spans);
         number += 1;
     });
@@ -322,6 +339,51 @@ pub fn every_list(cabinets: usize, spans: usize, each: &mut dyn FnMut(Case)) {
     });
 }
 
+/// Every list of so many spans between so many cabinets, each by 02 or in one of two ducts, and each
+/// in both directions.
+pub fn every_list_in_ducts(cabinets: usize, spans: usize, each: &mut dyn FnMut(Case)) {
+    let mut number = 0;
+    layouts::every_list_in_ducts(&layouts::both_directions(cabinets), 2, spans, &mut |spans| {
+        each(with_exchange(number, Layout { cabinets, spans }));
+        number += 1;
+    });
+}
+
+/// The same with directions by turns.
+pub fn every_list_by_turns(cabinets: usize, spans: usize, each: &mut dyn FnMut(Case)) {
+    let mut number = 0;
+    layouts::every_list_by_turns(cabinets, 2, spans, &mut |spans| {
+        each(with_exchange(number, Layout { cabinets, spans }));
+        number += 1;
+    });
+}
+
+/// The same with one duct, in which some span has a mate.
+pub fn every_list_with_mates(cabinets: usize, spans: usize, each: &mut dyn FnMut(Case)) {
+    let mut number = 0;
+    layouts::every_list_by_turns(cabinets, 1, spans, &mut |spans| {
+        if has_mates(&spans) {
+            each(with_exchange(number, Layout { cabinets, spans }));
+            number += 1;
+        }
+    });
+}
+
+fn has_mates(spans: &[Span]) -> bool {
+    let mates = |i: usize| spans[..i].iter().any(|&span| of_one_duct(span, spans[i]));
+    (0..spans.len()).any(mates)
+}
+
+/// A layout of which one cabinet is an exchange, followed by every question.
+fn with_exchange(number: usize, layout: Layout) -> Case {
+    let (cabinets, count) = (layout.cabinets, layout.spans.len());
+    let mut writer = Writer::new();
+    writer.enter_marked(&layout, &[number % cabinets]);
+    writer.sweep();
+    let label = format!("every list of {count} spans in ducts, number {number}");
+    Case::new(&label, cabinets as u32, count.max(1) as u32, writer.bytes).returns(0)
+}
+
 /// Every list of so many spans between so many cabinets, with every one of these marked before each
 /// span and after the last; every span is followed by every question about exchanges.
 pub fn every_mark(cabinets: usize, spans: usize, each: &mut dyn FnMut(Case)) {
@@ -329,11 +391,11 @@ pub fn every_mark(cabinets: usize, spans: usize, each: &mut dyn FnMut(Case)) {
         for (marked, place) in (0..cabinets).flat_map(|a| (0..=spans.len()).map(move |i| (a, i))) {
             let mut writer = Writer::new();
             (0..cabinets).for_each(|_| writer.cabinet());
-            for (i, &(a, b)) in spans.iter().enumerate() {
+            for (i, &span) in spans.iter().enumerate() {
                 if i == place {
                     writer.mark(marked);
                 }
-                writer.span(a, b);
+                writer.add(span);
                 writer.exchange_questions();
             }
             writer.mark(marked);
@@ -350,10 +412,12 @@ pub fn every_room(seed: u64, each: &mut dyn FnMut(Case)) {
     let mut random = Random::new(seed);
     let cabinets = random.between(2, 5);
     let count = random.between(0, 7);
-    let layout = random_spans(&mut random, cabinets, count);
+    let mut layout = random_spans(&mut random, cabinets, count);
+    let (percent, ducts) = (*random.pick(&[0, 50, 100]), *random.pick(&DUCTS));
+    layout.lay(&mut random, percent, ducts);
     let mut writer = Writer::new();
-    for &(a, b) in &layout.spans {
-        writer.span_with_cabinets(a, b);
+    for &span in &layout.spans {
+        writer.add_with_cabinets(span);
         if random.chance(30) {
             writer.mark(random.below(writer.cabinets));
         }

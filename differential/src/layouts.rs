@@ -1,11 +1,12 @@
 //! Networks to write journals from: a number of cabinets and the spans in their order of entry.
 
 use crate::random::Random;
+use crate::spans::Span;
 
 #[derive(Clone, Debug, Default)]
 pub struct Layout {
     pub cabinets: usize,
-    pub spans: Vec<(usize, usize)>,
+    pub spans: Vec<Span>,
 }
 
 impl Layout {
@@ -15,7 +16,7 @@ impl Layout {
 
     fn add(&mut self, a: usize, b: usize) {
         if a != b {
-            self.spans.push((a, b));
+            self.spans.push(Span::new(a, b));
         }
     }
 
@@ -43,19 +44,32 @@ impl Layout {
     fn renumber(&mut self, random: &mut Random) {
         let mut numbers: Vec<usize> = (0..self.cabinets).collect();
         random.shuffle(&mut numbers);
-        for (a, b) in &mut self.spans {
-            (*a, *b) = (numbers[*a], numbers[*b]);
+        for span in &mut self.spans {
+            *span = Span { a: numbers[span.a], b: numbers[span.b], ..*span };
             if random.chance(50) {
-                (*a, *b) = (*b, *a);
+                *span = span.turned();
+            }
+        }
+    }
+
+    /// Lays spans that lie in no duct into one of these, each in `percent` of a hundred cases.
+    pub fn lay(&mut self, random: &mut Random, percent: usize, ducts: &[usize]) {
+        for span in self.spans.iter_mut().filter(|span| span.duct == 0) {
+            if random.chance(percent) {
+                span.duct = *random.pick(ducts);
             }
         }
     }
 }
 
+/// Ducts to lay spans in: few at a time, so that there are mates. Some differ in one byte alone.
+pub const DUCTS: [&[usize]; 6] =
+    [&[1], &[1, 2], &[5, 6, 7], &[0x0100, 0x0200], &[0x0001, 0x0101, 0xFF01], &[0xFFFF, 0xFFFE]];
+
 /// A style's name, and how a layout of it is made.
 pub type Style = (&'static str, fn(&mut Random) -> Layout);
 
-pub const STYLES: [Style; 10] = [
+pub const STYLES: [Style; 12] = [
     ("dense", dense),
     ("sparse", sparse),
     ("tree-like", tree_like),
@@ -66,6 +80,8 @@ pub const STYLES: [Style; 10] = [
     ("chain then loops", chain_and_loops),
     ("loop of loops", loop_of_loops),
     ("ladder of equal loops", equal_loops),
+    ("sets of mates", sets_of_mates),
+    ("loops of mates", loops_of_mates),
 ];
 
 /// Some hundred cabinets: a chain then loops, random spans, or pairwise doubling.
@@ -119,8 +135,7 @@ fn doubled(random: &mut Random) -> Layout {
     for _ in 0..random.between(1, 2 * cabinets) {
         let old = layout.spans.len();
         if old > 0 && random.chance(50) {
-            let (a, b) = layout.spans[random.below(old)];
-            layout.add(b, a);
+            layout.spans.push(layout.spans[random.below(old)].turned());
         } else {
             layout.add(random.below(cabinets), random.below(cabinets));
         }
@@ -159,7 +174,8 @@ pub fn doubling(random: &mut Random, cabinets: usize, ways: usize) -> Layout {
         let mut level = Vec::new();
         for start in (0..cabinets).step_by(2 * size) {
             for _ in 0..ways {
-                level.push((start + random.below(size), start + size + random.below(size)));
+                let (a, b) = (start + random.below(size), start + size + random.below(size));
+                level.push(Span::new(a, b));
             }
         }
         random.shuffle(&mut level);
@@ -261,13 +277,103 @@ fn equal_loops(random: &mut Random) -> Layout {
     layout.mixed(random, 50, 1, 4)
 }
 
-/// Every list of `count` of these spans.
-pub fn every_list(
-    spans: &[(usize, usize)],
-    count: usize,
-    each: &mut dyn FnMut(Vec<(usize, usize)>),
-) {
-    for code in 0..spans.len().pow(count as u32) {
-        each((0..count as u32).map(|i| spans[code / spans.len().pow(i) % spans.len()]).collect());
+/// Few pairs of cabinets with many spans each: most of them mates, the others in another duct or in
+/// none.
+fn sets_of_mates(random: &mut Random) -> Layout {
+    let cabinets = random.between(2, 7);
+    let mut links = Layout::of(cabinets);
+    for cabinet in 1..cabinets {
+        links.add(random.below(cabinet), cabinet);
     }
+    for _ in 0..random.below(3) {
+        links.add(random.below(cabinets), random.below(cabinets));
+    }
+    let ducts = *random.pick(&DUCTS);
+    links.lay(random, 90, ducts);
+    let strays = *random.pick(&[0, 5, 25]);
+    let mut layout = Layout::of(cabinets);
+    for _ in 0..random.between(cabinets, 5 * cabinets) {
+        let mut span = *random.pick(&links.spans);
+        if random.chance(strays) {
+            span.duct = *random.pick(&[0, ducts[0], ducts[ducts.len() - 1]]);
+        }
+        layout.spans.push(span);
+    }
+    layout.renumber(random);
+    layout
+}
+
+/// Chains whose links are sets of mates, closed or not, and joined at cabinets; most links in one
+/// duct all along, entered in any order or link by link.
+fn loops_of_mates(random: &mut Random) -> Layout {
+    let mut layout = Layout::of(1);
+    let ducts = *random.pick(&DUCTS);
+    for _ in 0..random.between(1, 3) {
+        let start = random.below(layout.cabinets);
+        let (first, links) = (layout.cabinets, random.between(1, 4));
+        layout.cabinets += links;
+        let mut round: Vec<usize> = (first..first + links).collect();
+        round.insert(0, start);
+        if random.chance(60) {
+            round.push(start);
+        }
+        for link in round.windows(2) {
+            let duct = if random.chance(85) { *random.pick(ducts) } else { 0 };
+            let span = Span::in_duct(link[0], link[1], duct);
+            layout.spans.extend(vec![span; random.between(1, 4)]);
+        }
+    }
+    layout.mixed(random, 70, 0, 2)
+}
+
+/// Every list of `count` of these.
+pub fn every_list<T: Copy>(choices: &[T], count: usize, each: &mut dyn FnMut(Vec<T>)) {
+    let most = choices.len();
+    for code in 0..most.pow(count as u32) {
+        each((0..count as u32).map(|i| choices[code / most.pow(i) % most]).collect());
+    }
+}
+
+/// The spans between so many cabinets, in both directions.
+pub fn both_directions(cabinets: usize) -> Vec<Span> {
+    let from = |a: usize| (0..cabinets).filter(move |&b| a != b).map(move |b| Span::new(a, b));
+    (0..cabinets).flat_map(from).collect()
+}
+
+/// The spans between so many cabinets, each from less to greater.
+pub fn rising(cabinets: usize) -> Vec<Span> {
+    (0..cabinets).flat_map(|b| (0..b).map(move |a| Span::new(a, b))).collect()
+}
+
+/// Every list of `count` of these spans, each by 02 or in one of so many ducts, one or two, numbered
+/// from 1. Lists that differ only in that two ducts are exchanged come once: the first span in a duct
+/// is in duct 1.
+pub fn every_list_in_ducts(
+    spans: &[Span],
+    ducts: usize,
+    count: usize,
+    each: &mut dyn FnMut(Vec<Span>),
+) {
+    let in_each = |&span: &Span| (0..=ducts).map(move |duct| Span { duct, ..span });
+    let choices: Vec<Span> = spans.iter().flat_map(in_each).collect();
+    every_list(&choices, count, &mut |list| {
+        let first = list.iter().map(|span| span.duct).find(|&duct| duct != 0);
+        if first.is_none_or(|duct| duct == 1) {
+            each(list);
+        }
+    });
+}
+
+/// The same between so many cabinets, with directions by turns: the first span goes from less to
+/// greater, the second from greater to less, and so on.
+pub fn every_list_by_turns(
+    cabinets: usize,
+    ducts: usize,
+    count: usize,
+    each: &mut dyn FnMut(Vec<Span>),
+) {
+    every_list_in_ducts(&rising(cabinets), ducts, count, &mut |mut spans| {
+        spans.iter_mut().skip(1).step_by(2).for_each(|span| *span = span.turned());
+        each(spans);
+    });
 }

@@ -1,4 +1,4 @@
-//! Second implementations of document 01 and of document 02's first two requests, and what is
+//! Second implementations of document 01 and of document 02's first three requests, and what is
 //! needed to compare an engine with them.
 //!
 //! - `second`: the documents restated; everything is computed anew after each command.
@@ -11,6 +11,7 @@
 
 pub mod cases;
 pub mod compare;
+pub mod ducts;
 pub mod engine;
 pub mod exchanges;
 pub mod faults;
@@ -28,3 +29,4 @@ pub mod refusals;
 #[cfg(feature = "register")]
 pub mod register;
 pub mod second;
+pub mod spans;

@@ -1,8 +1,63 @@
-//! The definitions of document 01, and the exchanges of document 02's second request, word for
-//! word, for small networks: every loss is tried, every simple cycle is searched for. Slow on
-//! purpose.
+//! The definitions of document 01, with the exchanges and the ducts of document 02's second and third
+//! requests, word for word, for small networks: every loss is tried, every simple cycle is searched
+//! for. Slow on purpose.
 
-use crate::second::groups::{touches, Network};
+use crate::second::groups::Network;
+use crate::spans::Span;
+
+/// Which spans are mates.
+pub type Mates = fn(Span, Span) -> bool;
+
+/// Document 01 knows no mates.
+pub fn never(_: Span, _: Span) -> bool {
+    false
+}
+
+/// Spans of one duct between the same two cabinets, in either direction, are mates. A span from 02
+/// has no mate.
+pub fn of_one_duct(one: Span, other: Span) -> bool {
+    let from_0b = one.duct != 0 && other.duct != 0;
+    let same = (one.a, one.b) == (other.a, other.b) || (one.a, one.b) == (other.b, other.a);
+    from_0b && one.duct == other.duct && same
+}
+
+/// A network, and which of its spans are mates.
+#[derive(Clone, Copy)]
+pub struct Plant<'a> {
+    pub network: &'a Network,
+    pub mates: Mates,
+}
+
+impl<'a> Plant<'a> {
+    /// The network as document 02 sees it.
+    pub fn of(network: &'a Network) -> Plant<'a> {
+        Plant { network, mates: of_one_duct }
+    }
+
+    /// The network as document 01 sees it: the ducts mean nothing.
+    pub fn without_mates(network: &'a Network) -> Plant<'a> {
+        Plant { network, mates: never }
+    }
+
+    fn spans(self) -> std::ops::Range<usize> {
+        0..self.network.spans.len()
+    }
+
+    /// Are these two different spans mates?
+    fn are_mates(self, s: usize, t: usize) -> bool {
+        s != t && (self.mates)(self.network.spans[s], self.network.spans[t])
+    }
+
+    /// A span without mates is a set by itself.
+    fn in_one_set(self, s: usize, t: usize) -> bool {
+        s == t || self.are_mates(s, t)
+    }
+
+    /// Has the span the least number of its set of mates?
+    fn is_least(self, span: usize) -> bool {
+        self.spans().filter(|&mate| self.in_one_set(span, mate)).min() == Some(span)
+    }
+}
 
 /// Cabinets joined by some walk over the spans that are not lost.
 pub fn joined(network: &Network, lost: &dyn Fn(usize) -> bool, a: usize, b: usize) -> bool {
@@ -10,10 +65,10 @@ pub fn joined(network: &Network, lost: &dyn Fn(usize) -> bool, a: usize, b: usiz
     met[a] = true;
     loop {
         let mut grew = false;
-        for (span, &(x, y)) in network.spans.iter().enumerate() {
-            if !lost(span) && met[x] != met[y] {
-                met[x] = true;
-                met[y] = true;
+        for (number, &span) in network.spans.iter().enumerate() {
+            if !lost(number) && met[span.a] != met[span.b] {
+                met[span.a] = true;
+                met[span.b] = true;
                 grew = true;
             }
         }
@@ -23,120 +78,127 @@ pub fn joined(network: &Network, lost: &dyn Fn(usize) -> bool, a: usize, b: usiz
     }
 }
 
-fn joined_without_span(network: &Network, removed: usize, a: usize, b: usize) -> bool {
-    joined(network, &|span| span == removed, a, b)
+/// To lose a span is to lose its mates with it.
+fn joined_without_span(plant: Plant, lost: usize, a: usize, b: usize) -> bool {
+    joined(plant.network, &|span| plant.in_one_set(span, lost), a, b)
 }
 
-fn joined_without_cabinet(network: &Network, removed: usize, a: usize, b: usize) -> bool {
-    joined(network, &|span| touches(network.spans[span], removed), a, b)
+fn joined_without_cabinet(plant: Plant, removed: usize, a: usize, b: usize) -> bool {
+    let spans = &plant.network.spans;
+    joined(plant.network, &|span| spans[span].touches(removed), a, b)
 }
 
-pub fn share_district(network: &Network, a: usize, b: usize) -> bool {
-    joined(network, &|_| false, a, b)
+pub fn share_district(plant: Plant, a: usize, b: usize) -> bool {
+    joined(plant.network, &|_| false, a, b)
 }
 
-/// They share a district, and still do after the removal of any single span.
-pub fn share_ring(network: &Network, a: usize, b: usize) -> bool {
-    share_district(network, a, b)
-        && (0..network.spans.len()).all(|span| joined_without_span(network, span, a, b))
+/// They share a district, and still do after the loss of any single span.
+pub fn share_ring(plant: Plant, a: usize, b: usize) -> bool {
+    share_district(plant, a, b) && plant.spans().all(|span| joined_without_span(plant, span, a, b))
 }
 
 /// Some exchange shares the cabinet's ring.
-pub fn is_fed(network: &Network, exchanges: &[usize], cabinet: usize) -> bool {
-    exchanges.iter().any(|&exchange| share_ring(network, exchange, cabinet))
+pub fn is_fed(plant: Plant, exchanges: &[usize], cabinet: usize) -> bool {
+    exchanges.iter().any(|&exchange| share_ring(plant, exchange, cabinet))
 }
 
 /// The most thousandths of all cabinets that are no more than the cabinets whose ring holds an
 /// exchange; 0 for an empty network.
-pub fn fed_share(network: &Network, exchanges: &[usize]) -> usize {
-    let cabinets = network.cabinets;
+pub fn fed_share(plant: Plant, exchanges: &[usize]) -> usize {
+    let cabinets = plant.network.cabinets;
     if cabinets == 0 {
         return 0;
     }
-    let fed = (0..cabinets).filter(|&cabinet| is_fed(network, exchanges, cabinet)).count();
+    let fed = (0..cabinets).filter(|&cabinet| is_fed(plant, exchanges, cabinet)).count();
     (0..=1000).rev().find(|thousandths| thousandths * cabinets <= 1000 * fed).unwrap_or(0)
 }
 
-/// One span, or some simple cycle holds both.
-pub fn share_mesh(network: &Network, s: usize, t: usize) -> bool {
-    let (start, end) = network.spans[s];
-    s == t || Cycle::new(network, s, t, end).closes(start, false)
+/// One span, or mates, or some simple cycle that uses at most one of a set of mates holds both.
+pub fn share_mesh(plant: Plant, s: usize, t: usize) -> bool {
+    plant.in_one_set(s, t) || Cycle::new(plant, s, t).closes(plant.network.spans[s].a)
 }
 
 /// The search for a simple cycle through the spans s and t: a way from one end of s to the other
-/// that holds t, takes no cabinet twice and does not take s.
+/// that holds t, takes no cabinet twice, and takes neither s nor two of a set of mates.
 struct Cycle<'a> {
-    network: &'a Network,
-    s: usize,
+    plant: Plant<'a>,
     t: usize,
     end: usize,
-    used: Vec<bool>,
+    /// The cabinets on the way, and the spans of the cycle so far.
+    met: Vec<usize>,
+    taken: Vec<usize>,
 }
 
 impl<'a> Cycle<'a> {
-    fn new(network: &'a Network, s: usize, t: usize, end: usize) -> Cycle<'a> {
-        Cycle { network, s, t, end, used: vec![false; network.cabinets] }
+    fn new(plant: Plant<'a>, s: usize, t: usize) -> Cycle<'a> {
+        let end = plant.network.spans[s].b;
+        Cycle { plant, t, end, met: Vec::new(), taken: vec![s] }
     }
 
-    fn closes(&mut self, here: usize, holds_t: bool) -> bool {
+    fn closes(&mut self, here: usize) -> bool {
         if here == self.end {
-            return holds_t;
+            return self.taken.contains(&self.t);
         }
-        self.used[here] = true;
-        let found = (0..self.network.spans.len()).any(|span| self.goes_on(here, span, holds_t));
-        self.used[here] = false;
+        self.met.push(here);
+        let found = self.plant.spans().any(|span| self.goes_on(here, span));
+        self.met.pop();
         found
     }
 
-    fn goes_on(&mut self, here: usize, span: usize, holds_t: bool) -> bool {
-        let (x, y) = self.network.spans[span];
-        if span == self.s || !touches((x, y), here) {
+    fn goes_on(&mut self, here: usize, number: usize) -> bool {
+        let span = self.plant.network.spans[number];
+        if !span.touches(here) || self.taken.iter().any(|&s| self.plant.in_one_set(s, number)) {
             return false;
         }
-        let there = if x == here { y } else { x };
-        !self.used[there] && self.closes(there, holds_t || span == self.t)
+        let there = if span.a == here { span.b } else { span.a };
+        self.taken.push(number);
+        let found = !self.met.contains(&there) && self.closes(there);
+        self.taken.pop();
+        found
     }
 }
 
 /// The spans at b whose mesh also has a span at a.
-pub fn spans_of_shared_mesh(network: &Network, a: usize, b: usize) -> Vec<usize> {
+pub fn spans_of_shared_mesh(plant: Plant, a: usize, b: usize) -> Vec<usize> {
     let at = |cabinet: usize| {
-        (0..network.spans.len()).filter(move |&span| touches(network.spans[span], cabinet))
+        plant.spans().filter(move |&span| plant.network.spans[span].touches(cabinet))
     };
-    at(b).filter(|&t| at(a).any(|s| share_mesh(network, s, t))).collect()
+    at(b).filter(|&t| at(a).any(|s| share_mesh(plant, s, t))).collect()
 }
 
-/// The removal of the span parts a and b: they are joined, and no longer without it.
-fn span_parts(network: &Network, span: usize, a: usize, b: usize) -> bool {
-    share_district(network, a, b) && !joined_without_span(network, span, a, b)
+/// The loss of the span parts a and b: they are joined, and no longer without it and its mates.
+fn span_parts(plant: Plant, span: usize, a: usize, b: usize) -> bool {
+    share_district(plant, a, b) && !joined_without_span(plant, span, a, b)
 }
 
-fn cabinet_parts(network: &Network, cabinet: usize, a: usize, b: usize) -> bool {
+fn cabinet_parts(plant: Plant, cabinet: usize, a: usize, b: usize) -> bool {
     cabinet != a
         && cabinet != b
-        && share_district(network, a, b)
-        && !joined_without_cabinet(network, cabinet, a, b)
+        && share_district(plant, a, b)
+        && !joined_without_cabinet(plant, cabinet, a, b)
 }
 
-pub fn is_sole(network: &Network, span: usize) -> bool {
-    let (a, b) = network.spans[span];
-    span_parts(network, span, a, b)
+pub fn is_sole(plant: Plant, span: usize) -> bool {
+    let Span { a, b, .. } = plant.network.spans[span];
+    span_parts(plant, span, a, b)
 }
 
-/// Sole spans between a and b; s comes before t if, with t removed, both ends of s are still
-/// joined to a.
-pub fn sole_spans(network: &Network, a: usize, b: usize) -> Vec<usize> {
-    let sole = (0..network.spans.len()).filter(|&span| span_parts(network, span, a, b));
+/// Every set of mates whose loss parts a and b, once and by its least number; s comes before t if,
+/// with t lost, both ends of s are still joined to a.
+pub fn sole_spans(plant: Plant, a: usize, b: usize) -> Vec<usize> {
+    let sets = plant.spans().filter(|&span| plant.is_least(span));
+    let sole = sets.filter(|&span| span_parts(plant, span, a, b));
     in_order(sole.collect(), |s, t| {
-        let (x, y) = network.spans[s];
-        joined_without_span(network, t, x, a) && joined_without_span(network, t, y, a)
+        let span = plant.network.spans[s];
+        joined_without_span(plant, t, span.a, a) && joined_without_span(plant, t, span.b, a)
     })
 }
 
 /// Cut cabinets between a and b; c comes before d if, with d removed, c is still joined to a.
-pub fn cut_cabinets(network: &Network, a: usize, b: usize) -> Vec<usize> {
-    let cut = (0..network.cabinets).filter(|&cabinet| cabinet_parts(network, cabinet, a, b));
-    in_order(cut.collect(), |c, d| joined_without_cabinet(network, d, c, a))
+pub fn cut_cabinets(plant: Plant, a: usize, b: usize) -> Vec<usize> {
+    let cabinets = 0..plant.network.cabinets;
+    let cut = cabinets.filter(|&cabinet| cabinet_parts(plant, cabinet, a, b));
+    in_order(cut.collect(), |c, d| joined_without_cabinet(plant, d, c, a))
 }
 
 /// Puts each item behind all that come before it.
@@ -168,4 +230,24 @@ pub fn renamed(
         largest_ones.map(|&y| names[y]).min().unwrap_or(names[x])
     };
     items.clone().map(name_after).collect()
+}
+
+/// The network in which each set of mates is one span, its least, which has no mates then.
+pub struct Reduced {
+    pub network: Network,
+    /// For each span of the reduced network its number in the whole one.
+    pub number: Vec<usize>,
+    /// For each span of the whole network the span of the reduced one that its set has become.
+    pub stands_for: Vec<usize>,
+}
+
+pub fn reduced(network: &Network) -> Reduced {
+    let plant = Plant::of(network);
+    let number: Vec<usize> = plant.spans().filter(|&span| plant.is_least(span)).collect();
+    let kept_of = |span: usize| number.iter().position(|&kept| plant.in_one_set(kept, span));
+    let stands_for =
+        plant.spans().map(|span| kept_of(span).expect("every set has a least")).collect();
+    let bare = |&kept: &usize| Span { duct: 0, ..network.spans[kept] };
+    let spans = number.iter().map(bare).collect();
+    Reduced { network: Network { spans, ..network.clone() }, number, stands_for }
 }

@@ -10,7 +10,7 @@ use differential::compare::{compare, Tally};
 use differential::engine::Engine;
 use differential::incremental::Incremental;
 use differential::second::Second;
-use differential::{exchanges, faults, forecasts, histories, journals, program, refusals};
+use differential::{ducts, exchanges, faults, forecasts, histories, journals, program, refusals};
 use std::process::ExitCode;
 use std::time::{Duration, Instant};
 
@@ -108,6 +108,7 @@ impl Test {
         self.cases(&histories::marked(), seed);
         self.cases(&histories::unmarked(), seed);
         self.cases(&exchanges::known(), seed);
+        self.cases(&ducts::known(), seed);
         self.cases(&refusals::all(), seed);
         self.cases(&refusals::empty_buffers(), seed);
         self.cases(&forecasts::known(), seed);
@@ -117,12 +118,25 @@ impl Test {
         for (cabinets, spans) in [(2, 3), (3, 3), (3, 4), (4, 3)] {
             journals::every_mark(cabinets, spans, &mut |case| self.given(&case, seed));
         }
+        self.every_list_in_ducts(seed);
         for small in seed..seed + SMALL_JOURNALS {
             journals::every_room(small, &mut |case| self.given(&case, small));
         }
         self.random(seed, RANDOM_JOURNALS);
         self.cases(&histories::largest(), seed);
+        self.cases(&ducts::chain_of_mates(), seed);
         self.every_number();
+    }
+
+    /// Every list of a few spans between a few cabinets, some of the spans in ducts.
+    fn every_list_in_ducts(&mut self, seed: u64) {
+        for (cabinets, spans) in [(2, 2), (2, 3), (2, 4), (2, 5), (3, 2), (3, 3), (3, 4), (4, 3)] {
+            journals::every_list_in_ducts(cabinets, spans, &mut |case| self.given(&case, seed));
+        }
+        for (cabinets, spans) in [(3, 5), (4, 4)] {
+            journals::every_list_by_turns(cabinets, spans, &mut |case| self.given(&case, seed));
+        }
+        journals::every_list_with_mates(4, 5, &mut |case| self.given(&case, seed));
     }
 
     fn soak(&mut self, seed: u64, time: Duration) {
@@ -141,7 +155,7 @@ impl Test {
     /// the forecast knows by some forecast, with runs in the room forecast unless it is 3.
     fn every_number(&mut self) {
         let Tally { returned, forecast, exact, .. } = &self.tally;
-        let runs = (0..=12).map(|number| ("run", number, returned[number]));
+        let runs = (0..=13).map(|number| ("run", number, returned[number]));
         let forecasts = [0, 3, 4, 5].map(|number| ("forecast", number, forecast[number]));
         let exact = [0, 4, 5].map(|number| ("run in the room forecast", number, exact[number]));
         let mut all = runs.chain(forecasts).chain(exact);
@@ -157,7 +171,7 @@ impl Test {
         let Tally { journals, returned, commands, notices, forecast, exact } = self.tally;
         Ok(format!(
             "{} equals second, every byte: {journals} journals ({} accepted to the end, refused by \
-             1 to 12: {:?}), {commands} commands, {notices} notices; {} forecasts ({} accepted, \
+             1 to 13: {:?}), {commands} commands, {notices} notices; {} forecasts ({} accepted, \
              refused by 3 to 5: {:?}), {} runs with exactly the room forecast, {} of them of \
              damaged journals",
             self.engine.name(),
@@ -191,11 +205,12 @@ fn null_pointers(_: u64) -> Result<String, String> {
 /// known beforehand, or by a run with exactly the room forecast.
 fn seeded_bugs(seed: u64) -> Result<String, String> {
     let mut found = 0;
+    let known = [ducts::known(), refusals::all()].concat();
     let runs = faults::engines().into_iter().map(|named| (", second ", named));
     let forecasts = faults::forecasts().into_iter().map(|named| ("the forecast is", named));
     for (said, (name, engine)) in runs.chain(forecasts) {
         let mut test = Test::new(engine);
-        test.cases(&refusals::all(), seed);
+        test.cases(&known, seed);
         found_by(said, &name, test, seed)?;
         found += 1;
     }
@@ -210,9 +225,19 @@ fn seeded_bugs(seed: u64) -> Result<String, String> {
         found_in(&exchanges::known(), &format!("{fault:?} in both"), test(), seed)?;
         found += 2;
     }
+    for fault in faults::IN_DUCTS {
+        let test = in_both(|| Second::with_misduct(fault));
+        found_in(&known, &format!("{fault:?} in both"), test, seed)?;
+        found += 1;
+    }
+    for (fault, said) in faults::IN_DUCTS_BY_PLANNER {
+        let test = in_both(|| Second::with_misduct(fault));
+        found_by(said, &format!("{fault:?} in both"), test, seed)?;
+        found += 1;
+    }
     for (name, misforecast) in faults::TOO_SMALL {
         let mut test = in_both(|| Second::with_misforecast(misforecast));
-        test.cases(&[histories::marked(), exchanges::known()].concat(), seed);
+        test.cases(&[histories::marked(), exchanges::known(), ducts::known()].concat(), seed);
         found_by("bytes of room that are forecast", &format!("{name} in both"), test, seed)?;
         found += 1;
     }

@@ -1,12 +1,16 @@
 //! The planner's name list, fed the answers as bytes, and the whole of demand 3 checked beside a
-//! run of the second implementation; the answers about exchanges against what the planner knows.
+//! run of the second implementation; the answers about exchanges, and those about sole spans, against
+//! what the planner knows.
 
 mod marks;
+mod mates;
 
 use crate::kinds::{ByKind, Kind, KINDS};
 use crate::second::book::{sizes, Book};
+use crate::second::command::Command;
 use crate::second::Accepted;
 use marks::Marks;
+use mates::Mates;
 
 /// A name for each cabinet (districts, rings) and for each span (meshes).
 #[derive(Default, PartialEq, Eq, Debug)]
@@ -30,6 +34,9 @@ pub enum Answer {
         mesh: usize,
         notices: Vec<Notice>,
     },
+    SoleSpans(Vec<usize>),
+    /// The byte is 1 if the span is sole.
+    IsSole(u8),
     Marked,
     /// The byte is 1 if the ring holds an exchange.
     Fed(u8),
@@ -55,12 +62,35 @@ pub fn decode(bytes: &[u8]) -> Option<(Answer, usize)> {
         }
         0x83 | 0x84 => other(3),
         0x85 => other(4),
-        0x86 | 0x87 => other(3 + 2 * field(1)?),
-        0x88 => other(2),
+        0x86 => {
+            let places = (0..field(1)?).map(|i| 3 + 2 * i);
+            let spans: Option<Vec<usize>> = places.map(field).collect();
+            Some((Answer::SoleSpans(spans?), 3 + 2 * field(1)?))
+        }
+        0x87 => other(3 + 2 * field(1)?),
+        0x88 => Some((Answer::IsSole(*bytes.get(1)?), 2)),
         0x89 => Some((Answer::Marked, 1)),
         0x8A => Some((Answer::Fed(*bytes.get(1)?), 2)),
         0x8F => Some((Answer::Share(field(1)?), 3)),
         _ => None,
+    }
+}
+
+/// The byte that an answer to this command begins with. A span is answered alike whether it comes
+/// from 02 or from 0B.
+fn answering(command: Command) -> u8 {
+    match command {
+        Command::AddCabinet => 0x81,
+        Command::AddSpan(..) | Command::AddInDuct(..) => 0x82,
+        Command::DistrictName(_) => 0x83,
+        Command::RingName(_) => 0x84,
+        Command::SharedMesh(..) => 0x85,
+        Command::SoleSpans(..) => 0x86,
+        Command::CutCabinets(..) => 0x87,
+        Command::IsSole(_) => 0x88,
+        Command::Mark(_) => 0x89,
+        Command::IsFed(_) => 0x8A,
+        Command::Share => 0x8F,
     }
 }
 
@@ -84,7 +114,7 @@ impl NameList {
                 append(&mut self.names.mesh, *number, *mesh)?;
                 notices.iter().try_for_each(|notice| self.set(*notice))
             }
-            Answer::Marked | Answer::Fed(_) | Answer::Share(_) | Answer::Other => Ok(()),
+            _ => Ok(()),
         }
     }
 
@@ -117,6 +147,7 @@ pub struct Planner<'a> {
     read: usize,
     list: NameList,
     marks: Marks,
+    mates: Mates,
     sent: ByKind<usize>,
     commands: usize,
     fault: Option<String>,
@@ -129,14 +160,15 @@ impl<'a> Planner<'a> {
             read: 0,
             list: NameList::default(),
             marks: Marks::default(),
+            mates: Mates::default(),
             sent: ByKind::default(),
             commands: 0,
             fault: None,
         }
     }
 
-    /// Reads the answer to one more accepted command and checks demand 3, and the exchanges, up to
-    /// here.
+    /// Reads the answer to one more accepted command and checks demand 3, the exchanges and the mates
+    /// up to here.
     pub fn watch(&mut self, accepted: &Accepted) {
         if self.fault.is_some() {
             return;
@@ -147,7 +179,7 @@ impl<'a> Planner<'a> {
         }
     }
 
-    /// What was read, or what demand 3 or the exchanges do not bear.
+    /// What was read, or what demand 3, the exchanges or the mates do not bear.
     pub fn result(self) -> Result<Read, String> {
         if let Some(fault) = self.fault {
             return Err(fault);
@@ -157,8 +189,11 @@ impl<'a> Planner<'a> {
     }
 
     fn check(&mut self, accepted: &Accepted) -> Result<(), String> {
-        let (answer, length) =
-            decode(&self.answers[self.read..]).ok_or("the bytes are no answer")?;
+        let bytes = &self.answers[self.read..];
+        if bytes.first() != Some(&answering(accepted.command)) {
+            return Err(format!("{:02X?} begins no answer to this", bytes.first()));
+        }
+        let (answer, length) = decode(bytes).ok_or("the bytes are no answer")?;
         self.read += length;
         self.list.feed(&answer)?;
         if let Answer::Span { notices, .. } = &answer {
@@ -168,7 +203,8 @@ impl<'a> Planner<'a> {
             return Err("the name list differs from the naming book".to_string());
         }
         self.check_counts(accepted.after)?;
-        self.marks.check(accepted.command, &answer, &self.list.names.ring)
+        self.marks.check(accepted.command, &answer, &self.list.names.ring)?;
+        self.mates.check(accepted.command, &answer, &self.list.names)
     }
 
     /// Each notice moves its item into a group at least twice the size of the one it left.

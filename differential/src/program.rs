@@ -1,11 +1,13 @@
 //! The program of document 01, driven from outside: standard input to standard output.
 
 use crate::cases::{hex, unhex, Case};
+use crate::ducts;
 use crate::exchanges;
 use crate::histories::{marked, TRIANGLE, TRIANGLE_ANSWERS};
 use crate::journals::{random_case, Writer};
 use crate::second::command::Capacities;
 use crate::second::Second;
+use crate::spans::Span;
 use std::fs::File;
 use std::io::Write;
 use std::process::{Command, Output, Stdio};
@@ -97,22 +99,24 @@ pub fn drive(path: &str, seed: u64) -> Result<usize, String> {
 }
 
 fn inputs(seed: u64) -> Vec<Vec<u8>> {
-    let known = marked().into_iter().chain(exchanges::known());
-    let mut inputs: Vec<Vec<u8>> = known.map(|case: Case| case.journal).collect();
+    let known = [marked(), exchanges::known(), ducts::known()].concat();
+    let mut inputs: Vec<Vec<u8>> = known.into_iter().map(|case: Case| case.journal).collect();
     inputs.extend((seed..seed + 300).map(|seed| random_case(seed).journal));
     inputs.extend([CABINETS, CABINETS + 1].map(|count| vec![0x01; count]));
-    inputs.extend([SPANS, SPANS + 1].map(spans));
+    for duct in [0, 5] {
+        inputs.extend([SPANS, SPANS + 1].map(|count| spans(count, duct)));
+    }
     inputs.extend([LONGEST, LONGEST + 1, LONGEST + 2, 200_000].map(questions));
     inputs.push(too_many_answers());
     inputs
 }
 
-/// Two cabinets and so many spans between them.
-fn spans(count: usize) -> Vec<u8> {
+/// Two cabinets and so many spans between them, by 02 or, with a duct that is not 0, all mates.
+fn spans(count: usize, duct: usize) -> Vec<u8> {
     let mut writer = Writer::new();
     writer.cabinet();
     writer.cabinet();
-    (0..count).for_each(|_| writer.span(0, 1));
+    (0..count).for_each(|_| writer.add(Span { a: 0, b: 1, duct }));
     writer.bytes
 }
 

@@ -1,4 +1,4 @@
-//! Every refusal from 1 to 12, by every way to it, and the order of the lines where two apply.
+//! Every refusal from 1 to 13, by every way to it, and the order of the lines where two apply.
 
 use crate::cases::{unhex, Case};
 use crate::engine::{work_needed, LONGEST_JOURNAL};
@@ -16,6 +16,7 @@ pub fn all() -> Vec<Case> {
         unknown_spans(),
         equal_cabinets(),
         already_exchange(),
+        no_duct(),
         no_capacity(),
         across_districts(),
         no_room(),
@@ -80,6 +81,20 @@ const MARKED: Beginning = Beginning {
 /// The same with a cabinet and a span to spare.
 const MARKED_TO_SPARE: Beginning = Beginning { c: 4, s: 3, ..MARKED };
 
+/// Three cabinets, of which 0 and 1 are joined by two mates in duct 5. C and S are full.
+const MATES: Beginning = Beginning {
+    c: 3,
+    s: 2,
+    journal: "01 01 01 0B 0000 0001 0005 0B 0001 0000 0005",
+    answers: "81 0000 81 0001 81 0002 82 0000 0000 0001 01 0001 0000 82 0001 0000 0000",
+    commands: 5,
+    cabinets: 3,
+    spans: 2,
+};
+
+/// The same with a cabinet and a span to spare.
+const MATES_TO_SPARE: Beginning = Beginning { c: 4, s: 3, ..MATES };
+
 impl Beginning {
     /// With these bytes behind it, whose first command is refused with this number. No room is
     /// left for an answer, so each number comes before 11.
@@ -107,7 +122,7 @@ impl Beginning {
         let answers = [unhex(self.answers), answer].concat();
         let (place, written) = (journal.len() as u32, answers.len() as u32);
         let cabinets = self.cabinets + u32::from(byte == 1);
-        let spans = self.spans + u32::from(byte == 2);
+        let spans = self.spans + u32::from(byte == 0x02 || byte == 0x0B);
         let report = [0, place, self.commands + 1, written, cabinets, spans];
         Case::with_room(label, self.c, self.s, journal, 0).leaves(answers, report)
     }
@@ -190,6 +205,7 @@ fn cut_off() -> Vec<Case> {
                 cases.push(NOTHING.stopped("cut off, alone", &bytes, 5));
                 cases.push(SMALL.stopped("cut off", &bytes, 5));
                 cases.push(MARKED.stopped("cut off behind exchanges", &bytes, 5));
+                cases.push(MATES.stopped("cut off behind mates", &bytes, 5));
             }
         }
     }
@@ -208,9 +224,21 @@ fn unknown_cabinets() -> Vec<Case> {
             cases.push(SMALL.stopped_at("second unknown", byte, &[1, unknown], 6));
             cases.push(SMALL.stopped_at("equal and unknown", byte, &[unknown, unknown], 6));
         }
+        for duct in [0, 5] {
+            for beginning in [SMALL, MATES, MATES_TO_SPARE] {
+                let stopped = |label, a, b| beginning.stopped_at(label, 0x0B, &[a, b, duct], 6);
+                cases.push(stopped("first unknown, 0B", unknown, 0));
+                cases.push(stopped("second unknown, 0B", 1, unknown));
+                cases.push(stopped("equal and unknown, 0B", unknown, unknown));
+            }
+        }
     }
     for byte in [2, 5, 6, 7] {
         cases.push(NOTHING.stopped_at("none at all", byte, &[0, 0], 6));
+    }
+    for duct in [0, 1] {
+        cases.push(NOTHING.stopped_at("none at all, 0B", 0x0B, &[0, 0, duct], 6));
+        cases.push(ONE_CABINET.stopped_at("0B 0 1 with one cabinet", 0x0B, &[0, 1, duct], 6));
     }
     for byte in [0x03, 0x04, 0x09, 0x0A] {
         cases.push(NOTHING.stopped_at("none at all", byte, &[0], 6));
@@ -239,6 +267,15 @@ fn equal_cabinets() -> Vec<Case> {
         }
         cases.push(ONE_CABINET.stopped_at("one cabinet", byte, &[0, 0], 8));
     }
+    for duct in [0, 5, 0xFFFF] {
+        for cabinet in 0..3 {
+            for beginning in [SMALL, SMALL_TO_SPARE, MATES, MATES_TO_SPARE] {
+                let operands = [cabinet, cabinet, duct];
+                cases.push(beginning.stopped_at("equal, 8 before 13 and 9", 0x0B, &operands, 8));
+            }
+        }
+        cases.push(ONE_CABINET.stopped_at("one cabinet, 0B", 0x0B, &[0, 0, duct], 8));
+    }
     cases
 }
 
@@ -261,12 +298,36 @@ fn already_exchange() -> Vec<Case> {
     cases
 }
 
+/// 13 comes before 9 and before 11, in one district and across two, beside spans of every kind and
+/// beside none, in both directions. It is for duct 0 only: 256 has 0 in its low byte.
+fn no_duct() -> Vec<Case> {
+    let mut cases = vec![TWO_CABINETS.stopped_at("13, no span yet", 0x0B, &[0, 1, 0], 13)];
+    for beginning in [SMALL, SMALL_TO_SPARE, MARKED, MARKED_TO_SPARE, MATES, MATES_TO_SPARE] {
+        for [a, b] in [[0, 1], [1, 0], [0, 2], [2, 1]] {
+            cases.push(beginning.stopped_at("13, before 11", 0x0B, &[a, b, 0], 13));
+            let mut roomy = beginning.stopped_at("13 with room", 0x0B, &[a, b, 0], 13);
+            roomy.answers += 12;
+            cases.push(roomy);
+        }
+    }
+    let answer = unhex("82 0001 0001 0001 01 0002 0000");
+    for duct in [1, 255, 256, 0xFF00, 0xFFFF] {
+        let operands = [2, 1, duct];
+        cases.push(SMALL_TO_SPARE.goes_on("no 13", 0x0B, &operands, answer.clone()));
+    }
+    cases
+}
+
 fn no_capacity() -> Vec<Case> {
     vec![
         ONE_CABINET.stopped_at("second cabinet of one", 1, &[], 9),
         SMALL.stopped_at("01 with C cabinets", 1, &[], 9),
         SMALL.stopped_at("02 with S spans, across districts", 2, &[0, 2], 9),
         SMALL.stopped_at("02 with S spans, in one district", 2, &[1, 0], 9),
+        SMALL.stopped_at("0B with S spans, across districts", 0x0B, &[0, 2, 5], 9),
+        SMALL.stopped_at("0B with S spans, in one district", 0x0B, &[1, 0, 5], 9),
+        MATES.stopped_at("a mate with S spans", 0x0B, &[0, 1, 5], 9),
+        MATES.stopped_at("02 beside mates with S spans", 0x02, &[0, 1], 9),
     ]
 }
 
@@ -284,7 +345,7 @@ fn across_districts() -> Vec<Case> {
 /// A beginning, a command behind it, and its answer.
 type Answered = (Beginning, u8, &'static [usize], &'static str);
 
-const ANSWERED: [Answered; 20] = [
+const ANSWERED: [Answered; 27] = [
     (SMALL_TO_SPARE, 0x01, &[], "81 0003"),
     (SMALL_TO_SPARE, 0x02, &[0, 2], "82 0001 0001 0001 01 0002 0000"),
     (SMALL_TO_SPARE, 0x02, &[0, 1], "82 0001 0000 0001 02 0001 0000"),
@@ -305,6 +366,13 @@ const ANSWERED: [Answered; 20] = [
     (MARKED_TO_SPARE, 0x0A, &[2], "8A 01"),
     (MARKED_TO_SPARE, 0x0F, &[], "8F 03E8"),
     (NOTHING, 0x0F, &[], "8F 0000"),
+    (SMALL_TO_SPARE, 0x0B, &[0, 2, 5], "82 0001 0001 0001 01 0002 0000"),
+    (SMALL_TO_SPARE, 0x0B, &[1, 0, 5], "82 0001 0000 0001 02 0001 0000"),
+    (MATES_TO_SPARE, 0x0B, &[0, 1, 5], "82 0002 0000 0000"),
+    (MATES_TO_SPARE, 0x0B, &[0, 1, 6], "82 0002 0000 0001 02 0001 0000"),
+    (MATES_TO_SPARE, 0x02, &[0, 1], "82 0002 0000 0001 02 0001 0000"),
+    (MATES_TO_SPARE, 0x06, &[1, 0], "86 0001 0000"),
+    (MATES_TO_SPARE, 0x08, &[1], "88 01"),
 ];
 
 /// Each command with every room that is too small for its answer, and with just enough.

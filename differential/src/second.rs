@@ -1,4 +1,4 @@
-//! A second implementation of document 01 and of document 02's first two requests, to compare
+//! A second implementation of document 01 and of document 02's first three requests, to compare
 //! others with. After each command everything is computed anew from the list of spans; nothing is
 //! kept but the naming book and the list of exchanges.
 
@@ -7,18 +7,21 @@ pub mod command;
 pub mod exchanges;
 pub mod forecast;
 pub mod groups;
+pub mod mates;
 
 use crate::engine::{Call, Engine, Forecast, REPORT_NUMBERS};
 use book::{Book, Fault};
 use command::{answer, read, refusal, Capacities, Command};
 use exchanges::{Exchanges, Misfeed};
 use forecast::forecast;
+use mates::Misduct;
 use std::rc::Rc;
 
 #[derive(Default)]
 pub struct Second {
     fault: Option<Fault>,
     misfeed: Option<Misfeed>,
+    misduct: Option<Misduct>,
     misforecast: Option<Misforecast>,
 }
 
@@ -39,13 +42,12 @@ impl State {
             Command::AddCabinet => {
                 Some(State { book: Rc::new(book.with_cabinet()), exchanges: exchanges.clone() })
             }
-            Command::AddSpan(a, b) => {
-                let after = Rc::new(book.with_span(a, b));
-                let exchanges = exchanges.after_span(&book.names.ring, &after.names.ring);
-                Some(State { book: after, exchanges })
-            }
             Command::Mark(a) => Some(State { book: book.clone(), exchanges: exchanges.with(a) }),
-            _ => None,
+            _ => command.span().map(|span| {
+                let after = Rc::new(book.with_span(span));
+                let exchanges = exchanges.after_span(&book.names.ring, &after.names.ring);
+                State { book: after, exchanges }
+            }),
         }
     }
 }
@@ -85,6 +87,11 @@ impl Second {
         Second { misfeed: Some(misfeed), ..Second::default() }
     }
 
+    /// The same with a fault in the ducts.
+    pub fn with_misduct(misduct: Misduct) -> Second {
+        Second { misduct: Some(misduct), ..Second::default() }
+    }
+
     /// The same with a fault in the forecast.
     pub fn with_misforecast(misforecast: Misforecast) -> Second {
         Second { misforecast: Some(misforecast), ..Second::default() }
@@ -99,7 +106,7 @@ impl Second {
         watch: &mut dyn FnMut(Accepted),
     ) -> Run {
         let mut state = State {
-            book: Rc::new(Book::empty(self.fault)),
+            book: Rc::new(Book::empty(self.fault, self.misduct)),
             exchanges: Exchanges::none(self.misfeed),
         };
         let mut run = Run::default();

@@ -1,44 +1,48 @@
-//! The fast parts of the second implementation against the definitions word for word.
+//! The fast parts of the second implementation against the definitions word for word, and these
+//! against those of document 01 in the network in which each set of mates is one span.
 
-use differential::layouts;
-use differential::literal;
+use differential::layouts::{self, DUCTS};
+use differential::literal::{self, Plant};
 use differential::random::Random;
 use differential::second::book::Book;
 use differential::second::exchanges::{counts, Exchanges};
 use differential::second::groups::{
     cut_cabinets, groups, is_sole, route, shared_mesh, sole_spans, Network,
 };
+use differential::spans::Span;
 
 fn check_groups(network: &Network) {
+    let plant = Plant::of(network);
     let found = groups(network);
     for a in 0..network.cabinets {
         for b in 0..network.cabinets {
             let district = found.district[a] == found.district[b];
-            assert_eq!(district, literal::share_district(network, a, b), "{network:?} {a} {b}");
+            assert_eq!(district, literal::share_district(plant, a, b), "{network:?} {a} {b}");
             let ring = found.ring[a] == found.ring[b];
-            assert_eq!(ring, literal::share_ring(network, a, b), "{network:?} {a} {b}");
+            assert_eq!(ring, literal::share_ring(plant, a, b), "{network:?} {a} {b}");
         }
     }
     for s in 0..network.spans.len() {
         for t in 0..network.spans.len() {
             let mesh = found.mesh[s] == found.mesh[t];
-            assert_eq!(mesh, literal::share_mesh(network, s, t), "{network:?} {s} {t}");
+            assert_eq!(mesh, literal::share_mesh(plant, s, t), "{network:?} {s} {t}");
         }
-        assert_eq!(is_sole(network, &found, s), literal::is_sole(network, s), "{network:?} {s}");
+        assert_eq!(is_sole(network, &found, s), literal::is_sole(plant, s), "{network:?} {s}");
     }
 }
 
 fn check_questions(network: &Network) {
+    let plant = Plant::of(network);
     let found = groups(network);
     for a in 0..network.cabinets {
         for b in 0..network.cabinets {
             match route(network, a, b) {
-                None => assert!(!literal::share_district(network, a, b)),
+                None => assert!(!literal::share_district(plant, a, b)),
                 Some(route) => {
                     let sole = sole_spans(network, &found, &route);
-                    assert_eq!(sole, literal::sole_spans(network, a, b), "{network:?} {a} {b}");
+                    assert_eq!(sole, literal::sole_spans(plant, a, b), "{network:?} {a} {b}");
                     let cut = cut_cabinets(&found, &route);
-                    assert_eq!(cut, literal::cut_cabinets(network, a, b), "{network:?} {a} {b}");
+                    assert_eq!(cut, literal::cut_cabinets(plant, a, b), "{network:?} {a} {b}");
                 }
             }
             if a != b {
@@ -50,44 +54,46 @@ fn check_questions(network: &Network) {
 
 /// The shared mesh is found exactly if there is one, and there is at most one.
 fn check_shared_mesh(network: &Network, a: usize, b: usize) {
+    let plant = Plant::of(network);
     let found = shared_mesh(network, &groups(network), a, b);
-    let shared = literal::spans_of_shared_mesh(network, a, b);
+    let shared = literal::spans_of_shared_mesh(plant, a, b);
     assert_eq!(found.is_some(), !shared.is_empty(), "{network:?} {a} {b}");
     if let Some(span) = found {
         assert!(shared.contains(&span), "{network:?} {a} {b}");
     }
     for &s in &shared {
-        assert!(literal::share_mesh(network, s, shared[0]), "{network:?} {a} {b}");
+        assert!(literal::share_mesh(plant, s, shared[0]), "{network:?} {a} {b}");
     }
 }
 
 /// The book's names for the spans of a network, entered one after the other.
 fn check_names(network: &Network) {
-    let mut book = Book::empty(None);
+    let mut book = Book::empty(None, None);
     for _ in 0..network.cabinets {
         book = book.with_cabinet();
     }
-    for &(a, b) in &network.spans {
-        let after = book.with_span(a, b);
+    for &span in &network.spans {
+        let after = book.with_span(span);
         check_names_after(&book, &after);
         book = after;
     }
 }
 
+/// The groups without the span are those of the network before it: its mates stay in.
 fn check_names_after(before: &Book, after: &Book) {
-    let (old, new) = (&before.network, &after.network);
+    let (old, new) = (Plant::of(&before.network), Plant::of(&after.network));
     let district = literal::renamed(
         &before.names.district,
         &|x, y| literal::share_district(old, x, y),
         &|x, y| literal::share_district(new, x, y),
     );
-    assert_eq!(after.names.district, district, "{new:?}");
+    assert_eq!(after.names.district, district, "{:?}", after.network);
     let ring =
         literal::renamed(&before.names.ring, &|x, y| literal::share_ring(old, x, y), &|x, y| {
             literal::share_ring(new, x, y)
         });
-    assert_eq!(after.names.ring, ring, "{new:?}");
-    let number = old.spans.len();
+    assert_eq!(after.names.ring, ring, "{:?}", after.network);
+    let number = before.network.spans.len();
     let mut first = before.names.mesh.clone();
     first.push(number);
     let alone = |x: usize, y: usize| x == y && x == number;
@@ -96,7 +102,7 @@ fn check_names_after(before: &Book, after: &Book) {
         &|x, y| alone(x, y) || (x != number && y != number && literal::share_mesh(old, x, y)),
         &|x, y| literal::share_mesh(new, x, y),
     );
-    assert_eq!(after.names.mesh, mesh, "{new:?}");
+    assert_eq!(after.names.mesh, mesh, "{:?}", after.network);
 }
 
 /// Sets of up to eight exchanges, a bit for each cabinet.
@@ -115,19 +121,71 @@ fn check_exchanges(network: &Network) {
 
 /// Each ring's count is that of its exchanges, and over all rings the counts add up.
 fn check_marked(network: &Network, marked: &[usize]) {
+    let plant = Plant::of(network);
     let found = groups(network);
     let none = Exchanges::none(None);
     let exchanges = marked.iter().fold(none, |exchanges, &cabinet| exchanges.with(cabinet));
     let counts = counts(&found.ring, marked);
     for a in 0..network.cabinets {
         let fed = exchanges.feed(&found, a);
-        assert_eq!(fed, literal::is_fed(network, marked, a), "{network:?} {marked:?} {a}");
-        let beside = marked.iter().filter(|&&b| literal::share_ring(network, a, b)).count();
+        assert_eq!(fed, literal::is_fed(plant, marked, a), "{network:?} {marked:?} {a}");
+        let beside = marked.iter().filter(|&&b| literal::share_ring(plant, a, b)).count();
         assert_eq!(counts[found.ring[a]], beside, "{network:?} {marked:?} {a}");
     }
     assert_eq!(counts.iter().sum::<usize>(), marked.len(), "{network:?} {marked:?}");
     let share = exchanges.share(&found);
-    assert_eq!(share, literal::fed_share(network, marked), "{network:?} {marked:?}");
+    assert_eq!(share, literal::fed_share(plant, marked), "{network:?} {marked:?}");
+}
+
+/// The groups by losses are those of document 01 for the network in which each set of mates is one
+/// span, and so are the lists of 06 and 07.
+fn check_reduced(network: &Network) {
+    let reduced = literal::reduced(network);
+    let (whole, single) = (Plant::of(network), Plant::without_mates(&reduced.network));
+    check_reduced_pairs(whole, single, &reduced.number);
+    let stands_for = |span: usize| reduced.stands_for[span];
+    for s in 0..network.spans.len() {
+        for t in 0..network.spans.len() {
+            let mesh = literal::share_mesh(single, stands_for(s), stands_for(t));
+            assert_eq!(literal::share_mesh(whole, s, t), mesh, "{network:?} {s} {t}");
+        }
+        let sole = literal::is_sole(single, stands_for(s));
+        assert_eq!(literal::is_sole(whole, s), sole, "{network:?} {s}");
+    }
+}
+
+/// `number` has for each span of the single ones its number in the whole network.
+fn check_reduced_pairs(whole: Plant, single: Plant, number: &[usize]) {
+    let network = whole.network;
+    for a in 0..network.cabinets {
+        for b in 0..network.cabinets {
+            let district = literal::share_district(single, a, b);
+            assert_eq!(literal::share_district(whole, a, b), district, "{network:?} {a} {b}");
+            let ring = literal::share_ring(single, a, b);
+            assert_eq!(literal::share_ring(whole, a, b), ring, "{network:?} {a} {b}");
+            if district {
+                let sole = literal::sole_spans(single, a, b);
+                let sole: Vec<usize> = sole.into_iter().map(|span| number[span]).collect();
+                assert_eq!(literal::sole_spans(whole, a, b), sole, "{network:?} {a} {b}");
+                let cut = literal::cut_cabinets(single, a, b);
+                assert_eq!(literal::cut_cabinets(whole, a, b), cut, "{network:?} {a} {b}");
+            }
+            if a != b {
+                check_reduced_mesh(whole, single, number, a, b);
+            }
+        }
+    }
+}
+
+/// Two cabinets share a mesh exactly if they do by the single spans, and those that have spans in it
+/// are the same.
+fn check_reduced_mesh(whole: Plant, single: Plant, number: &[usize], a: usize, b: usize) {
+    let is_kept = |span: &usize| number.contains(span);
+    let shared = literal::spans_of_shared_mesh(whole, a, b);
+    let kept: Vec<usize> = shared.into_iter().filter(is_kept).collect();
+    let of_single = literal::spans_of_shared_mesh(single, a, b);
+    let of_single: Vec<usize> = of_single.into_iter().map(|span| number[span]).collect();
+    assert_eq!(kept, of_single, "{:?} {a} {b}", whole.network);
 }
 
 fn check(network: &Network) {
@@ -137,16 +195,24 @@ fn check(network: &Network) {
     check_exchanges(network);
 }
 
-/// Every list of `count` spans between `cabinets` cabinets, each span from less to greater.
+/// Every list of `count` spans from 02 between `cabinets` cabinets, each from less to greater.
 fn every_list(cabinets: usize, count: usize, each: &mut dyn FnMut(&Network)) {
-    let mut pairs = Vec::new();
-    for b in 0..cabinets {
-        for a in 0..b {
-            pairs.push((a, b));
-        }
-    }
-    layouts::every_list(&pairs, count, &mut |spans| each(&Network { cabinets, spans }));
+    layouts::every_list(&layouts::rising(cabinets), count, &mut |spans| {
+        each(&Network { cabinets, spans, fault: None });
+    });
 }
+
+/// Every list of `count` spans between `cabinets` cabinets, each from 02 or in one of two ducts, with
+/// directions by turns.
+fn every_list_in_ducts(cabinets: usize, count: usize, each: &mut dyn FnMut(&Network)) {
+    layouts::every_list_by_turns(cabinets, 2, count, &mut |spans| {
+        each(&Network { cabinets, spans, fault: None });
+    });
+}
+
+/// The numbers of cabinets, with the greatest numbers of spans between them.
+const SMALL_IN_DUCTS: [(usize, usize); 4] = [(2, 6), (3, 4), (4, 3), (5, 2)];
+const REDUCED: [(usize, usize); 4] = [(2, 7), (3, 5), (4, 4), (5, 3)];
 
 #[test]
 fn every_small_network() {
@@ -163,12 +229,43 @@ fn every_small_network() {
 }
 
 #[test]
-fn random_networks() {
-    let mut random = Random::new(1);
-    for _ in 0..2000 {
-        let cabinets = random.between(2, 8);
-        let count = random.between(1, cabinets + 3);
-        let spans = layouts::random_spans(&mut random, cabinets, count).spans;
-        check(&Network { cabinets, spans });
+fn every_small_network_in_ducts() {
+    for (cabinets, most) in SMALL_IN_DUCTS {
+        (0..=most).for_each(|count| every_list_in_ducts(cabinets, count, &mut check));
     }
+}
+
+#[test]
+fn every_small_network_reduced() {
+    for (cabinets, most) in REDUCED {
+        (0..=most).for_each(|count| every_list_in_ducts(cabinets, count, &mut check_reduced));
+    }
+}
+
+/// So many random networks; of these every other one has spans in ducts.
+fn some_networks(count: usize, seed: u64, each: &mut dyn FnMut(&Network)) {
+    let mut random = Random::new(seed);
+    for number in 0..count {
+        let cabinets = random.between(2, 8);
+        let spans = random.between(1, cabinets + 3);
+        let mut layout = layouts::random_spans(&mut random, cabinets, spans);
+        if number % 2 == 1 {
+            let ducts = *random.pick(&DUCTS);
+            let beside: Vec<Span> = layout
+                .spans
+                .iter()
+                .filter(|_| random.chance(40))
+                .map(|span| span.turned())
+                .collect();
+            layout.spans.extend(beside);
+            layout.lay(&mut random, 80, ducts);
+        }
+        each(&Network { cabinets, spans: layout.spans, fault: None });
+    }
+}
+
+#[test]
+fn random_networks() {
+    some_networks(4000, 1, &mut check);
+    some_networks(4000, 2, &mut check_reduced);
 }

@@ -12,7 +12,7 @@ use Rattle.graph.proofs.Lengths.{few-bridges-between, few-cuts-between}
 use Rattle.naming.specs.State.{State}
 use Rattle.commands.specs.Bytes.{twoBytes}
 use Rattle.commands.specs.Field.{cabinet, span, fieldBytes, fieldsBytes}
-use Rattle.commands.specs.Command.{Command, addCabinet, addSpan, districtName, ringName, sharedMesh, soleSpans, cutCabinets, isSole, markExchange, holdsExchange, exchangeShare}
+use Rattle.commands.specs.Command.{Command, addCabinet, addSpan, districtName, ringName, sharedMesh, soleSpans, cutCabinets, isSole, markExchange, holdsExchange, addDuctSpan, exchangeShare}
 use Rattle.commands.specs.Answer.{Notice, spanAdded, plain, plainFields, answerFields, answerBytes}
 use Rattle.commands.specs.Facts.{Facts, addsCabinet, addsSpan, addsNothing, asks, meshAnswer, facts, spanAnswer, answerTo, answer}
 use Rattle.commands.specs.WholeRun.{noticesIn}
@@ -60,6 +60,7 @@ module _ (state : State) (c s : ℕ) (few-cabinets : state .book .network .verti
   plain-no-longer (isSole x) = omega arith
   plain-no-longer (markExchange x) = omega arith
   plain-no-longer (holdsExchange x) = omega arith
+  plain-no-longer (addDuctSpan x y d) = tt
   plain-no-longer exchangeShare = omega arith
 
   -- no answer is longer than is said of it, but for its notices

@@ -22,7 +22,7 @@ use Rattle.naming.specs.Rename.{nameOf}
 use Rattle.naming.specs.Book.{Book, edge, enterEdge, feed}
 use Rattle.naming.specs.State.{State, afterAddition, afterRecording}
 use Rattle.commands.specs.Field.{Kind, district, ring, mesh, Field, cabinet, span}
-use Rattle.commands.specs.Command.{Command, addCabinet, addSpan, districtName, ringName, sharedMesh, soleSpans, cutCabinets, isSole, markExchange, holdsExchange, exchangeShare}
+use Rattle.commands.specs.Command.{Command, addCabinet, addSpan, districtName, ringName, sharedMesh, soleSpans, cutCabinets, isSole, markExchange, holdsExchange, addDuctSpan, exchangeShare}
 use Rattle.commands.specs.Answer.{Notice, noticeFields, noticesFields, notices, plain, plainFields, answerFields}
 use Rattle.commands.specs.Facts.{Facts, addsCabinet, addsSpan, addsNothing, asks, meshAnswer, facts, operandsOf, additionOf, addition, after, spanAnswer, answerTo, answer}
 use Rattle.commands.specs.Refusal.{Capacities, cabinetKnown, cabinetsKnown, refusalOf}
@@ -159,6 +159,7 @@ module _ (caps : Capacities) (range : InRange caps) where
     plain-fits (isSole x) known = (tt, (tt, tt))
     plain-fits (markExchange x) known = (tt, tt)
     plain-fits (holdsExchange x) known = (tt, (tt, tt))
+    plain-fits (addDuctSpan x y d) known = tt
     plain-fits exchangeShare known = (tt, (omega (arith, share-at-most s), tt))
 
     -- every number in the answer fits

@@ -12,8 +12,8 @@ use Rattle.graph.specs.Lists.{allIn}
 use Rattle.graph.proofs.Truth.{not-of-true, not-of-false, false-of-not-true, true-of-not-false, and-left, and-right, and-both}
 use Rattle.naming.specs.State.{State}
 use Rattle.commands.specs.Command.{Command, form, Reading, unknownByte, cutOff, command, readCommand}
-use Rattle.commands.specs.Facts.{Demand, differ, noExchange, shareDistrict, facts, demandsOf}
-use Rattle.commands.specs.Refusal.{Refusal, badByte, cutOperands, unknownCabinet, unknownSpan, equalCabinets, full, twoDistricts, alreadyExchange, refusalNumber, Capacities, cabinetsKnown, spansKnown, met, cause, meets, isFull, lines, refusalOf}
+use Rattle.commands.specs.Facts.{Demand, differ, noExchange, someDuct, shareDistrict, facts, demandsOf}
+use Rattle.commands.specs.Refusal.{Refusal, badByte, cutOperands, unknownCabinet, unknownSpan, equalCabinets, full, twoDistricts, alreadyExchange, noDuct, refusalNumber, Capacities, cabinetsKnown, spansKnown, met, cause, meets, isFull, lines, refusalOf}
 use Rattle.commands.proofs.Reading.{isCommand, widthOf, no-command-exactly, cut-off-exactly}
 use Rattle.commands.proofs.Steps.{RefusedFor, for-byte, for-operands, for-command}
 use Rattle.commands.proofs.Table.{given-exactly, stage, Between, given-between, NoneOf, none-exactly}
@@ -30,20 +30,23 @@ not-is-false b = (true-of-not-false b, not-of-true)
 abbrev MetFor : Refusal → State → List Demand → Type 0
 MetFor r s ds = allIn (λ d. not (eqb (refusalNumber (cause d)) (refusalNumber r)) || met s d) ds ≡ true
 
--- where every demand that could give one of the three refusals is met, every demand is
-each-met : (s : State) (ds : List Demand) → MetFor equalCabinets s ds → MetFor alreadyExchange s ds → MetFor twoDistricts s ds
+-- where every demand that could give one of the four refusals is met, every demand is
+each-met : (s : State) (ds : List Demand) → MetFor equalCabinets s ds → MetFor alreadyExchange s ds → MetFor noDuct s ds → MetFor twoDistricts s ds
     → allIn (met s) ds ≡ true
 unfolding allIn cause refusalNumber
-each-met s [] p q r = refl
-each-met s (differ a b ∷ ds) p q r =
+each-met s [] p q d r = refl
+each-met s (differ a b ∷ ds) p q d r =
     let this = met s (differ a b) in
-    and-both (and-left this _ p) (each-met s ds (and-right this _ p) (and-right true _ q) (and-right true _ r))
-each-met s (noExchange a ∷ ds) p q r =
+    and-both (and-left this _ p) (each-met s ds (and-right this _ p) (and-right true _ q) (and-right true _ d) (and-right true _ r))
+each-met s (noExchange a ∷ ds) p q d r =
     let this = met s (noExchange a) in
-    and-both (and-left this _ q) (each-met s ds (and-right true _ p) (and-right this _ q) (and-right true _ r))
-each-met s (shareDistrict a b ∷ ds) p q r =
+    and-both (and-left this _ q) (each-met s ds (and-right true _ p) (and-right this _ q) (and-right true _ d) (and-right true _ r))
+each-met s (someDuct a ∷ ds) p q d r =
+    let this = met s (someDuct a) in
+    and-both (and-left this _ d) (each-met s ds (and-right true _ p) (and-right true _ q) (and-right this _ d) (and-right true _ r))
+each-met s (shareDistrict a b ∷ ds) p q d r =
     let this = met s (shareDistrict a b) in
-    and-both (and-left this _ r) (each-met s ds (and-right true _ p) (and-right true _ q) (and-right this _ r))
+    and-both (and-left this _ r) (each-met s ds (and-right true _ p) (and-right true _ q) (and-right true _ d) (and-right this _ r))
 
 -- the refusals of a command that was read are those of this stage
 pub table-stage : (caps : Capacities) (s : State) (c : Command) (r : Refusal) → refusalOf caps s c ≡ some r → Between 2 2 r
@@ -74,29 +77,40 @@ module _ (caps : Capacities) (s : State) (c : Command) where
   unfolding refusalOf lines refusalNumber
   already-exchange-exactly = simp (not-is-true, not-is-false) at (given-exactly 3 alreadyExchange (lines caps s c) refl)
 
+  -- no duct: none of these, and the duct is 0
+  pub no-duct-exactly : (refusalOf caps s c ≡ some noDuct)
+      ↔ ((cabinetsKnown s c ≡ true)
+      × ((spansKnown s c ≡ true)
+      × ((meets equalCabinets s c ≡ true) × ((meets alreadyExchange s c ≡ true) × (meets noDuct s c ≡ false)))))
+  unfolding refusalOf lines refusalNumber
+  no-duct-exactly = simp (not-is-true, not-is-false) at (given-exactly 4 noDuct (lines caps s c) refl)
+
   -- full: none of these, and the command adds a cabinet to C cabinets or a span to S spans
   pub full-exactly : (refusalOf caps s c ≡ some full)
       ↔ ((cabinetsKnown s c ≡ true)
       × ((spansKnown s c ≡ true)
-      × ((meets equalCabinets s c ≡ true) × ((meets alreadyExchange s c ≡ true) × (isFull caps s c ≡ true)))))
+      × ((meets equalCabinets s c ≡ true)
+      × ((meets alreadyExchange s c ≡ true) × ((meets noDuct s c ≡ true) × (isFull caps s c ≡ true))))))
   unfolding refusalOf lines refusalNumber
-  full-exactly = simp not-is-false at (given-exactly 4 full (lines caps s c) refl)
+  full-exactly = simp not-is-false at (given-exactly 5 full (lines caps s c) refl)
 
   -- two districts: none of these, and two cabinets share no district that the command wants in one
   pub two-districts-exactly : (refusalOf caps s c ≡ some twoDistricts)
       ↔ ((cabinetsKnown s c ≡ true)
       × ((spansKnown s c ≡ true)
       × ((meets equalCabinets s c ≡ true)
-      × ((meets alreadyExchange s c ≡ true) × ((isFull caps s c ≡ false) × (meets twoDistricts s c ≡ false))))))
+      × ((meets alreadyExchange s c ≡ true)
+      × ((meets noDuct s c ≡ true) × ((isFull caps s c ≡ false) × (meets twoDistricts s c ≡ false)))))))
   unfolding refusalOf lines refusalNumber
-  two-districts-exactly = simp (not-is-true, not-is-false) at (given-exactly 5 twoDistricts (lines caps s c) refl)
+  two-districts-exactly = simp (not-is-true, not-is-false) at (given-exactly 6 twoDistricts (lines caps s c) refl)
 
-  -- none of the six causes
+  -- none of the seven causes
   pub record NotRefused : Type 0 where
     pub cabinets-known : cabinetsKnown s c ≡ true
     pub spans-known : spansKnown s c ≡ true
     pub different-cabinets : meets equalCabinets s c ≡ true
     pub no-exchange : meets alreadyExchange s c ≡ true
+    pub some-duct : meets noDuct s c ≡ true
     pub not-full : isFull caps s c ≡ false
     pub one-district : meets twoDistricts s c ≡ true
 
@@ -108,8 +122,9 @@ module _ (caps : Capacities) (s : State) (c : Command) where
         spans-known = true-of-not-false _ (f .1 .0);
         different-cabinets = true-of-not-false _ (f .1 .1 .0);
         no-exchange = true-of-not-false _ (f .1 .1 .1 .0);
-        not-full = f .1 .1 .1 .1 .0;
-        one-district = true-of-not-false _ (f .1 .1 .1 .1 .1 .0);
+        some-duct = true-of-not-false _ (f .1 .1 .1 .1 .0);
+        not-full = f .1 .1 .1 .1 .1 .0;
+        one-district = true-of-not-false _ (f .1 .1 .1 .1 .1 .1 .0);
       }
 
   no-line : NotRefused → NoneOf (lines caps s c)
@@ -120,12 +135,12 @@ module _ (caps : Capacities) (s : State) (c : Command) where
       not-of-true (n .spans-known),
       (
         not-of-true (n .different-cabinets),
-        (not-of-true (n .no-exchange), (n .not-full, (not-of-true (n .one-district), tt))),
+        (not-of-true (n .no-exchange), (not-of-true (n .some-duct), (n .not-full, (not-of-true (n .one-district), tt)))),
       ),
     ),
   )
 
-  -- a command is not refused exactly if none of the six causes is there
+  -- a command is not refused exactly if none of the seven causes is there
   pub not-refused-exactly : (refusalOf caps s c ≡ none) ↔ NotRefused
   unfolding refusalOf
   not-refused-exactly = Iff·trans (none-exactly (lines caps s c)) (not-refused, no-line)
@@ -133,7 +148,9 @@ module _ (caps : Capacities) (s : State) (c : Command) where
   -- every demand has its line in the table: a command that is not refused meets all its demands
   pub demands-met : refusalOf caps s c ≡ none → allIn (met s) (demandsOf (facts c)) ≡ true
   unfolding meets
-  demands-met e = let n = not-refused-exactly .0 e in each-met s (demandsOf (facts c)) (n .different-cabinets) (n .no-exchange) (n .one-district)
+  demands-met e =
+      let n = not-refused-exactly .0 e in
+      each-met s (demandsOf (facts c)) (n .different-cabinets) (n .no-exchange) (n .some-duct) (n .one-district)
 
 module _ (caps : Capacities) (s : State) where
   -- a command that was read is refused exactly as the table says

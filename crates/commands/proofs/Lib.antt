@@ -38,6 +38,8 @@ pub mod AnswersFit
 pub mod NoticeBound
 pub mod ReadBack
 pub mod WholeRun
+pub mod AlikeStates
+pub mod WithoutDucts
 pub mod AnswersTell
 pub mod Answers
 pub mod Marks

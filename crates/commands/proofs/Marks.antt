@@ -20,7 +20,7 @@ use Rattle.naming.specs.State.{State, emptyState, afterAddition, Recording, rec
 use Rattle.naming.proofs.Count.{count-last-out, count-with}
 use Rattle.naming.proofs.Equivalent.{equivalent-of}
 use Rattle.naming.proofs.GroupSum.{groups-add-up}
-use Rattle.commands.specs.Command.{Command, addCabinet, addSpan, districtName, ringName, sharedMesh, soleSpans, cutCabinets, isSole, markExchange, holdsExchange, exchangeShare, commandByte}
+use Rattle.commands.specs.Command.{Command, addCabinet, addSpan, districtName, ringName, sharedMesh, soleSpans, cutCabinets, isSole, markExchange, holdsExchange, addDuctSpan, exchangeShare, commandByte}
 use Rattle.commands.specs.Facts.{asks, facts, operandsOf, demandsOf, addition, recordingOf, recording, after, stateAfter}
 use Rattle.commands.specs.Refusal.{Capacities, refusalNumber, cabinetKnown, cabinetsKnown, met, cause, meets, refusalOf}
 use Rattle.commands.specs.Entry.{wholeRun, acceptedCommands}
@@ -45,6 +45,7 @@ records-marks (cutCabinets a b) = refl
 records-marks (isSole x) = refl
 records-marks (markExchange a) = refl
 records-marks (holdsExchange a) = refl
+records-marks (addDuctSpan a b d) = refl
 records-marks exchangeShare = refl
 
 -- the byte of a mark is 09

@@ -9,7 +9,7 @@ use native.Mathlib.Omega.{arith}
 use lib.ListN.{length, getD, take, drop, length-take}
 use lib.Seq.{getD-take, take-take, take-add, length-take-le, drop-at}
 use Rattle.commands.specs.Bytes.{number}
-use Rattle.commands.specs.Command.{Command, addCabinet, addSpan, districtName, ringName, sharedMesh, soleSpans, cutCabinets, isSole, markExchange, holdsExchange, exchangeShare, Form, unknown, takes, forms, form, operand, command, readForm, readCommand, commandByte}
+use Rattle.commands.specs.Command.{Command, addCabinet, addSpan, districtName, ringName, sharedMesh, soleSpans, cutCabinets, isSole, markExchange, holdsExchange, addDuctSpan, exchangeShare, Form, unknown, takes, forms, form, operand, command, readForm, readCommand, commandByte}
 use Rattle.commands.specs.Refusal.{Refusal}
 use Rattle.commands.specs.Text.{Read, textOf, placeBehind}
 use Rattle.commands.proofs.ByPlace.{each-at, _also_}
@@ -23,7 +23,7 @@ abbrev pub ByOperands : Form → Type 0
 ByOperands unknown = Unit
 ByOperands (takes n make) = (x y : ℕ → ℕ) → ((k : ℕ) → k < n → x k ≡ y k) → make x ≡ make y
 
--- so it is with no operand, with one and with two
+-- so it is with no operand, with one, with two and with three
 no-operand : (c : Command) → ByOperands (takes 0 (λ x. c))
 no-operand c x y same = refl
 
@@ -32,6 +32,9 @@ one-operand f x y same = ap f (same 0 (omega arith))
 
 two-operands : (f : ℕ → ℕ → Command) → ByOperands (takes 2 (λ x. f (x 0) (x 1)))
 two-operands f x y same = ap₂ f (same 0 (omega arith)) (same 1 (omega arith))
+
+three-operands : (f : ℕ → ℕ → ℕ → Command) → ByOperands (takes 3 (λ x. f (x 0) (x 1) (x 2)))
+three-operands f x y same = rw (same 0 (omega arith), same 1 (omega arith), same 2 (omega arith))
 
 -- so it is with the form of every byte
 pub command-by-operands : (byte : ℕ) → ByOperands (form byte)
@@ -52,7 +55,7 @@ command-by-operands =
     also one-operand isSole
     also one-operand markExchange
     also one-operand holdsExchange
-    also tt
+    also three-operands addDuctSpan
     also tt
     also tt
     also tt
@@ -83,7 +86,7 @@ form-has-byte =
     also (λ x. refl)
     also (λ x. refl)
     also (λ x. refl)
-    also tt
+    also (λ x. refl)
     also tt
     also tt
     also tt

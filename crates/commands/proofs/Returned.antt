@@ -11,7 +11,7 @@ use lib.ListN.{length}
 use Rattle.graph.specs.Network.{Rule}
 use Rattle.naming.specs.State.{State, emptyState}
 use Rattle.commands.specs.Command.{Command, form, readCommand}
-use Rattle.commands.specs.Refusal.{Refusal, badCapacity, shortBuffer, longJournal, badByte, cutOperands, unknownCabinet, unknownSpan, equalCabinets, full, twoDistricts, noRoom, alreadyExchange, refusalNumber, Capacities, cabinetsKnown, spansKnown, meets, isFull, refusalOf}
+use Rattle.commands.specs.Refusal.{Refusal, badCapacity, shortBuffer, longJournal, badByte, cutOperands, unknownCabinet, unknownSpan, equalCabinets, full, twoDistricts, noRoom, alreadyExchange, noDuct, refusalNumber, Capacities, cabinetsKnown, spansKnown, meets, isFull, refusalOf}
 use Rattle.commands.specs.Text.{textOf}
 use Rattle.commands.specs.Run.{Run, runText, fitting, runWithin}
 use Rattle.commands.specs.Entry.{goodCapacities, shortBuffers, Whole, refusedAtStart, wholeRun, numberOf, Buffers, outcome, entryUnder}
@@ -22,7 +22,7 @@ use Rattle.commands.proofs.Steps.{RefusedFor}
 use Rattle.commands.proofs.StateAfter.{stateFed}
 use Rattle.commands.proofs.Place.{RefusedAt, refused-at-place, refused-exactly, StopsWithin, stops-within}
 use Rattle.commands.proofs.Table.{same-number, number-above-zero, stage, Between}
-use Rattle.commands.proofs.Causes.{unknown-cabinet-exactly, unknown-span-exactly, equal-cabinets-exactly, already-exchange-exactly, full-exactly, two-districts-exactly, bad-byte-exactly, cut-operands-exactly, refused-stage}
+use Rattle.commands.proofs.Causes.{unknown-cabinet-exactly, unknown-span-exactly, equal-cabinets-exactly, already-exchange-exactly, no-duct-exactly, full-exactly, two-districts-exactly, bad-byte-exactly, cut-operands-exactly, refused-stage}
 use Rattle.commands.proofs.Refused.{ByteAt, CommandAt, byte-refused-exactly, command-refused-exactly}
 use Rattle.commands.proofs.Start.{StartsWell, start-stage, bad-capacity-exactly, short-buffer-exactly, long-journal-exactly, ran-exactly, refused-or-ran}
 
@@ -261,13 +261,24 @@ module _ (rule : Rule) (caps : Capacities) (journal : List ℕ) (lent : Buffers)
   unfolding refusalNumber stage
   twelve-exactly = command-returned-exactly alreadyExchange (omega arith) _ (already-exchange-exactly caps reached)
 
+  -- 13: none of these, and the duct is 0
+  pub thirteen-exactly : (entryUnder rule caps journal lent .returned ≡ 13)
+      ↔ StoppedAtCommand
+      (λ c.
+      (cabinetsKnown reached c ≡ true)
+      × ((spansKnown reached c ≡ true)
+      × ((meets equalCabinets reached c ≡ true) × ((meets alreadyExchange reached c ≡ true) × (meets noDuct reached c ≡ false)))))
+  unfolding refusalNumber stage
+  thirteen-exactly = command-returned-exactly noDuct (omega arith) _ (no-duct-exactly caps reached)
+
   -- 9: none of these, and the command adds a cabinet to C cabinets or a span to S spans
   pub nine-exactly : (entryUnder rule caps journal lent .returned ≡ 9)
       ↔ StoppedAtCommand
       (λ c.
       (cabinetsKnown reached c ≡ true)
       × ((spansKnown reached c ≡ true)
-      × ((meets equalCabinets reached c ≡ true) × ((meets alreadyExchange reached c ≡ true) × (isFull caps reached c ≡ true)))))
+      × ((meets equalCabinets reached c ≡ true)
+      × ((meets alreadyExchange reached c ≡ true) × ((meets noDuct reached c ≡ true) × (isFull caps reached c ≡ true))))))
   unfolding refusalNumber stage
   nine-exactly = command-returned-exactly full (omega arith) _ (full-exactly caps reached)
 
@@ -278,7 +289,8 @@ module _ (rule : Rule) (caps : Capacities) (journal : List ℕ) (lent : Buffers)
       (cabinetsKnown reached c ≡ true)
       × ((spansKnown reached c ≡ true)
       × ((meets equalCabinets reached c ≡ true)
-      × ((meets alreadyExchange reached c ≡ true) × ((isFull caps reached c ≡ false) × (meets twoDistricts reached c ≡ false))))))
+      × ((meets alreadyExchange reached c ≡ true)
+      × ((meets noDuct reached c ≡ true) × ((isFull caps reached c ≡ false) × (meets twoDistricts reached c ≡ false)))))))
   unfolding refusalNumber stage
   ten-exactly = command-returned-exactly twoDistricts (omega arith) _ (two-districts-exactly caps reached)
 

@@ -1,4 +1,4 @@
--- The marked histories, those with exchanges, the calls of the run's entry and the forecasts hold of the definitions: each table is computed at once.
+-- The marked histories, those with exchanges and with ducts, the calls of the run's entry and the forecasts hold of the definitions: each table is computed at once.
 use mathlib.Core.List.{List, [], _∷_, _++_, map}
 use mathlib.Core.Path.{_≡_, refl, ap}
 use lib.ListN.{replicate}
@@ -8,6 +8,8 @@ use Rattle.commands.specs.Histories.{History, EachShown, histories}
 use Rattle.commands.specs.Histories
 use Rattle.commands.specs.ExchangeHistories
 use Rattle.commands.specs.ExchangeHistories.{exchangeHistories}
+use Rattle.commands.specs.DuctHistories
+use Rattle.commands.specs.DuctHistories.{ductHistories}
 use Rattle.commands.specs.Calls.{sevens, call, atStart, startCalls, stopCalls, cabinetAnswers, acceptedCalls, entered, foretold, forecasts}
 use Rattle.commands.proofs.Computed.{computed}
 
@@ -31,6 +33,11 @@ exchange-histories-made : map made exchangeHistories ≡ exchangeHistories
 unfolding computed Histories.output Histories.accepted Histories.refusedWith Histories.notice ExchangeHistories.exchangeInOneOfTwoRings ExchangeHistories.shareOfCabinets ExchangeHistories.sharesInThirds ExchangeHistories.markedTwice ExchangeHistories.markedNowhere ExchangeHistories.askedNowhere ExchangeHistories.exchangeHistories
 exchange-histories-made = refl
 
+-- and of the one with ducts
+duct-histories-made : map made ductHistories ≡ ductHistories
+unfolding computed Histories.output Histories.accepted Histories.refusedWith Histories.notice DuctHistories.twoInOneDuct DuctHistories.twoInTwoDucts DuctHistories.besideADuct DuctHistories.loopAroundADuct DuctHistories.measuredInSpans DuctHistories.oneNumberAtTwoPairs DuctHistories.greatestDuct DuctHistories.inNoDuct DuctHistories.ductHistories
+duct-histories-made = refl
+
 -- every marked history holds of the definitions
 pub histories-shown : EachShown histories
 histories-shown = each-shown histories histories-made
@@ -38,6 +45,10 @@ histories-shown = each-shown histories histories-made
 -- and every history with exchanges
 pub exchange-histories-shown : EachShown exchangeHistories
 exchange-histories-shown = each-shown exchangeHistories exchange-histories-made
+
+-- and every history with ducts
+pub duct-histories-shown : EachShown ductHistories
+duct-histories-shown = each-shown ductHistories duct-histories-made
 
 -- The entry returns and leaves so for every call.
 pub calls-shown : map entered (startCalls ++ stopCalls ++ acceptedCalls) ≡ map (λ c. c .outcome) (startCalls ++ stopCalls ++ acceptedCalls)

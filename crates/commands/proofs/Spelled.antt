@@ -6,10 +6,10 @@ use mathlib.Core.Path.{_≡_, refl, _∙_, ap, ap₂}
 use Prim.Native.Nat.{ℕ, _+_, _*_}
 use native.Mathlib.Omega.{arith}
 use lib.ListN.{length, drop}
-use Rattle.graph.specs.Network.{edgeBetween}
+use Rattle.graph.specs.Network.{edgeBetween, edgeInDuct}
 use Rattle.commands.specs.Bytes.{twoBytes}
 use Rattle.commands.specs.Field.{fieldBytes, fieldsBytes}
-use Rattle.commands.specs.Command.{Command, addCabinet, addSpan, districtName, ringName, sharedMesh, soleSpans, cutCabinets, isSole, markExchange, holdsExchange, exchangeShare, takes, forms, form, operand, command, readForm, readCommand, commandByte}
+use Rattle.commands.specs.Command.{Command, addCabinet, addSpan, districtName, ringName, sharedMesh, soleSpans, cutCabinets, isSole, markExchange, holdsExchange, addDuctSpan, exchangeShare, takes, forms, form, operand, command, readForm, readCommand, commandByte}
 use Rattle.commands.specs.Facts.{facts, asks, operandsOf, commandBytes}
 use Rattle.commands.specs.Text.{Read, endsWith, followedBy, textFrom, journalBytes}
 use Rattle.commands.proofs.Bytes.{number-of-two-bytes, Small, FieldsFit}
@@ -39,11 +39,19 @@ two-operands f a b rest h k =
     long-enough 2 (λ x. f (x 0) (x 1)) (twoBytes a ++ twoBytes b ++ rest) (omega arith)
     ∙ ap₂ (λ x y. command (f x y) 4) (number-of-two-bytes a h) (number-of-two-bytes b k)
 
+-- and three
+three-operands : (f : ℕ → ℕ → ℕ → Command) (a b c : ℕ) (rest : List ℕ) → Small a → Small b → Small c
+    → readForm (takes 3 (λ x. f (x 0) (x 1) (x 2))) (twoBytes a ++ twoBytes b ++ twoBytes c ++ rest) ≡ command (f a b c) 6
+unfolding operand twoBytes
+three-operands f a b c rest h k l =
+    long-enough 3 (λ x. f (x 0) (x 1) (x 2)) (twoBytes a ++ twoBytes b ++ twoBytes c ++ rest) (omega arith)
+    ∙ rw (number-of-two-bytes a h, number-of-two-bytes b k, number-of-two-bytes c l)
+
 -- a command is read back from its bytes, and whatever follows them stands behind its operands
 pub command-read-back : (c : Command) (rest : List ℕ) → FieldsFit (operandsOf (facts c))
     → (readCommand (commandByte c) (fieldsBytes (operandsOf (facts c)) ++ rest) ≡ command c (operandWidth c))
     × (drop (operandWidth c) (fieldsBytes (operandsOf (facts c)) ++ rest) ≡ rest)
-unfolding readCommand form forms commandByte facts asks operandsOf edgeBetween fieldsBytes fieldBytes twoBytes operandWidth
+unfolding readCommand form forms commandByte facts asks operandsOf edgeBetween edgeInDuct fieldsBytes fieldBytes twoBytes operandWidth
 command-read-back addCabinet rest fit = (no-operand addCabinet rest, refl)
 command-read-back (addSpan a b) rest fit = (two-operands addSpan a b rest (fit .0) (fit .1 .0), refl)
 command-read-back (districtName a) rest fit = (one-operand districtName a rest (fit .0), refl)
@@ -54,6 +62,7 @@ command-read-back (cutCabinets a b) rest fit = (two-operands cutCabinets a b res
 command-read-back (isSole x) rest fit = (one-operand isSole x rest (fit .0), refl)
 command-read-back (markExchange a) rest fit = (one-operand markExchange a rest (fit .0), refl)
 command-read-back (holdsExchange a) rest fit = (one-operand holdsExchange a rest (fit .0), refl)
+command-read-back (addDuctSpan a b d) rest fit = (three-operands addDuctSpan a b d rest (fit .0) (fit .1 .0) (fit .1 .1 .0), refl)
 command-read-back exchangeShare rest fit = (no-operand exchangeShare rest, refl)
 
 -- the numbers in the commands' operands fit into two bytes

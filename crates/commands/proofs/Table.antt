@@ -10,7 +10,7 @@ use native.Mathlib.Omega.{arith}
 use lib.Dec.{leb, eqb}
 use lib.ListN.{getD, getElem?}
 use Rattle.graph.proofs.Truth.{true-or-false, not-both, and-left, and-right, eqb-eq, eqb-same, leb-le, false-of-not, false-of-not-true}
-use Rattle.commands.specs.Refusal.{Refusal, badCapacity, shortBuffer, longJournal, badByte, cutOperands, unknownCabinet, unknownSpan, equalCabinets, full, twoDistricts, noRoom, alreadyExchange, refusalNumber, Line, firstThatApplies}
+use Rattle.commands.specs.Refusal.{Refusal, badCapacity, shortBuffer, longJournal, badByte, cutOperands, unknownCabinet, unknownSpan, equalCabinets, full, twoDistricts, noRoom, alreadyExchange, noDuct, refusalNumber, Line, firstThatApplies}
 use Rattle.commands.proofs.Cases.{impossible}
 
 -- the refusal with a number
@@ -30,6 +30,7 @@ withNumber n =
     ∷ twoDistricts
     ∷ noRoom
     ∷ alreadyExchange
+    ∷ noDuct
     ∷ [])
     n
     badCapacity
@@ -48,6 +49,7 @@ with-its-number full = refl
 with-its-number twoDistricts = refl
 with-its-number noRoom = refl
 with-its-number alreadyExchange = refl
+with-its-number noDuct = refl
 
 -- refusals with the same number are the same
 pub same-number : (r s : Refusal) → refusalNumber r ≡ refusalNumber s → r ≡ s
@@ -68,6 +70,7 @@ number-above-zero full = omega arith
 number-above-zero twoDistricts = omega arith
 number-above-zero noRoom = omega arith
 number-above-zero alreadyExchange = omega arith
+number-above-zero noDuct = omega arith
 
 -- a line that applies gives its refusal
 pub line-applies : (l : Line) (ls : List Line) → l .applies ≡ true → firstThatApplies (l ∷ ls) ≡ some (l .refusal)
@@ -181,6 +184,7 @@ stage equalCabinets = 2
 stage full = 2
 stage twoDistricts = 2
 stage alreadyExchange = 2
+stage noDuct = 2
 stage noRoom = 3
 
 -- the refusal's stage lies between the two

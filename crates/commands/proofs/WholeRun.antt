@@ -5,7 +5,7 @@ use Prim.Native.Nat.{ℕ, suc, _≤_}
 use lib.ListN.{length, take}
 use lib.Seq.{length-take-le}
 use Rattle.graph.specs.Network.{Rule, MateRule}
-use Rattle.graph.proofs.Never.{never-mates}
+use Rattle.graph.proofs.Ducts.{same-duct-mates}
 use Rattle.naming.specs.State.{State, emptyState}
 use Rattle.commands.specs.Command.{Command}
 use Rattle.commands.specs.Facts.{stateAfter}
@@ -61,7 +61,7 @@ whole-run rule r caps journal lent =
 -- the register's is a rule of mates
 pub register-mates : MateRule registerRule
 unfolding registerRule
-register-mates = never-mates
+register-mates = same-duct-mates
 
 -- so the claim holds of every run of the register
 pub register-whole-run : (caps : Capacities) (journal : List ℕ) (lent : Buffers)

@@ -53,9 +53,9 @@ startCalls =
 -- Stopped: W numbers of the working table are 0, the report is filled, earlier answers stand, and the rest is as it was.
 unfoldable pub stopCalls : List Call
 stopCalls =
-    -- 4: a byte that is no command's: not 01 to 0A, nor 0F
+    -- 4: a byte that is no command's: not 01 to 0B, nor 0F
     call 1 1 96 2 6 (replicate 65536 0x00) 4 (replicate 96 0) (7 ∷ 7 ∷ []) (4 ∷ 0 ∷ 0 ∷ 0 ∷ 0 ∷ 0 ∷ [])
-    ∷ call 1 1 98 5 8 (0x01 ∷ 0x0B ∷ []) 4
+    ∷ call 1 1 98 5 8 (0x01 ∷ 0x0C ∷ []) 4
     (replicate 96 0 ++ 7 ∷ 7 ∷ [])
     (0x81 ∷ 0 ∷ 0 ∷ 7 ∷ 7 ∷ [])
     (4 ∷ 1 ∷ 1 ∷ 3 ∷ 1 ∷ 0 ∷ 7 ∷ 7 ∷ [])
@@ -65,14 +65,20 @@ stopCalls =
     ∷ call 1 1 96 2 6 (0x02 ∷ 0 ∷ 0 ∷ 0 ∷ []) 5 (replicate 96 0) (7 ∷ 7 ∷ []) (5 ∷ 0 ∷ 0 ∷ 0 ∷ 0 ∷ 0 ∷ [])
     ∷ call 1 1 96 2 6 (0x09 ∷ 0 ∷ []) 5 (replicate 96 0) (7 ∷ 7 ∷ []) (5 ∷ 0 ∷ 0 ∷ 0 ∷ 0 ∷ 0 ∷ [])
     ∷ call 1 1 96 2 6 (0x0A ∷ 0 ∷ []) 5 (replicate 96 0) (7 ∷ 7 ∷ []) (5 ∷ 0 ∷ 0 ∷ 0 ∷ 0 ∷ 0 ∷ [])
-    -- 6: a cabinet number not yet given; in the second, equal to the other
+    ∷ call 1 1 96 2 6 (0x0B ∷ 0 ∷ 0 ∷ 0 ∷ 0 ∷ 0 ∷ []) 5 (replicate 96 0) (7 ∷ 7 ∷ []) (5 ∷ 0 ∷ 0 ∷ 0 ∷ 0 ∷ 0 ∷ [])
+    -- 6: a cabinet number not yet given; in the second, equal to the other; in the third, with duct 0
     ∷ call 1 1 96 3 6 (0x01 ∷ 0x02 ∷ 0 ∷ 0 ∷ 0 ∷ 1 ∷ []) 6 (replicate 96 0) (0x81 ∷ 0 ∷ 0 ∷ []) (6 ∷ 1 ∷ 1 ∷ 3 ∷ 1 ∷ 0 ∷ [])
     ∷ call 1 1 96 3 6 (0x01 ∷ 0x05 ∷ 0 ∷ 1 ∷ 0 ∷ 1 ∷ []) 6 (replicate 96 0) (0x81 ∷ 0 ∷ 0 ∷ []) (6 ∷ 1 ∷ 1 ∷ 3 ∷ 1 ∷ 0 ∷ [])
+    ∷ call 1 1 96 3 6 (0x01 ∷ 0x0B ∷ 0 ∷ 1 ∷ 0 ∷ 1 ∷ 0 ∷ 0 ∷ []) 6 (replicate 96 0) (0x81 ∷ 0 ∷ 0 ∷ []) (6 ∷ 1 ∷ 1 ∷ 3 ∷ 1 ∷ 0 ∷ [])
     -- 7: a span number not yet given, equal to a cabinet's
     ∷ call 1 1 96 3 6 (0x01 ∷ 0x08 ∷ 0 ∷ 0 ∷ []) 7 (replicate 96 0) (0x81 ∷ 0 ∷ 0 ∷ []) (7 ∷ 1 ∷ 1 ∷ 3 ∷ 1 ∷ 0 ∷ [])
-    -- 8: 05 with equal cabinets; 02 too, with S spans present
+    -- 8: 05 with equal cabinets; 02 too, with S spans present; 0B too, with duct 0
     ∷ call 1 1 96 3 6 (0x01 ∷ 0x05 ∷ 0 ∷ 0 ∷ 0 ∷ 0 ∷ []) 8 (replicate 96 0) (0x81 ∷ 0 ∷ 0 ∷ []) (8 ∷ 1 ∷ 1 ∷ 3 ∷ 1 ∷ 0 ∷ [])
     ∷ call 2 1 120 18 6 (0x01 ∷ 0x01 ∷ 0x02 ∷ 0 ∷ 0 ∷ 0 ∷ 1 ∷ 0x02 ∷ 0 ∷ 1 ∷ 0 ∷ 1 ∷ []) 8
+    (replicate 120 0)
+    (0x81 ∷ 0 ∷ 0 ∷ 0x81 ∷ 0 ∷ 1 ∷ 0x82 ∷ 0 ∷ 0 ∷ 0 ∷ 0 ∷ 0 ∷ 1 ∷ 0x01 ∷ 0 ∷ 1 ∷ 0 ∷ 0 ∷ [])
+    (8 ∷ 7 ∷ 3 ∷ 18 ∷ 2 ∷ 1 ∷ [])
+    ∷ call 2 1 120 18 6 (0x01 ∷ 0x01 ∷ 0x02 ∷ 0 ∷ 0 ∷ 0 ∷ 1 ∷ 0x0B ∷ 0 ∷ 1 ∷ 0 ∷ 1 ∷ 0 ∷ 0 ∷ []) 8
     (replicate 120 0)
     (0x81 ∷ 0 ∷ 0 ∷ 0x81 ∷ 0 ∷ 1 ∷ 0x82 ∷ 0 ∷ 0 ∷ 0 ∷ 0 ∷ 0 ∷ 1 ∷ 0x01 ∷ 0 ∷ 1 ∷ 0 ∷ 0 ∷ [])
     (8 ∷ 7 ∷ 3 ∷ 18 ∷ 2 ∷ 1 ∷ [])
@@ -81,9 +87,18 @@ stopCalls =
     (replicate 96 0)
     (0x81 ∷ 0 ∷ 0 ∷ 0x89 ∷ [])
     (12 ∷ 4 ∷ 2 ∷ 4 ∷ 1 ∷ 0 ∷ [])
-    -- 9: 01 with C cabinets, or 02 with S spans present, and no room for the answer
+    -- 13: 0B with duct 0, with S spans present and no room for the answer
+    ∷ call 2 1 120 18 6 (0x01 ∷ 0x01 ∷ 0x02 ∷ 0 ∷ 0 ∷ 0 ∷ 1 ∷ 0x0B ∷ 0 ∷ 1 ∷ 0 ∷ 0 ∷ 0 ∷ 0 ∷ []) 13
+    (replicate 120 0)
+    (0x81 ∷ 0 ∷ 0 ∷ 0x81 ∷ 0 ∷ 1 ∷ 0x82 ∷ 0 ∷ 0 ∷ 0 ∷ 0 ∷ 0 ∷ 1 ∷ 0x01 ∷ 0 ∷ 1 ∷ 0 ∷ 0 ∷ [])
+    (13 ∷ 7 ∷ 3 ∷ 18 ∷ 2 ∷ 1 ∷ [])
+    -- 9: 01 with C cabinets, or 02 or 0B with S spans present, and no room for the answer
     ∷ call 1 1 96 3 6 (0x01 ∷ 0x01 ∷ []) 9 (replicate 96 0) (0x81 ∷ 0 ∷ 0 ∷ []) (9 ∷ 1 ∷ 1 ∷ 3 ∷ 1 ∷ 0 ∷ [])
     ∷ call 2 1 120 18 6 (0x01 ∷ 0x01 ∷ 0x02 ∷ 0 ∷ 0 ∷ 0 ∷ 1 ∷ 0x02 ∷ 0 ∷ 1 ∷ 0 ∷ 0 ∷ []) 9
+    (replicate 120 0)
+    (0x81 ∷ 0 ∷ 0 ∷ 0x81 ∷ 0 ∷ 1 ∷ 0x82 ∷ 0 ∷ 0 ∷ 0 ∷ 0 ∷ 0 ∷ 1 ∷ 0x01 ∷ 0 ∷ 1 ∷ 0 ∷ 0 ∷ [])
+    (9 ∷ 7 ∷ 3 ∷ 18 ∷ 2 ∷ 1 ∷ [])
+    ∷ call 2 1 120 18 6 (0x01 ∷ 0x01 ∷ 0x02 ∷ 0 ∷ 0 ∷ 0 ∷ 1 ∷ 0x0B ∷ 0 ∷ 1 ∷ 0 ∷ 0 ∷ 0 ∷ 5 ∷ []) 9
     (replicate 120 0)
     (0x81 ∷ 0 ∷ 0 ∷ 0x81 ∷ 0 ∷ 1 ∷ 0x82 ∷ 0 ∷ 0 ∷ 0 ∷ 0 ∷ 0 ∷ 1 ∷ 0x01 ∷ 0 ∷ 1 ∷ 0 ∷ 0 ∷ [])
     (9 ∷ 7 ∷ 3 ∷ 18 ∷ 2 ∷ 1 ∷ [])
@@ -101,6 +116,10 @@ stopCalls =
     ∷ call 1 1 96 3 6 (0x01 ∷ 0x09 ∷ 0 ∷ 0 ∷ []) 11 (replicate 96 0) (0x81 ∷ 0 ∷ 0 ∷ []) (11 ∷ 1 ∷ 1 ∷ 3 ∷ 1 ∷ 0 ∷ [])
     ∷ call 1 1 96 2 6 (0x0F ∷ []) 11 (replicate 96 0) (7 ∷ 7 ∷ []) (11 ∷ 0 ∷ 0 ∷ 0 ∷ 0 ∷ 0 ∷ [])
     ∷ call 2 1 120 17 6 (0x01 ∷ 0x01 ∷ 0x02 ∷ 0 ∷ 0 ∷ 0 ∷ 1 ∷ []) 11
+    (replicate 120 0)
+    (0x81 ∷ 0 ∷ 0 ∷ 0x81 ∷ 0 ∷ 1 ∷ replicate 11 7)
+    (11 ∷ 2 ∷ 2 ∷ 6 ∷ 2 ∷ 0 ∷ [])
+    ∷ call 2 1 120 17 6 (0x01 ∷ 0x01 ∷ 0x0B ∷ 0 ∷ 0 ∷ 0 ∷ 1 ∷ 0 ∷ 5 ∷ []) 11
     (replicate 120 0)
     (0x81 ∷ 0 ∷ 0 ∷ 0x81 ∷ 0 ∷ 1 ∷ replicate 11 7)
     (11 ∷ 2 ∷ 2 ∷ 6 ∷ 2 ∷ 0 ∷ [])
@@ -219,6 +238,9 @@ forecasts =
     -- spans alone, between cabinets that are not there: a run is refused with 6
     ∷ foretold (0x02 ∷ 0 ∷ 0 ∷ 0 ∷ 1 ∷ []) 0 5 7
     ∷ foretold (0x02 ∷ 0 ∷ 0 ∷ 0 ∷ 1 ∷ 0x02 ∷ 0 ∷ 0 ∷ 0 ∷ 1 ∷ []) 0 10 24
+    -- 0B is a span command, also in the part of 06: 24 and 7
+    ∷ foretold (0x0B ∷ 0 ∷ 0 ∷ 0 ∷ 1 ∷ 0 ∷ 0 ∷ []) 0 7 7
+    ∷ foretold (0x02 ∷ 0 ∷ 0 ∷ 0 ∷ 1 ∷ 0x0B ∷ 0 ∷ 0 ∷ 0 ∷ 1 ∷ 0 ∷ 9 ∷ 0x06 ∷ 0 ∷ 0 ∷ 0 ∷ 1 ∷ []) 0 17 31
     -- the triangle
     ∷ foretold
     (0x01 ∷ 0x01 ∷ 0x01 ∷ 0x02 ∷ 0 ∷ 0 ∷ 0 ∷ 1 ∷ 0x02 ∷ 0 ∷ 1 ∷ 0 ∷ 2 ∷ 0x02 ∷ 0 ∷ 2 ∷ 0 ∷ 0 ∷ [])
@@ -250,9 +272,10 @@ forecasts =
     ∷ foretold (replicate 65537 0x00) 3 0 0
     -- 4: an unknown byte, alone, behind a command, and behind one that a run refuses with 7
     ∷ foretold (0x00 ∷ []) 4 0 0
-    ∷ foretold (0x01 ∷ 0x0B ∷ 0x01 ∷ []) 4 1 0
+    ∷ foretold (0x01 ∷ 0x0C ∷ 0x01 ∷ []) 4 1 0
     ∷ foretold (0x08 ∷ 0 ∷ 5 ∷ 0xFF ∷ []) 4 3 0
     -- 5: operands cut off, alone, and behind a command that a run refuses with 8
     ∷ foretold (0x02 ∷ 0 ∷ 0 ∷ []) 5 0 0
+    ∷ foretold (0x0B ∷ 0 ∷ 0 ∷ 0 ∷ 1 ∷ 0 ∷ []) 5 0 0
     ∷ foretold (0x01 ∷ 0x02 ∷ 0 ∷ 0 ∷ 0 ∷ 0 ∷ 0x07 ∷ 0 ∷ 0 ∷ 0 ∷ []) 5 6 0
     ∷ []

@@ -2,22 +2,23 @@
 use mathlib.Core.List.{List, [], _∷_}
 use mathlib.Core.Option.{Option, none, some}
 use Prim.Native.Nat.{ℕ, _+_, _*_}
-use Rattle.graph.specs.Network.{Edge, edgeBetween, edgeCount}
+use Rattle.graph.specs.Network.{Edge, edgeBetween, edgeInDuct, edgeCount}
 use Rattle.graph.specs.Groups.{bridge}
 use Rattle.graph.specs.Block.{sharedBlock}
 use Rattle.graph.specs.Between.{bridgesBetween, cutsBetween}
 use Rattle.naming.specs.Rename.{nameOf}
 use Rattle.naming.specs.Book.{Book, Addition, vertex, edge, neither, feed}
 use Rattle.naming.specs.State.{State, afterAddition, Recording, recordsNothing, recordsMark, afterRecording}
-use Rattle.commands.specs.Field.{Field, cabinet, span, byte, fieldsBytes}
-use Rattle.commands.specs.Command.{Command, addCabinet, addSpan, districtName, ringName, sharedMesh, soleSpans, cutCabinets, isSole, markExchange, holdsExchange, exchangeShare, commandByte}
+use Rattle.commands.specs.Field.{Field, cabinet, span, number, byte, fieldsBytes}
+use Rattle.commands.specs.Command.{Command, addCabinet, addSpan, districtName, ringName, sharedMesh, soleSpans, cutCabinets, isSole, markExchange, holdsExchange, addDuctSpan, exchangeShare, commandByte}
 use Rattle.commands.specs.Answer.{Plain, districtNamed, ringNamed, meshShared, noMeshShared, soleSpansAre, cutCabinetsAre, soleIs, exchangeMarked, exchangeHeld, shareIs, Answer, cabinetAdded, spanAdded, plain, notices}
 use Rattle.commands.specs.Exchange.{ringHoldsExchange, shareWithExchange}
 
--- What must hold of the cabinets that a command names: two differ, one is no exchange, two share a district.
+-- What must hold of what a command names: two cabinets differ, a cabinet is no exchange, a duct is not 0, two cabinets share a district.
 pub data Demand : Type 0 where
   differ : ℕ → ℕ → Demand
   noExchange : ℕ → Demand
+  someDuct : ℕ → Demand
   shareDistrict : ℕ → ℕ → Demand
 
 -- A command that adds nothing to the network: its operands, what must hold of them, its answer from the state, what it records, and the
@@ -84,6 +85,7 @@ facts (markExchange a) =
       longest = λ cabinets spans. 1;
     })
 facts (holdsExchange a) = asks (cabinet a ∷ []) [] (λ s. exchangeHeld (ringHoldsExchange s a)) (λ cabinets spans. 2)
+facts (addDuctSpan a b d) = addsSpan (edgeInDuct a b d) (number d ∷ []) (someDuct d ∷ [])
 facts exchangeShare = asks [] [] (λ s. shareIs (shareWithExchange s)) (λ cabinets spans. 3)
 
 -- The operands, in their order.

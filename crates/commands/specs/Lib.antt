@@ -10,10 +10,12 @@ pub mod Text
 pub mod Run
 pub mod Entry
 pub mod Register
+pub mod Ducts
 pub mod Forecast
 pub mod Decode
 pub mod NameList
 pub mod WholeRun
 pub mod Histories
 pub mod ExchangeHistories
+pub mod DuctHistories
 pub mod Calls

@@ -11,7 +11,7 @@ use Rattle.naming.specs.Book.{Addition, vertex, edge, neither}
 use Rattle.naming.specs.State.{State}
 use Rattle.commands.specs.Field.{Field, cabinet, span, name, number, byte}
 use Rattle.commands.specs.Command.{Command}
-use Rattle.commands.specs.Facts.{Demand, differ, noExchange, shareDistrict, facts, operandsOf, demandsOf, addition}
+use Rattle.commands.specs.Facts.{Demand, differ, noExchange, someDuct, shareDistrict, facts, operandsOf, demandsOf, addition}
 
 pub data Refusal : Type 0 where
   badCapacity : Refusal
@@ -26,6 +26,7 @@ pub data Refusal : Type 0 where
   twoDistricts : Refusal
   noRoom : Refusal
   alreadyExchange : Refusal
+  noDuct : Refusal
 
 unfoldable pub refusalNumber : Refusal → ℕ
 refusalNumber badCapacity = 1
@@ -40,6 +41,7 @@ refusalNumber full = 9
 refusalNumber twoDistricts = 10
 refusalNumber noRoom = 11
 refusalNumber alreadyExchange = 12
+refusalNumber noDuct = 13
 
 -- A line of the table: whether its cause is there, and its refusal.
 pub record Line : Type 0 where
@@ -83,12 +85,14 @@ spansKnown s c = allIn (spanKnown (s .book .network)) (operandsOf (facts c))
 unfoldable pub met : State → Demand → Bool
 met s (differ a b) = not (eqb a b)
 met s (noExchange a) = not (s .marked a)
+met s (someDuct d) = not (eqb d 0)
 met s (shareDistrict a b) = component (s .book .network) a b
 
 -- The refusal where it is not.
 unfoldable pub cause : Demand → Refusal
 cause (differ a b) = equalCabinets
 cause (noExchange a) = alreadyExchange
+cause (someDuct d) = noDuct
 cause (shareDistrict a b) = twoDistricts
 
 -- All demands of the command that could give this refusal are met.
@@ -111,6 +115,7 @@ lines caps s c =
     ∷ record { applies = not (spansKnown s c); refusal = unknownSpan }
     ∷ record { applies = not (meets equalCabinets s c); refusal = equalCabinets }
     ∷ record { applies = not (meets alreadyExchange s c); refusal = alreadyExchange }
+    ∷ record { applies = not (meets noDuct s c); refusal = noDuct }
     ∷ record { applies = isFull caps s c; refusal = full }
     ∷ record { applies = not (meets twoDistricts s c); refusal = twoDistricts }
     ∷ []

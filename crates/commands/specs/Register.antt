@@ -1,16 +1,16 @@
--- The register of document 01: the entry at its rule of mates, and the program around it.
+-- The register of documents 01 and 02: the entry at its rule of mates, and the program around it.
 use mathlib.Core.List.{List, [], _∷_, _++_}
 use mathlib.Core.Option.{Option, none, some}
 use Prim.Native.Nat.{ℕ}
-use Rattle.graph.specs.Network.{Rule, never}
+use Rattle.graph.specs.Network.{Rule, sameDuct}
 use Rattle.commands.specs.Bytes.{fourBytes}
 use Rattle.commands.specs.Refusal.{Refusal, Capacities, refusalNumber}
 use Rattle.commands.specs.Run.{bytesOfAnswers, placeAfter}
 use Rattle.commands.specs.Entry.{Whole, refusedAtStart, ran, Buffers, Outcome, wholeRun, workNeeded, reportOf, entryUnder}
 
--- No other span is lost with a span.
+-- A span is lost with the spans of its duct between the same two cabinets; a span in no duct is lost alone.
 unfoldable pub registerRule : Rule
-registerRule = never
+registerRule = sameDuct
 
 unfoldable pub register : Capacities → List ℕ → Buffers → Outcome
 register = entryUnder registerRule

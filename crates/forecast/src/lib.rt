@@ -5,8 +5,9 @@ ghost use lib.ListN.{length};
 ghost use Rattle.naming.specs.Log.{highestBit};
 ghost use Rattle.commands.specs.Forecast.{forecast};
 ghost use Rattle.forecast.specs.Promise.{foretold};
-ghost use Rattle.forecast.specs.Inside.Tallies.{Few, answerMore, countedBy, lengthOf};
+ghost use Rattle.forecast.specs.Inside.Tallies.{Few, entryMore, countedBy, lengthOf};
 use reading::read::Passed;
+use reading::read::entry_of;
 use reading::reader::passed_at;
 use reading::reader::place_after;
 
@@ -37,27 +38,29 @@ fn highest_bit(k: u32) -> u32
     31 - u32::leading_zeros(k)
 }
 
-// An answer more: so many bytes, and so many lists of spans and of cabinets behind them.
-fn answer_more(t: Tally, bytes: u8, spanlists: u8, cabinetlists: u8) -> Tally
-    requires { ⌜ Few t × (bytes ≤ 5) × (spanlists ≤ 5) × (cabinetlists ≤ 5) ⌝ }
-    ensures { λ r. ⌜ r ≡ answerMore bytes spanlists cabinetlists t ⌝ }
+// An entry of the tables more: a span or none; so many bytes of an answer, and so many lists of spans and of cabinets behind them.
+fn entry_more(t: Tally, spans: u8, bytes: u8, spanlists: u8, cabinetlists: u8) -> Tally
+    requires { ⌜ Few t × (spans ≤ 15) × (bytes ≤ 15) × (spanlists ≤ 15) × (cabinetlists ≤ 15) ⌝ }
+    ensures { λ r. ⌜ r ≡ entryMore spans bytes spanlists cabinetlists t ⌝ }
 {
     Tally {
         cabinets: t.cabinets,
-        spans: t.spans,
+        spans: t.spans + (spans as u32),
         bytes: t.bytes + (bytes as u32),
         spanlists: t.spanlists + (spanlists as u32),
         cabinetlists: t.cabinetlists + (cabinetlists as u32),
     }
 }
 
-// Of the answer to a command that adds nothing, by its byte: the bytes that do not depend on how many
-// cabinets and spans there are, and the lists of spans and of cabinets.
-const BYTES: [u8; 16] = [0, 0, 0, 3, 3, 4, 3, 3, 2, 1, 2, 0, 0, 0, 0, 3];
+// By the byte of a command other than 01 and 02: the spans that it adds; of the answer to one that adds nothing, the bytes that do not
+// depend on how many cabinets and spans there are, and the lists of spans and of cabinets.
+const SPANS: u64 = 0x0000_1000_0000_0000;
 
-const SPANLISTS: [u8; 16] = [0, 0, 0, 0, 0, 0, 1, 0, 0, 0, 0, 0, 0, 0, 0, 0];
+const BYTES: u64 = 0x3000_0212_3343_3000;
 
-const CABINETLISTS: [u8; 16] = [0, 0, 0, 0, 0, 0, 0, 1, 0, 0, 0, 0, 0, 0, 0, 0];
+const SPANLISTS: u64 = 0x0000_0000_0100_0000;
+
+const CABINETLISTS: u64 = 0x0000_0000_1000_0000;
 
 // The tally with one command more, by its byte.
 fn counted(t: Tally, byte: u8) -> Tally
@@ -74,10 +77,13 @@ fn counted(t: Tally, byte: u8) -> Tally
             next.spans = t.spans + 1;
             next
         }
-        _ => {
-            let i = byte as usize;
-            answer_more(t, BYTES[i], SPANLISTS[i], CABINETLISTS[i])
-        }
+        _ => entry_more(
+            t,
+            entry_of(SPANS, byte),
+            entry_of(BYTES, byte),
+            entry_of(SPANLISTS, byte),
+            entry_of(CABINETLISTS, byte),
+        ),
     }
 }
 

@@ -17,7 +17,10 @@ use Rattle.graph.proofs.Ends.{touched-known}
 use Rattle.graph.proofs.VertexMore.{component-vertex-more, bridge-block-vertex-more, block-vertex-more, component-alone, bridge-block-alone, proper-vertex-more}
 use Rattle.naming.specs.Rename.{size}
 use Rattle.naming.specs.Book.{enterVertex, feed}
+use Rattle.naming.specs.BridgeNames.{BridgesNamed}
 use Rattle.naming.specs.State.{afterAddition}
+use Rattle.naming.proofs.BridgeNames.{bridges-named-vertex}
+use Rattle.naming.proofs.Listed.{tabulate-same}
 use Rattle.naming.proofs.Equivalent.{size-agree, size-others, size-positive}
 use Rattle.numbers.specs.declared.Limits.{Limits}
 use Rattle.table.specs.Inside.Column
@@ -29,13 +32,13 @@ use Rattle.table.proofs.MergeKept.{HasKind}
 use Rattle.table.proofs.KindNames.{name-known}
 use Rattle.forest.specs.Inside.Climb.{upOf, depthOf, aboveEdge}
 use Rattle.forest.specs.Inside.Tree.{newGroup, newMarks, vertexTable}
-use Rattle.forest.specs.Inside.Valid.{networkOf, bookOf, markedIn, HangsBelow, ForestValid, Valid}
+use Rattle.forest.specs.Inside.Valid.{storedEdge, networkOf, bookOf, markedIn, HangsBelow, ForestValid, Valid}
 use Rattle.forest.specs.Promise.{Holds, stateOf, VertexAdded}
 use Rattle.forest.proofs.Columns.{among, within, groupColumns, markColumns}
 use Rattle.forest.proofs.Beyond.{frame-beyond}
 use Rattle.forest.proofs.KindWords.{SameWords, names-same, kind-same, kind-agree, kind-new, names-new, new-group-other, new-group-name, counts-new}
-use Rattle.forest.proofs.Networks.{component-groups, bridge-block-groups, edge-count, vertex-count, ends-same, book-is, state-is}
-use Rattle.forest.proofs.Frames.{Frame, _then_, frame-more, frame-vertex, frame-component, frame-bridge-block, same-components, same-bridge-blocks, same-blocks, same-above}
+use Rattle.forest.proofs.Networks.{component-groups, bridge-block-groups, edge-count, vertex-count, book-is, state-is}
+use Rattle.forest.proofs.Frames.{Frame, _then_, frame-more, frame-vertex, frame-component, frame-bridge-block, same-components, same-bridge-blocks, same-blocks, same-above, same-edges}
 use Rattle.forest.proofs.MarkWords.{marked-unknown, marked-same, marked-more, marksStored, frame-marks, marks-elsewhere, stored-marks, stored-mark}
 
 -- one vertex more changes no edge, and no vertex is on another block
@@ -105,7 +108,7 @@ module _ (limits : Limits) (n m : ℕ) (t : List ℕ) (valid : Valid limits n m 
 
   network-more : networkOf limits (suc n) m t′ ≡ addVertex g
   unfolding networkOf addVertex
-  network-more = rw (ends-same limits m t t′ (λ s h. whole .edge-word Column.ends s (omega arith) (omega (arith, valid .edges-fit)) refl))
+  network-more = rw (tabulate-same m (storedEdge t′ limits) (storedEdge t limits) (same-edges whole m (valid .edges-fit) refl))
 
   -- the new vertex is a component by itself
   component-apart : (x : ℕ) → x < n → component (addVertex g) n x ≡ false
@@ -354,11 +357,11 @@ module _ (limits : Limits) (n m : ℕ) (t : List ℕ) (valid : Valid limits n m 
       }
 
   -- one vertex more keeps the promise
-  pub vertex-added : VertexAdded (record { limits = limits; vertices = n; edges = m }) t (vertexTable t limits n)
+  pub vertex-added : BridgesNamed (bookOf limits n m t) → VertexAdded (record { limits = limits; vertices = n; edges = m }) t (vertexTable t limits n)
   unfolding Holds stateOf afterAddition feed
-  vertex-added =
+  vertex-added named =
       record {
-        holds = rw add-one valid-after;
+        holds = rw add-one record { valid = valid-after; bridges-named = rw book (bridges-named-vertex (bookOf limits n m t) named) };
         state-is = rw add-one (state-is book marked-after);
         same-beyond = frame-beyond whole;
       }

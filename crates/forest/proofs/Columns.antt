@@ -43,6 +43,10 @@ bridgeBlockColumns = columnsFrom Column.perComponent Column.perBridgeBlock
 abbrev pub blockColumns : List ℕ
 blockColumns = columnsFrom 0 Column.perBlock
 
+-- The columns in which edges are stored: their ends and their ducts.
+abbrev pub edgeColumns : List ℕ
+edgeColumns = Column.ends ∷ Column.duct ∷ []
+
 -- The columns of marks: of how many marks bridge-blocks have, and of which vertices are marked.
 abbrev pub markColumns : List ℕ
 markColumns = Column.ofBridgeBlocks Column.markCount ∷ Column.mark ∷ []

@@ -5,7 +5,7 @@ use mathlib.Core.Path.{_≡_, refl, sym, _∙_, ap}
 use Prim.Native.Nat.{ℕ, suc}
 use native.Mathlib.Nat.{le-refl}
 use native.Mathlib.Omega.{arith}
-use Rattle.graph.specs.Network.{Network, edgeCount, edgeBetween}
+use Rattle.graph.specs.Network.{Network, edgeCount, edgeInDuct}
 use Rattle.graph.specs.Groups.{component, bridgeBlock}
 use Rattle.graph.specs.Block.{block}
 use Rattle.graph.proofs.EdgeMore.{component-edge-within}
@@ -17,16 +17,16 @@ use Rattle.table.specs.Inside.KindValid.{namesIn, KindValid, Counts}
 use Rattle.table.proofs.Cells.{cell-bridge-block}
 use Rattle.forest.specs.Inside.Tree.{Grown, condenseGrown}
 use Rattle.forest.specs.Inside.Valid.{networkOf, bookOf, markedIn, ForestValid}
-use Rattle.forest.proofs.Columns.{bridgeBlockColumns, blockColumns, scratch}
+use Rattle.forest.proofs.Columns.{bridgeBlockColumns, blockColumns, scratch, edgeColumns}
 use Rattle.forest.proofs.KindWords.{SameWords, names-same, kind-same, kind-agree}
 use Rattle.forest.proofs.Networks.{edge-count, book-is}
 use Rattle.forest.proofs.NamesStay.{rename-stays}
 use Rattle.forest.proofs.Frames.{Frame, same-components, same-bridge-blocks}
 use Rattle.forest.proofs.MarkWords.{same-marked}
-use Rattle.forest.proofs.EdgeToAdd.{EdgeToAdd, edgeOf, before, after, Within, endsStored, Grows, network-after, valid-with-edge}
+use Rattle.forest.proofs.EdgeToAdd.{EdgeToAdd, edgeOf, before, after, Within, edgeStored, Grows, network-after, valid-with-edge}
 use Rattle.forest.proofs.Beyond.{frame-beyond}
 use Rattle.forest.proofs.Changes.{ChangesListed, changes-around, no-names-changed}
-use Rattle.forest.proofs.CondenseTables.{bridge-blocks-law, blocks-law, block-words, bridge-block-words, behind-bridge-blocks, behind-ends, whole}
+use Rattle.forest.proofs.CondenseTables.{bridge-blocks-law, blocks-law, block-words, bridge-block-words, behind-bridge-blocks, behind-stored, whole}
 use Rattle.forest.proofs.CondenseTables.{enter-step, new-name, old-name, names-with-new, valid-with-new, marks-after, forest-after}
 
 module _ (new : EdgeToAdd) (within : Within new) where
@@ -39,31 +39,31 @@ module _ (new : EdgeToAdd) (within : Within new) where
   g′ = after new
 
   abbrev grown : Grown
-  grown = condenseGrown (endsStored new) limits m a b
+  grown = condenseGrown (edgeStored new) limits m a b
 
   abbrev t′ : List ℕ
   t′ = grown .table
 
-  all : Frame limits (bridgeBlockColumns ++ scratch) (blockColumns ++ Column.ends ∷ Column.top ∷ []) t t′
+  all : Frame limits (bridgeBlockColumns ++ scratch) (blockColumns ++ edgeColumns ++ Column.top ∷ []) t t′
   unfolding condenseGrown
   all = whole new within
 
   -- the network has one edge more
   network-more : networkOf limits n (suc m) t′ ≡ g′
   unfolding condenseGrown
-  network-more = network-after new (behind-ends new within) refl
+  network-more = network-after new (behind-stored new within) refl
 
   -- components
   component-words : SameWords t t′ (vertexArea limits) n
   component-words = same-components all n (valid .vertices-fit) refl
 
   components : KindValid t′ (vertexArea limits) n (component g′)
-  unfolding edgeBetween
+  unfolding edgeInDuct
   components =
       kind-agree (λ x y h k. sym (component-edge-within g (edgeOf new) within x y)) (kind-same component-words (valid .components))
 
   component-names : namesIn t′ (vertexArea limits) n ≡ rename (component g) (component g′) (namesIn t (vertexArea limits) n)
-  unfolding edgeBetween
+  unfolding edgeInDuct
   component-names =
       names-same t t′ (vertexArea limits) n component-words
       ∙ sym (rename-stays (component g) (component g′) (namesIn t (vertexArea limits) n)
@@ -124,7 +124,7 @@ module _ (new : EdgeToAdd) (within : Within new) where
   forest = forest-after new within
 
   -- one edge more within a component
-  pub condense-grows : Grows new (condenseGrown (endsStored new) limits m a b)
+  pub condense-grows : Grows new (condenseGrown (edgeStored new) limits m a b)
   unfolding condenseGrown bookOf enterEdge
   condense-grows =
       record {

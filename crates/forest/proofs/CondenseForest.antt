@@ -5,7 +5,7 @@ use mathlib.Core.Logic.{_⊎_, inl, inr, ⊎-elim}
 use mathlib.Core.Path.{_≡_, sym, _∙_, subst}
 use Prim.Native.Nat.{ℕ, suc, _≤_, _<_}
 use native.Mathlib.Omega.{arith}
-use Rattle.graph.specs.Network.{Network, Edge, edge, edgeCount, touches, edgeBetween}
+use Rattle.graph.specs.Network.{Network, Edge, edge, edgeCount, touches, edgeInDuct}
 use Rattle.graph.specs.Groups.{component}
 use Rattle.graph.specs.Block.{block, onBlock}
 use Rattle.graph.proofs.Truth.{true-or-false}
@@ -130,7 +130,7 @@ module _ (new : EdgeToAdd) (within : Within new) (t t′ : List ℕ) (on : ℕ �
 
   -- the ends of the new edge
   covers-new : (x : ℕ) → touches e₁ x ≡ true → (x ≡ aboveEdge t′ limits m) ⊎ HangsBelow t′ limits g′ m x
-  unfolding edgeBetween
+  unfolding edgeInDuct
   covers-new x k = ⊎-elim (λ q. subst Covered q (end a a-known (top .left))) (λ q. subst Covered q (end b b-known (top .right))) (touches-ends e₁ x k)
     where
       Covered : ℕ → Type 0
@@ -163,7 +163,7 @@ module _ (new : EdgeToAdd) (within : Within new) (t t′ : List ℕ) (on : ℕ �
           (old .depth-falls x e h u)
 
   same-size : (x : ℕ) → size n (component g′) x ≡ size n (component g) x
-  unfolding edgeBetween
+  unfolding edgeInDuct
   same-size x = size-agree n (component g′) (component g) x (λ y h. component-edge-within g e₁ within x y)
 
   -- the forest after

@@ -1,4 +1,4 @@
--- The path that is written down: which groups one edge more between its ends makes one.
+-- The path that is written down: which blocks one edge more between its ends makes one.
 use mathlib.Core.Bool.{Bool, false, _&&_, _||_}
 use mathlib.Core.List.{List, _∷_, map}
 use mathlib.Core.Path.{_≡_, sym, _∙_, ap, ap₂, subst}
@@ -7,22 +7,20 @@ use native.Mathlib.Omega.{arith}
 use lib.Dec.{eqb}
 use lib.ListN.{length}
 use Rattle.graph.specs.Below.{tabulate}
-use Rattle.graph.specs.Network.{Network, edgeBetween}
-use Rattle.graph.specs.Groups.{bridgeBlock}
+use Rattle.graph.specs.Network.{Network, edgeInDuct}
 use Rattle.graph.specs.Cycle.{Step}
 use Rattle.graph.specs.Block.{block}
 use Rattle.graph.specs.BlockPath.{BlockPath}
 use Rattle.graph.proofs.Truth.{eqb-swap}
 use Rattle.graph.proofs.EdgeMoreBlocks.{onPath, joinsPath, block-edge-within}
-use Rattle.graph.proofs.EdgeMoreBridgeBlocks.{onBridgeBlocks, bridge-block-edge-within}
-use Rattle.naming.proofs.Listed.{tabulate-first, map-tabulate}
+use Rattle.naming.proofs.Listed.{map-tabulate}
 use Rattle.naming.proofs.Merge.{inMerged}
 use Rattle.numbers.specs.declared.Limits.{Limits}
 use Rattle.table.specs.Inside.Column
 use Rattle.forest.specs.Inside.Climb.{pathVertex, pathEdge}
 use Rattle.forest.specs.Inside.Route.{stepAt, stepsOf}
 use Rattle.forest.proofs.Columns.{among}
-use Rattle.forest.proofs.Networks.{edge-count, network-rule, new-edge-no-mate}
+use Rattle.forest.proofs.Networks.{edge-count}
 use Rattle.forest.proofs.Frames.{Frame}
 use Rattle.forest.proofs.EdgeToAdd.{EdgeToAdd, edgeOf, before, after, proper-after, number-alone, number-apart}
 use Rattle.forest.proofs.Values.{in-merged-steps}
@@ -83,32 +81,9 @@ module _ {new : EdgeToAdd} {t : List ℕ} {k : ℕ} (w : PathWritten new t k) wh
   unfolding stepsOf stepAt
   edges-are = map-tabulate (λ (p : Step). p .along) k _
 
-  vertices-are : a ∷ map (λ p. p .to) steps ≡ verticesOf t limits (suc k)
-  unfolding stepsOf stepAt
-  vertices-are =
-      ap₂ _∷_ (sym (w .start)) (map-tabulate (λ (p : Step). p .to) k _)
-      ∙ sym (tabulate-first k (λ i. pathVertex t limits i))
-
   -- an edge is in a block of the path
   on-path-merged : (s : ℕ) → onPath g steps s ≡ inMerged (block g) (edgesOf t limits k) s
   on-path-merged s = sym (in-merged-steps (block g) (λ p. p .along) steps s) ∙ ap (λ (l : List ℕ). inMerged (block g) l s) edges-are
-
-  -- a vertex is in the bridge-block of a vertex of the path
-  on-bridge-blocks-merged : (x : ℕ) → onBridgeBlocks g a steps x ≡ inMerged (bridgeBlock g) (verticesOf t limits (suc k)) x
-  unfolding onBridgeBlocks inMerged
-  on-bridge-blocks-merged x =
-      ap (λ (c : Bool). bridgeBlock g a x || c) (sym (in-merged-steps (bridgeBlock g) (λ p. p .to) steps x))
-      ∙ ap (λ (l : List ℕ). inMerged (bridgeBlock g) l x) vertices-are
-
-  -- with one edge more between its ends, the bridge-blocks of the path's vertices become one
-  pub bridge-blocks-merge : (x y : ℕ)
-      → bridgeBlock (after new) x y
-      ≡ (bridgeBlock (before new) x y
-      || (inMerged (bridgeBlock (before new)) (verticesOf t limits (suc k)) x && inMerged (bridgeBlock (before new)) (verticesOf t limits (suc k)) y))
-  unfolding edgeBetween
-  bridge-blocks-merge x y =
-      bridge-block-edge-within g (edgeOf new) (valid .proper) (network-rule limits n m (new .t)) (new-edge-no-mate limits n m (new .t) (edgeOf new)) (w .path) x y
-      ∙ ap₂ (λ c d. bridgeBlock g x y || (c && d)) (on-bridge-blocks-merged x) (on-bridge-blocks-merged y)
 
   joins-merged : (s : ℕ) → joinsPath g steps s ≡ inMerged (block g) (m ∷ edgesOf t limits k) s
   unfolding joinsPath inMerged
@@ -120,7 +95,7 @@ module _ {new : EdgeToAdd} {t : List ℕ} {k : ℕ} (w : PathWritten new t k) wh
       → block (after new) s u
       ≡ (block (before new) s u
       || (inMerged (block (before new)) (m ∷ edgesOf t limits k) s && inMerged (block (before new)) (m ∷ edgesOf t limits k) u))
-  unfolding edgeBetween
+  unfolding edgeInDuct
   blocks-merge s u =
       block-edge-within g (edgeOf new) (valid .proper) (proper-after new) (w .path) s u
       ∙ ap₂ (λ c d. block g s u || (c && d)) (joins-merged s) (joins-merged u)

@@ -20,14 +20,14 @@ use Rattle.table.proofs.MergeLaw.{MergedTo, merged-whole}
 use Rattle.table.proofs.KindNames.{name-known, one-group}
 use Rattle.forest.specs.declared.climb.Route.{Route}
 use Rattle.forest.specs.Inside.Climb.{topOf, aboveEdge, climbTable, climbRoute}
-use Rattle.forest.specs.Inside.Tree.{pathVertices, pathEdges, enterBlock}
+use Rattle.forest.specs.Inside.Tree.{pathVertices, pathEdges, mergedVertices, enterBlock}
 use Rattle.forest.specs.Inside.Valid.{networkOf, markedIn, ForestValid, Valid}
-use Rattle.forest.proofs.Columns.{groupColumns, bridgeBlockColumns, blockColumns, scratch}
+use Rattle.forest.proofs.Columns.{groupColumns, bridgeBlockColumns, blockColumns, scratch, edgeColumns}
 use Rattle.forest.proofs.KindWords.{SameWords, names-same, kind-same, counts-same}
 use Rattle.forest.proofs.Networks.{network-same, block-groups}
-use Rattle.forest.proofs.Frames.{Frame, _then_, same-bridge-blocks, same-blocks, frame-more}
+use Rattle.forest.proofs.Frames.{Frame, _then_, same-bridge-blocks, same-blocks, same-edges, frame-more}
 use Rattle.forest.proofs.MarkWords.{same-marks, same-marked}
-use Rattle.forest.proofs.EdgeToAdd.{EdgeToAdd, before, after, Within, endsStored, ends-frame, ends-old}
+use Rattle.forest.proofs.EdgeToAdd.{EdgeToAdd, before, after, Within, edgeStored, stored-frame, stored-old}
 use Rattle.forest.proofs.ClimbLaw.{Climbs, climb-law}
 use Rattle.forest.proofs.ValidFrame.{valid-kept}
 use Rattle.forest.proofs.CondenseFrames.{frame-merge-bridge-blocks, frame-merge-blocks}
@@ -48,7 +48,7 @@ module _ (new : EdgeToAdd) (within : Within new) where
   g′ = after new
 
   abbrev t₁ : List ℕ
-  t₁ = endsStored new
+  t₁ = edgeStored new
 
   abbrev r : Route
   r = climbRoute t₁ limits a b
@@ -63,7 +63,7 @@ module _ (new : EdgeToAdd) (within : Within new) where
   t₂ = climbTable t₁ limits a b
 
   abbrev renamed-vertices : Renamed
-  renamed-vertices = mergeListed t₂ (bridgeBlockArea limits) (pathVertices limits (k + 1))
+  renamed-vertices = mergeListed t₂ (bridgeBlockArea limits) (pathVertices limits (mergedVertices t₂ limits m k))
 
   abbrev t₃ : List ℕ
   t₃ = renamed-vertices .table
@@ -81,10 +81,10 @@ module _ (new : EdgeToAdd) (within : Within new) where
   t₅ = enterBlock t₄ limits m w v
 
   valid₁ : Valid limits n m t₁
-  valid₁ = valid-kept valid (ends-frame new _ _ refl) (ends-old new)
+  valid₁ = valid-kept valid (stored-frame new _ _ refl) (stored-old new)
 
   same-network : networkOf limits n m t₁ ≡ g
-  same-network = network-same limits n m t t₁ (ends-old new)
+  same-network = network-same limits n m t t₁ (stored-old new)
 
   -- the path written down
   climbs : Climbs limits n m t₁ g a b t₂ r
@@ -93,8 +93,8 @@ module _ (new : EdgeToAdd) (within : Within new) where
       (climb-law limits n m t₁ valid₁ a b a-known b-known (rw same-network within))
 
   -- up to the path no name changes
-  to-path : Frame limits scratch (Column.ends ∷ []) t t₂
-  to-path = ends-frame new _ _ refl then frame-more (climbs .frame) refl refl
+  to-path : Frame limits scratch edgeColumns t t₂
+  to-path = stored-frame new _ _ refl then frame-more (climbs .frame) refl refl
 
   written₂ : PathWritten new t₂ k
   written₂ =
@@ -112,19 +112,20 @@ module _ (new : EdgeToAdd) (within : Within new) where
   pub bridge-block-words : SameWords t t₂ (bridgeBlockArea limits) n
   bridge-block-words = same-bridge-blocks to-path n (valid .vertices-fit) refl
 
-  -- the bridge-blocks of the path's vertices merged
-  pub bridge-blocks-law : MergedTo t₂ (bridgeBlockArea limits) n (bridgeBlock g) (bridgeBlock g′) (verticesOf t₂ limits (suc k))
-      (bestListed t₂ (bridgeBlockArea limits) (pathVertices limits (k + 1))) t₃ (renamed-vertices .count)
-  bridge-blocks-law = bridge-blocks-merged written₂ (kind-same bridge-block-words (valid .bridge-blocks))
+  -- bridge-blocks of the path's vertices merged
+  pub bridge-blocks-law : MergedTo t₂ (bridgeBlockArea limits) n (bridgeBlock g) (bridgeBlock g′) (verticesOf t₂ limits (mergedVertices t₂ limits m k))
+      (bestListed t₂ (bridgeBlockArea limits) (pathVertices limits (mergedVertices t₂ limits m k))) t₃ (renamed-vertices .count)
+  bridge-blocks-law =
+      bridge-blocks-merged written₂ (same-edges (climbs .frame) (suc m) room refl) (kind-same bridge-block-words (valid .bridge-blocks))
 
   bridge-blocks-step : Frame limits bridgeBlockColumns [] t₂ t₃
   bridge-blocks-step = frame-merge-bridge-blocks limits (bridge-blocks-law .kept)
 
-  ends-to-bridge-blocks : Frame limits (bridgeBlockColumns ++ scratch) [] t₁ t₃
-  ends-to-bridge-blocks = frame-more (climbs .frame) refl refl then frame-more bridge-blocks-step refl refl
+  stored-to-bridge-blocks : Frame limits (bridgeBlockColumns ++ scratch) [] t₁ t₃
+  stored-to-bridge-blocks = frame-more (climbs .frame) refl refl then frame-more bridge-blocks-step refl refl
 
-  to-bridge-blocks : Frame limits (bridgeBlockColumns ++ scratch) (Column.ends ∷ []) t t₃
-  to-bridge-blocks = ends-frame new _ _ refl then frame-more ends-to-bridge-blocks refl refl
+  to-bridge-blocks : Frame limits (bridgeBlockColumns ++ scratch) edgeColumns t t₃
+  to-bridge-blocks = stored-frame new _ _ refl then frame-more stored-to-bridge-blocks refl refl
 
   -- no word of a block changes before the blocks are merged
   pub block-words : SameWords t t₃ (edgeArea limits) m
@@ -175,13 +176,13 @@ module _ (new : EdgeToAdd) (within : Within new) where
   pub behind-bridge-blocks : Frame limits [] (blockColumns ++ Column.top ∷ []) t₃ t₅
   behind-bridge-blocks = frame-more blocks-step refl refl then frame-more enter-step refl refl
 
-  -- what changes after the ends are stored
-  pub behind-ends : Frame limits (bridgeBlockColumns ++ scratch) (blockColumns ++ Column.top ∷ []) t₁ t₅
-  behind-ends = frame-more ends-to-bridge-blocks refl refl then frame-more behind-bridge-blocks refl refl
+  -- what changes after the edge is stored
+  pub behind-stored : Frame limits (bridgeBlockColumns ++ scratch) (blockColumns ++ Column.top ∷ []) t₁ t₅
+  behind-stored = frame-more stored-to-bridge-blocks refl refl then frame-more behind-bridge-blocks refl refl
 
   -- all that changes
-  pub whole : Frame limits (bridgeBlockColumns ++ scratch) (blockColumns ++ Column.ends ∷ Column.top ∷ []) t t₅
-  whole = ends-frame new _ _ refl then frame-more behind-ends refl refl
+  pub whole : Frame limits (bridgeBlockColumns ++ scratch) (blockColumns ++ edgeColumns ++ Column.top ∷ []) t t₅
+  whole = stored-frame new _ _ refl then frame-more behind-stored refl refl
 
   -- up to the path no bridge-block's marks change
   marks-before : Counts t₂ (bridgeBlockArea limits) n (bridgeBlock g) Column.markCount (markedIn limits n t)
@@ -223,14 +224,14 @@ module _ (new : EdgeToAdd) (within : Within new) where
   top-is = enter-top t₄ limits m w v columns₄ room (blocks-law .known)
 
   to-blocks : Frame limits (bridgeBlockColumns ++ scratch) blockColumns t₁ t₄
-  to-blocks = frame-more ends-to-bridge-blocks refl refl then frame-more blocks-step refl refl
+  to-blocks = frame-more stored-to-bridge-blocks refl refl then frame-more blocks-step refl refl
 
   lifted : Lifted t₁ t₅ limits n m on v
   unfolding aboveEdge
   lifted =
       record {
-        up-same = λ x h. behind-ends .vertex-word Column.up x (omega arith) (omega (arith, valid .vertices-fit)) refl;
-        depth-same = λ x h. behind-ends .vertex-word Column.depth x (omega arith) (omega (arith, valid .vertices-fit)) refl;
+        up-same = λ x h. behind-stored .vertex-word Column.up x (omega arith) (omega (arith, valid .vertices-fit)) refl;
+        depth-same = λ x h. behind-stored .vertex-word Column.depth x (omega arith) (omega (arith, valid .vertices-fit)) refl;
         above-new = ap (topOf t₅ limits) new-name ∙ top-is;
         above-on = λ x h o. ap (topOf t₅ limits) (old-name x h ∙ blocks-law .taken x h o) ∙ top-is;
         above-off = λ x h o.
@@ -251,7 +252,7 @@ module _ (new : EdgeToAdd) (within : Within new) where
           o
 
       same-name : (x : ℕ) → x < m → nameIn t₃ (edgeArea limits) x ≡ nameIn t₁ (edgeArea limits) x
-      same-name x h = ends-to-bridge-blocks .edge-word Column.name x (omega arith) (omega arith) refl
+      same-name x h = stored-to-bridge-blocks .edge-word Column.name x (omega arith) (omega arith) refl
 
   -- the block forest is valid
   pub forest-after : ForestValid t₅ limits n (suc m) g′

@@ -1,36 +1,38 @@
--- One edge more, whether it joins two components or lies within one: what is given, what storing its ends does, and what the table is
--- to hold behind it.
+-- One edge more, whether it joins two components or lies within one: what is given, what storing it does, and what the table is to hold
+-- behind it.
 use mathlib.Core.Bool.{true, false}
 use mathlib.Core.List.{List}
-use mathlib.Core.Path.{_≡_, _∙_, ap, ap₂, subst}
+use mathlib.Core.Path.{_≡_, refl, _∙_, ap₂, subst}
 use Prim.Native.Nat.{ℕ, suc, _+_, _*_, _/_, _%_, _<_}
 use native.Mathlib.Omega.{arith}
 use lib.ListN.{length}
 use lib.Dec.{eqb}
 use Rattle.graph.specs.Below.{tabulate}
-use Rattle.graph.specs.Network.{Network, Edge, edgeBetween, Proper, addEdge}
+use Rattle.graph.specs.Network.{Network, Edge, edgeInDuct, Proper, addEdge}
 use Rattle.graph.specs.Groups.{component, bridgeBlock}
 use Rattle.graph.specs.Block.{block}
 use Rattle.graph.proofs.Truth.{ne-eqb}
 use Rattle.graph.proofs.VertexMore.{proper-edge-more}
 use Rattle.graph.proofs.Grows.{block-next}
 use Rattle.naming.specs.Book.{enterEdge}
+use Rattle.naming.proofs.Listed.{tabulate-same}
 use Rattle.numbers.specs.declared.Limits.{Limits}
 use Rattle.table.specs.Inside.Column
-use Rattle.table.specs.Inside.Layout.{cell, put, vertexArea, bridgeBlockArea, edgeArea}
+use Rattle.table.specs.Inside.Layout.{cell, vertexArea, bridgeBlockArea, edgeArea}
 use Rattle.table.specs.Inside.Merge.{nameIn}
 use Rattle.table.specs.Inside.KindValid.{KindValid, Counts}
-use Rattle.table.proofs.Cells.{cell-put-same, cell-put-other-item}
+use Rattle.table.proofs.Cells.{length-put, cell-put-same, cell-put-other-column, cell-put-elsewhere}
 use Rattle.table.proofs.Halves.{high-half, low-half}
-use Rattle.forest.specs.Inside.Tree.{Grown, endsTable}
-use Rattle.forest.specs.Inside.Valid.{endsOf, networkOf, bookOf, markedIn, ForestValid, Valid}
+use Rattle.forest.specs.Inside.Tree.{Grown, edgeTable}
+use Rattle.forest.specs.Inside.Valid.{storedEdge, networkOf, bookOf, markedIn, ForestValid, Valid}
 use Rattle.forest.specs.Promise.{SameBeyond}
-use Rattle.forest.proofs.Columns.{among}
-use Rattle.forest.proofs.Networks.{network-same, ends-same, vertex-count, edge-count}
-use Rattle.forest.proofs.Frames.{Frame, frame-edge}
+use Rattle.forest.proofs.Columns.{within, apart, edgeColumns, within-among}
+use Rattle.forest.proofs.Networks.{SameEdges, network-same, vertex-count, edge-count}
+use Rattle.forest.proofs.Frames.{Frame, _then_, frame-edge, same-edges}
 use Rattle.forest.proofs.Changes.{ChangesListed}
 
--- A valid table of n vertices and m edges that has room for one edge more, and the ends of that edge: two different vertices of the table.
+-- A valid table of n vertices and m edges that has room for one edge more, and that edge: its ends, two different vertices of the table,
+-- and its duct.
 pub record EdgeToAdd : Type 0 where
   pub limits : Limits
   pub n : ℕ
@@ -40,16 +42,17 @@ pub record EdgeToAdd : Type 0 where
   pub room : m < limits .edges
   pub a : ℕ
   pub b : ℕ
+  pub d : ℕ
   pub a-known : a < n
   pub b-known : b < n
   pub differ : a ≡ b → ⊥
 
 module _ (new : EdgeToAdd) where
-  open EdgeToAdd new using (limits, n, m, t, valid, room, a, b, a-known, b-known, differ)
+  open EdgeToAdd new using (limits, n, m, t, valid, room, a, b, d, a-known, b-known, differ)
 
   -- The edge; the network without it, and with it.
   abbrev pub edgeOf : Edge
-  edgeOf = edgeBetween a b
+  edgeOf = edgeInDuct a b d
 
   abbrev pub before : Network
   before = networkOf limits n m t
@@ -65,9 +68,9 @@ module _ (new : EdgeToAdd) where
   abbrev pub Within : Type 0
   Within = component before a b ≡ true
 
-  -- The table with the edge's ends stored.
-  abbrev pub endsStored : List ℕ
-  endsStored = endsTable t limits m a b
+  -- The table with the edge stored.
+  abbrev pub edgeStored : List ℕ
+  edgeStored = edgeTable t limits m a b d
 
   -- What is to be shown of the table that an operation leaves, and of the changes that it tells.
   pub record Grows (grown : Grown) : Type 0 where
@@ -84,7 +87,7 @@ module _ (new : EdgeToAdd) where
 
   -- the ends of the edges are known and different, those of the new one too
   pub proper-after : Proper after
-  unfolding edgeBetween
+  unfolding edgeInDuct
   proper-after =
       proper-edge-more before edgeOf (valid .proper)
       (rw (vertex-count limits n m t) a-known)
@@ -98,20 +101,29 @@ module _ (new : EdgeToAdd) where
   pub number-apart : (s : ℕ) → s < m → block before m s ≡ false
   number-apart s h = number-alone s ∙ ne-eqb m s (λ q. omega arith)
 
-  -- the ends are stored in their own column
-  pub ends-frame : (vs es : List ℕ) → among es Column.ends ≡ true → Frame limits vs es t endsStored
-  unfolding endsTable
-  ends-frame vs es q = frame-edge limits vs es t Column.ends m _ (omega arith) room q
+  -- an edge is stored in its own columns
+  pub stored-frame : (vs es : List ℕ) → within edgeColumns es ≡ true → Frame limits vs es t edgeStored
+  unfolding edgeTable
+  stored-frame vs es q =
+      frame-edge limits vs es t Column.ends m _ (omega arith) room (within-among edgeColumns es q Column.ends refl)
+      then frame-edge limits vs es _ Column.duct m d (omega arith) room (within-among edgeColumns es q Column.duct refl)
 
-  -- those of the old edges stay
-  pub ends-old : (s : ℕ) → s < m → cell endsStored (edgeArea limits) Column.ends s ≡ cell t (edgeArea limits) Column.ends s
-  unfolding endsTable
-  ends-old s h = cell-put-other-item t (edgeArea limits) Column.ends m _ s (λ q. omega arith)
+  -- the old edges stay
+  pub stored-old : SameEdges limits m t edgeStored
+  unfolding storedEdge edgeTable
+  stored-old s h = ap₂ (λ (e d : ℕ). edgeInDuct (e / 65536) (e % 65536) d) (word Column.ends) (word Column.duct)
+    where
+      word : (c : ℕ) → cell edgeStored (edgeArea limits) c s ≡ cell t (edgeArea limits) c s
+      word c =
+          cell-put-elsewhere _ (edgeArea limits) Column.duct m d c s room (omega (arith, room)) (λ q. omega arith)
+          ∙ cell-put-elsewhere t (edgeArea limits) Column.ends m _ c s room (omega (arith, room)) (λ q. omega arith)
 
-  -- those of the new edge are read as they were stored
-  ends-new : endsOf endsStored limits m ≡ edgeOf
-  unfolding endsOf endsTable
-  ends-new = ap₂ edgeBetween (ap (λ k. k / 65536) stored ∙ high-half a b a-small b-small) (ap (λ k. k % 65536) stored ∙ low-half a b a-small b-small)
+  -- the new edge is read as it was stored
+  pub stored-new : storedEdge edgeStored limits m ≡ edgeOf
+  unfolding storedEdge edgeTable
+  stored-new =
+      ap₂ (λ (e d : ℕ). edgeInDuct (e / 65536) (e % 65536) d) ends duct
+      ∙ ap₂ (λ (x y : ℕ). edgeInDuct x y d) (high-half a b a-small b-small) (low-half a b a-small b-small)
     where
       a-small : a < 65536
       a-small = omega (arith, valid .vertices-fit, valid .small-vertices)
@@ -119,17 +131,23 @@ module _ (new : EdgeToAdd) where
       b-small : b < 65536
       b-small = omega (arith, valid .vertices-fit, valid .small-vertices)
 
-      stored : cell (put t (edgeArea limits) Column.ends m (a % 65536 * 65536 + b % 65536)) (edgeArea limits) Column.ends m ≡ a % 65536 * 65536 + b % 65536
-      stored = cell-put-same t (edgeArea limits) Column.perEdge Column.ends m (a % 65536 * 65536 + b % 65536) (omega (arith, valid .long)) (omega arith) room
+      ends : cell edgeStored (edgeArea limits) Column.ends m ≡ a % 65536 * 65536 + b % 65536
+      ends =
+          cell-put-other-column _ (edgeArea limits) Column.duct m d Column.ends m room room (λ q. omega arith)
+          ∙ cell-put-same t (edgeArea limits) Column.perEdge Column.ends m _ (omega (arith, valid .long)) (omega arith) room
 
-  network-stored : networkOf limits n (suc m) endsStored ≡ after
+      duct : cell edgeStored (edgeArea limits) Column.duct m ≡ d
+      duct =
+          cell-put-same _ (edgeArea limits) Column.perEdge Column.duct m d
+          (omega (arith, valid .long, length-put t (edgeArea limits) Column.ends m (a % 65536 * 65536 + b % 65536))) (omega arith) room
+
+  network-stored : networkOf limits n (suc m) edgeStored ≡ after
   unfolding networkOf addEdge tabulate
-  network-stored = rw (ends-new, ends-same limits m t endsStored ends-old)
+  network-stored = rw (stored-new, tabulate-same m (storedEdge edgeStored limits) (storedEdge t limits) stored-old)
 
-  -- so a table that keeps the stored ends holds the network with the edge
-  pub network-after : {vs es t′ : List ℕ} → Frame limits vs es endsStored t′ → among es Column.ends ≡ false → networkOf limits n (suc m) t′ ≡ after
-  network-after {vs} {es} {t′} f q =
-      network-same limits n (suc m) endsStored t′ (λ s h. f .edge-word Column.ends s (omega arith) (omega (arith, room)) q) ∙ network-stored
+  -- so a table that keeps the stored edges holds the network with the new one
+  pub network-after : {vs es t′ : List ℕ} → Frame limits vs es edgeStored t′ → apart edgeColumns es ≡ true → networkOf limits n (suc m) t′ ≡ after
+  network-after {vs} {es} {t′} f q = network-same limits n (suc m) edgeStored t′ (same-edges f (suc m) room q) ∙ network-stored
 
   -- it is valid if the names, sizes, marks and forest that it holds are
   pub valid-with-edge : {t′ : List ℕ} → networkOf limits n (suc m) t′ ≡ after → length t′ ≡ length t

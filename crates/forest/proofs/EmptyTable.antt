@@ -12,12 +12,14 @@ use Rattle.graph.proofs.Truth.{ge-ltb}
 use Rattle.naming.specs.Rename.{Grouping}
 use Rattle.naming.specs.Book.{emptyBook}
 use Rattle.naming.specs.State.{emptyState}
+use Rattle.naming.proofs.BridgeNames.{bridges-named-empty}
 use Rattle.naming.proofs.Naming.{naming-none}
 use Rattle.numbers.specs.declared.Limits.{Limits}
 use Rattle.table.specs.declared.words.Area.{Area}
 use Rattle.table.specs.Inside.Column
 use Rattle.table.specs.Inside.Layout.{bridgeBlockArea}
 use Rattle.table.specs.Inside.KindValid.{namesIn, KindValid, Counts}
+use Rattle.forest.specs.Rule.{tableRule}
 use Rattle.forest.specs.Inside.Valid.{networkOf, bookOf, markedIn, ForestValid}
 use Rattle.forest.specs.Promise.{wordsNeeded, Holds, stateOf, Begun}
 use Rattle.forest.proofs.Networks.{edge-count, state-is}
@@ -70,17 +72,21 @@ begun limits t long vertices edges =
       shape-is = refl;
       holds =
           record {
-            long = long;
-            small-vertices = vertices;
-            small-edges = edges;
-            vertices-fit = omega arith;
-            edges-fit = omega arith;
-            proper = proper-none (networkOf limits 0 0 t) (edge-count limits 0 0 t);
-            components = kind-none t _ _;
-            bridge-blocks = kind-none t _ _;
-            marks = marks-none t limits _ _;
-            blocks = kind-none t _ _;
-            forest = forest-none t limits _;
+            valid =
+                record {
+                  long = long;
+                  small-vertices = vertices;
+                  small-edges = edges;
+                  vertices-fit = omega arith;
+                  edges-fit = omega arith;
+                  proper = proper-none (networkOf limits 0 0 t) (edge-count limits 0 0 t);
+                  components = kind-none t _ _;
+                  bridge-blocks = kind-none t _ _;
+                  marks = marks-none t limits _ _;
+                  blocks = kind-none t _ _;
+                  forest = forest-none t limits _;
+                };
+            bridges-named = bridges-named-empty tableRule;
           };
       state-is = state-is refl (λ x. rw (ge-ltb x 0 (omega arith)));
     }

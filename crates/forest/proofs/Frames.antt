@@ -1,11 +1,12 @@
 -- Tables that differ in some columns only.
 use mathlib.Core.Bool.{true, false}
 use mathlib.Core.List.{List, map}
-use mathlib.Core.Path.{_≡_, refl, sym, _∙_, ap}
-use Prim.Native.Nat.{ℕ, _+_, _*_, _≤_, _<_}
+use mathlib.Core.Path.{_≡_, refl, sym, _∙_, ap, ap₂}
+use Prim.Native.Nat.{ℕ, _+_, _*_, _/_, _%_, _≤_, _<_}
 use native.Mathlib.Nat.{mul-le-mul-right}
 use native.Mathlib.Omega.{arith}
 use lib.ListN.{length, getD}
+use Rattle.graph.specs.Network.{edgeInDuct}
 use Rattle.numbers.specs.declared.Limits.{Limits}
 use Rattle.table.specs.Inside.Column
 use Rattle.table.specs.Inside.Layout.{place, cell, put, vertexArea, bridgeBlockArea, edgeArea}
@@ -13,8 +14,10 @@ use Rattle.table.proofs.Cells.{length-put, cell-put-other-column, getD-put-outs
 use Rattle.table.proofs.MergeKept.{Kept}
 use Rattle.forest.specs.Inside.Climb.{blockOf, aboveEdge}
 use Rattle.forest.specs.Inside.Tree.{newGroup}
-use Rattle.forest.proofs.Columns.{among, within, apart, groupColumns, componentColumns, other-column, outside-less, behind-columns, each-among, within-among, apart-among, among-map}
+use Rattle.forest.specs.Inside.Valid.{storedEdge}
+use Rattle.forest.proofs.Columns.{among, within, apart, groupColumns, componentColumns, edgeColumns, other-column, outside-less, behind-columns, each-among, within-among, apart-among, among-map}
 use Rattle.forest.proofs.KindWords.{SameWords}
+use Rattle.forest.proofs.Networks.{SameEdges}
 
 -- The second table has the words of the first, but for the listed columns of vertices and of edges.
 pub record Frame (limits : Limits) (vs es : List ℕ) (t t′ : List ℕ) : Type 0 where
@@ -166,3 +169,12 @@ module _ {limits : Limits} {vs es : List ℕ} {t t′ : List ℕ} (f : Frame lim
   same-above e h l p q =
       ap (cell t′ (edgeArea limits) Column.top) (f .edge-word Column.name e (omega arith) h p)
       ∙ f .edge-word Column.top (blockOf t limits e) (omega arith) l q
+
+  -- the edges stay
+  pub same-edges : (m : ℕ) → m ≤ limits .edges → apart edgeColumns es ≡ true → SameEdges limits m t t′
+  unfolding storedEdge
+  same-edges m h a s k =
+      ap₂ (λ (e d : ℕ). edgeInDuct (e / 65536) (e % 65536) d) (word Column.ends (omega arith) refl) (word Column.duct (omega arith) refl)
+    where
+      word : (d : ℕ) → d < Column.perEdge → among edgeColumns d ≡ true → cell t′ (edgeArea limits) d s ≡ cell t (edgeArea limits) d s
+      word d l i = f .edge-word d s l (omega arith) (apart-among edgeColumns es a d i)

@@ -17,6 +17,7 @@ pub mod CondenseBlocks
 pub mod CondenseEnter
 pub mod CondenseForest
 pub mod CondenseFrames
+pub mod CondenseMates
 pub mod CondenseMerge
 pub mod CondensePath
 pub mod CondenseBridgeBlocks
@@ -51,5 +52,6 @@ pub mod TreeSteps
 pub mod Turn
 pub mod TurnSteps
 pub mod TurnTable
+pub mod ValidBook
 pub mod ValidFrame
 pub mod Values

@@ -5,7 +5,7 @@ use mathlib.Core.Path.{_≡_, refl, sym, _∙_, ap}
 use Prim.Native.Nat.{ℕ, suc, _<_}
 use native.Mathlib.Nat.{le-refl}
 use native.Mathlib.Omega.{arith}
-use Rattle.graph.specs.Network.{Network, Edge, edgeCount, edgeBetween}
+use Rattle.graph.specs.Network.{Network, Edge, edgeCount, edgeInDuct}
 use Rattle.graph.specs.Groups.{component, bridgeBlock}
 use Rattle.graph.specs.Block.{block}
 use Rattle.graph.proofs.EdgeMore.{block-edge-between}
@@ -20,13 +20,13 @@ use Rattle.table.specs.Inside.KindValid.{namesIn, KindValid, Counts}
 use Rattle.table.proofs.KindNames.{name-in-list}
 use Rattle.forest.specs.Inside.Tree.{Grown, linkGrown}
 use Rattle.forest.specs.Inside.Valid.{networkOf, bookOf, markedIn, ForestValid}
-use Rattle.forest.proofs.Columns.{among, within, groupColumns, componentColumns}
+use Rattle.forest.proofs.Columns.{among, within, groupColumns, componentColumns, edgeColumns}
 use Rattle.forest.proofs.KindWords.{SameWords, names-same, kind-same, kind-agree, counts-same}
 use Rattle.forest.proofs.Networks.{network-rule, edge-count, book-is}
 use Rattle.forest.proofs.NamesStay.{rename-stays}
 use Rattle.forest.proofs.Frames.{Frame, _then_, same-components, same-bridge-blocks}
 use Rattle.forest.proofs.MarkWords.{same-marks, same-marked}
-use Rattle.forest.proofs.EdgeToAdd.{EdgeToAdd, edgeOf, before, after, Apart, endsStored, Grows, ends-frame, network-after, valid-with-edge}
+use Rattle.forest.proofs.EdgeToAdd.{EdgeToAdd, edgeOf, before, after, Apart, edgeStored, Grows, stored-frame, network-after, valid-with-edge}
 use Rattle.forest.proofs.Beyond.{frame-beyond}
 use Rattle.forest.proofs.Changes.{ChangesListed, changes-around, no-names-changed}
 use Rattle.forest.proofs.LinkMerge.{endsListed, merge, before-merge, law}
@@ -46,7 +46,7 @@ module _ (new : EdgeToAdd) (apart : Apart new) where
   e = edgeOf new
 
   abbrev t₁ : List ℕ
-  t₁ = endsStored new
+  t₁ = edgeStored new
 
   abbrev t₂ : List ℕ
   t₂ = endsListed new
@@ -70,20 +70,20 @@ module _ (new : EdgeToAdd) (apart : Apart new) where
   abbrev vertexColumns : List ℕ
   vertexColumns = componentColumns ++ Column.up ∷ Column.depth ∷ Column.pathVertex ∷ []
 
-  from-ends : Frame limits vertexColumns (groupColumns ++ Column.top ∷ []) t₁ t′
-  from-ends =
+  from-stored : Frame limits vertexColumns (groupColumns ++ Column.top ∷ []) t₁ t′
+  from-stored =
       merged-frame new _ _ refl refl
       then hang-step _ _ refl refl refl refl
 
-  whole : Frame limits vertexColumns (groupColumns ++ Column.ends ∷ Column.top ∷ []) t t′
+  whole : Frame limits vertexColumns (groupColumns ++ edgeColumns ++ Column.top ∷ []) t t′
   whole =
-      ends-frame new _ _ refl
+      stored-frame new _ _ refl
       then merged-frame new _ _ refl refl
       then hang-step _ _ refl refl refl refl
 
   -- the network has one edge more
   network-more : networkOf limits n (suc m) t′ ≡ g′
-  network-more = network-after new from-ends refl
+  network-more = network-after new from-stored refl
 
   -- components
   after-merge : SameWords t₃ t′ (vertexArea limits) n
@@ -119,7 +119,7 @@ module _ (new : EdgeToAdd) (apart : Apart new) where
   same-bridge-block-words = same-bridge-blocks whole n (valid .vertices-fit) refl
 
   bridge-blocks-agree : (x y : ℕ) → bridgeBlock g x y ≡ bridgeBlock g′ x y
-  unfolding edgeBetween
+  unfolding edgeInDuct
   bridge-blocks-agree x y = sym (bridge-block-between g e (network-rule limits n m t) apart x y)
 
   bridge-blocks-named : KindValid t′ (bridgeBlockArea limits) n (bridgeBlock g′)
@@ -150,7 +150,7 @@ module _ (new : EdgeToAdd) (apart : Apart new) where
   names-more = linked-block-names (linking new apart)
 
   block-names : namesIn t′ (edgeArea limits) (suc m) ≡ rename (block g) (block g′) (namesIn t (edgeArea limits) m ++ edgeCount g ∷ [])
-  unfolding edgeBetween
+  unfolding edgeInDuct
   block-names =
       names-more
       ∙ ap (λ (k : ℕ). namesIn t (edgeArea limits) m ++ k ∷ []) (sym (edge-count limits n m t))
@@ -179,7 +179,7 @@ module _ (new : EdgeToAdd) (apart : Apart new) where
   forest = linked-forest (linking new apart)
 
   -- one edge more between two components
-  pub link-grows : Grows new (linkGrown (endsStored new) limits m a b)
+  pub link-grows : Grows new (linkGrown (edgeStored new) limits m a b)
   unfolding linkGrown bookOf enterEdge
   link-grows =
       record {

@@ -6,7 +6,7 @@ use mathlib.Core.Path.{_≡_, refl, sym, _∙_, ap, subst}
 use Prim.Native.Nat.{ℕ, zero, suc, _+_, _*_, _%_, _^_, _<_}
 use native.Mathlib.Nat.{mod-eq-of-lt, le-refl}
 use native.Mathlib.Omega.{arith}
-use Rattle.graph.specs.Network.{Network, Edge, addEdge, edge, edgeCount, touches, edgeBetween}
+use Rattle.graph.specs.Network.{Network, Edge, addEdge, edge, edgeCount, touches, edgeInDuct}
 use Rattle.graph.specs.Groups.{component}
 use Rattle.graph.specs.Block.{block, onBlock}
 use Rattle.graph.proofs.Truth.{true-or-false, not-both}
@@ -96,7 +96,7 @@ module _ {new : EdgeToAdd} {t₃ : List ℕ} {count u v : ℕ} (k : Linking new 
   old-up x s h q = sym (up-kept k x h) ∙ q
 
   covers-old : (s y : ℕ) → s < m → touches (edge g s) y ≡ true → (y ≡ aboveEdge t₄ limits s) ⊎ HangsBelow t₄ limits g′ s y
-  unfolding edgeBetween networkOf
+  unfolding edgeInDuct networkOf
   covers-old s y h q =
       ⊎-elim
       (λ i. inl (i ∙ sym (above-kept k s h)))

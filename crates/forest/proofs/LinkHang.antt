@@ -8,7 +8,7 @@ use native.Mathlib.Nat.{mod-eq-of-lt}
 use native.Mathlib.Omega.{arith}
 use lib.ListN.{length}
 use Rattle.graph.specs.Below.{listed, tabulate}
-use Rattle.graph.specs.Network.{Network, Edge, addEdge, touches, edgeBetween}
+use Rattle.graph.specs.Network.{Network, Edge, addEdge, touches, edgeInDuct}
 use Rattle.graph.specs.Groups.{component}
 use Rattle.graph.specs.Block.{block}
 use Rattle.graph.proofs.EdgeMore.{block-edge-between}
@@ -20,7 +20,7 @@ use Rattle.table.proofs.Cells.{HasColumns, cell-put-same, cell-put-other-column
 use Rattle.table.proofs.KindNames.{name-known}
 use Rattle.forest.specs.Inside.Climb.{upOf, depthOf, blockOf, aboveEdge}
 use Rattle.forest.specs.Inside.Tree.{newGroup, raiseFrom}
-use Rattle.forest.proofs.Columns.{among, within, groupColumns, componentColumns}
+use Rattle.forest.proofs.Columns.{among, within, groupColumns, componentColumns, edgeColumns}
 use Rattle.forest.proofs.KindWords.{SameWords, names-same, kind-same, kind-new, names-new, new-group-name, new-group-other}
 use Rattle.forest.proofs.Networks.{block-groups}
 use Rattle.forest.proofs.Frames.{Frame, _then_, frame-edge, frame-block, same-blocks}
@@ -28,11 +28,11 @@ use Rattle.forest.proofs.EdgeToAdd.{EdgeToAdd, edgeOf, before, after, A
 use Rattle.forest.proofs.Raise.{raised-frame, raised-depth}
 use Rattle.forest.proofs.LinkDepth.{raised-below, kept-below, after-fits}
 
--- Table t₃ is the given table with the ends of the new edge stored, which are the vertices u and v of two components, and with the
--- vertices of u's component written down as changed.
+-- Table t₃ is the given table with the new edge stored, whose ends are the vertices u and v of two components, and with the vertices of
+-- u's component written down as changed.
 pub record Linking (new : EdgeToAdd) (t₃ : List ℕ) (count u v : ℕ) : Type 0 where
   pub apart : Apart new
-  pub frame : Frame (new .limits) (componentColumns ++ Column.pathVertex ∷ []) (Column.ends ∷ []) (new .t) t₃
+  pub frame : Frame (new .limits) (componentColumns ++ Column.pathVertex ∷ []) edgeColumns (new .t) t₃
   pub changed : tabulate count (cell t₃ (vertexArea (new .limits)) Column.changed) ≡ listed (new .n) (component (before new) u)
   pub at-loser : touches (edgeOf new) u ≡ true
   pub at-winner : touches (edgeOf new) v ≡ true
@@ -149,7 +149,7 @@ module _ {new : EdgeToAdd} {t₃ : List ℕ} {count u v : ℕ} (k : Linking new 
   has-blocks = omega (arith, long₃, raise-step (Column.depth ∷ []) [] refl .same-length)
 
   -- an old edge's block and the vertex above it stay
-  old-edge : (c s : ℕ) → c < Column.perEdge → s < m → among (Column.ends ∷ []) c ≡ false → cell hung (edgeArea limits) c s ≡ cell t (edgeArea limits) c s
+  old-edge : (c s : ℕ) → c < Column.perEdge → s < m → among edgeColumns c ≡ false → cell hung (edgeArea limits) c s ≡ cell t (edgeArea limits) c s
   unfolding hung grouped
   old-edge c s h l o =
       cell-put-elsewhere grouped (edgeArea limits) Column.top m v c s room l′ (λ q. omega arith)
@@ -196,11 +196,11 @@ module _ {new : EdgeToAdd} {t₃ : List ℕ} {count u v : ℕ} (k : Linking new 
 
   -- the new edge is a block alone
   pub new-alone : (s : ℕ) → s < m → block (addEdge g e) m s ≡ false
-  unfolding edgeBetween
+  unfolding edgeInDuct
   new-alone s h = block-edge-between g e (k .apart) m s ∙ number-apart new s h
 
   new-block : KindValid grouped (edgeArea limits) (suc m) (block (addEdge g e))
-  unfolding edgeBetween grouped
+  unfolding edgeInDuct grouped
   new-block =
       kind-new
       (omega (arith, has-blocks))

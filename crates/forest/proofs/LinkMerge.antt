@@ -6,7 +6,7 @@ use mathlib.Core.Path.{_≡_, refl, sym, _∙_, ap₂}
 use Prim.Native.Nat.{ℕ, _≤_, _<_}
 use native.Mathlib.Omega.{arith}
 use lib.Dec.{leb, ltb}
-use Rattle.graph.specs.Network.{Network, edgeBetween, addEdge}
+use Rattle.graph.specs.Network.{Network, edgeInDuct, addEdge}
 use Rattle.graph.specs.Groups.{component}
 use Rattle.graph.proofs.Truth.{bool-ext, or-left, or-right, or-cases, and-left, and-right, and-both, ltb-lt, ltb-ge}
 use Rattle.graph.proofs.Mates.{component-sym, component-trans}
@@ -20,10 +20,10 @@ use Rattle.table.proofs.Cells.{HasColumns, length-put, cell-put-same, cell-put-
 use Rattle.table.proofs.MergeKept.{ListedOutside}
 use Rattle.table.proofs.MergeLaw.{MergedTo, merge-law}
 use Rattle.forest.specs.Inside.Tree.{pathVertices, listEnds}
-use Rattle.forest.proofs.Columns.{among}
+use Rattle.forest.proofs.Columns.{among, edgeColumns}
 use Rattle.forest.proofs.KindWords.{kind-same}
 use Rattle.forest.proofs.Networks.{component-groups}
-use Rattle.forest.proofs.EdgeToAdd.{EdgeToAdd, before, after, endsStored, ends-frame}
+use Rattle.forest.proofs.EdgeToAdd.{EdgeToAdd, before, after, edgeStored, stored-frame}
 use Rattle.forest.proofs.Frames.{Frame, _then_, frame-vertex, same-components}
 
 -- Item x is in the group of a or of b.
@@ -35,11 +35,11 @@ pub either-cases : (g : Network) (a b x : ℕ) → inEither g a b x ≡ true →
 either-cases g a b x q = ⊎-elim inl (λ k. inr (sym (or-false (component g b x)) ∙ k)) (or-cases (component g a x) (component g b x || false) q)
 
 -- the two components that one edge more makes one
-pub component-merges : (n : ℕ) (g : Network) (a b : ℕ)
-    → Merges n (component g) (component (addEdge g (edgeBetween a b))) (a ∷ b ∷ [])
-unfolding edgeBetween inMerged
-component-merges n g a b x y h k =
-    component-edge-more g (edgeBetween a b) x y
+pub component-merges : (n : ℕ) (g : Network) (a b d : ℕ)
+    → Merges n (component g) (component (addEdge g (edgeInDuct a b d))) (a ∷ b ∷ [])
+unfolding edgeInDuct inMerged
+component-merges n g a b d x y h k =
+    component-edge-more g (edgeInDuct a b d) x y
     ∙ bool-ext
     (C x y || (C x a && C b y) || (C x b && C a y))
     (C x y || (inEither g a b x && inEither g a b y))
@@ -99,13 +99,13 @@ better-cases t area p q =
     go false e false f false = inr (refl, ltb-ge j i e)
 
 module _ (new : EdgeToAdd) where
-  open EdgeToAdd new using (limits, n, m, t, valid, a, b, a-known, b-known, differ)
+  open EdgeToAdd new using (limits, n, m, t, valid, a, b, d, a-known, b-known, differ)
 
   abbrev g : Network
   g = before new
 
   abbrev t₁ : List ℕ
-  t₁ = endsStored new
+  t₁ = edgeStored new
 
   -- The table with the two ends written down as well.
   abbrev pub endsListed : List ℕ
@@ -129,11 +129,11 @@ module _ (new : EdgeToAdd) where
       then frame-vertex limits vs es _ Column.pathVertex 1 b (omega arith) (omega (arith, two)) q
 
   -- both leave the words of groups and of the forest
-  pub before-merge : Frame limits (Column.pathVertex ∷ []) (Column.ends ∷ []) t endsListed
-  before-merge = ends-frame new _ _ refl then listed-frame _ _ refl
+  pub before-merge : Frame limits (Column.pathVertex ∷ []) edgeColumns t endsListed
+  before-merge = stored-frame new _ _ refl then listed-frame _ _ refl
 
   long₁ : HasColumns t₁ (vertexArea limits) Column.perVertex
-  long₁ = omega (arith, ends-frame new [] (Column.ends ∷ []) refl .same-length, valid .long)
+  long₁ = omega (arith, stored-frame new [] edgeColumns refl .same-length, valid .long)
 
   -- the first vertex written down
   pub first-item : itemOf endsListed (pathVertices limits 2) 0 ≡ a
@@ -194,4 +194,4 @@ module _ (new : EdgeToAdd) where
       (b ∷ [])
       items
       below
-      (component-merges n g a b)
+      (component-merges n g a b d)

@@ -21,7 +21,8 @@ use Rattle.table.proofs.KindNames.{name-known, same-group}
 use Rattle.forest.specs.Inside.Tree.{pathVertices}
 use Rattle.forest.proofs.KindWords.{SameWords}
 use Rattle.forest.proofs.Frames.{same-components}
-use Rattle.forest.proofs.EdgeToAdd.{EdgeToAdd, before, Apart, endsStored, ends-frame}
+use Rattle.forest.proofs.Columns.{edgeColumns}
+use Rattle.forest.proofs.EdgeToAdd.{EdgeToAdd, before, Apart, edgeStored, stored-frame}
 use Rattle.forest.proofs.LinkMerge.{inEither, better-cases, endsListed, merge, keptName, before-merge, first-item, second-item, law}
 
 -- Of the ends of a new edge between two components, v keeps its component's name, and u, whose component is no larger, does not.
@@ -40,7 +41,7 @@ module _ (new : EdgeToAdd) where
   g = before new
 
   abbrev t₁ : List ℕ
-  t₁ = endsStored new
+  t₁ = edgeStored new
 
   abbrev t₂ : List ℕ
   t₂ = endsListed new
@@ -80,7 +81,7 @@ module _ (new : EdgeToAdd) where
   sides apart = go (better-cases t₂ (vertexArea limits) (name a) (name b))
     where
       name₁ : nameIn t₁ (vertexArea limits) a ≡ name a
-      name₁ = ends-frame new [] (Column.ends ∷ []) refl .vertex-word Column.name a (omega arith) (omega (arith, valid .vertices-fit)) refl
+      name₁ = stored-frame new [] edgeColumns refl .vertex-word Column.name a (omega arith) (omega (arith, valid .vertices-fit)) refl
 
       go : ((betterName t₂ (vertexArea limits) (name a) (name b) ≡ name a) × (sizeIn t₂ (vertexArea limits) (name b) ≤ sizeIn t₂ (vertexArea limits) (name a)))
           ⊎ ((betterName t₂ (vertexArea limits) (name a) (name b) ≡ name b) × (sizeIn t₂ (vertexArea limits) (name a) ≤ sizeIn t₂ (vertexArea limits) (name b)))

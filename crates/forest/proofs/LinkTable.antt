@@ -1,10 +1,10 @@
--- Linking two components, the table before the hanging: the new edge's ends are stored, and the components' names merged.
+-- Linking two components, the table before the hanging: the new edge is stored, and the components' names are merged.
 use mathlib.Core.Bool.{true}
 use mathlib.Core.List.{List}
 use mathlib.Core.Logic.{_⊎_, inl, inr}
 use mathlib.Core.Path.{_≡_, refl, sym, _∙_}
 use Prim.Native.Nat.{ℕ}
-use Rattle.graph.specs.Network.{Network, Edge, touches, edgeBetween}
+use Rattle.graph.specs.Network.{Network, Edge, touches, edgeInDuct}
 use Rattle.graph.specs.Groups.{component}
 use Rattle.graph.proofs.Truth.{or-left, or-right, and-both}
 use Rattle.graph.proofs.Mates.{component-refl}
@@ -12,13 +12,13 @@ use Rattle.graph.proofs.Ends.{touches-left, touches-right, touches-ends}
 use Rattle.table.specs.Inside.Column
 use Rattle.forest.proofs.Columns.{among, within, componentColumns}
 use Rattle.forest.proofs.Frames.{Frame, _then_, frame-merge}
-use Rattle.forest.proofs.EdgeToAdd.{EdgeToAdd, edgeOf, before, Apart, endsStored, ends-frame}
+use Rattle.forest.proofs.EdgeToAdd.{EdgeToAdd, edgeOf, before, Apart, edgeStored, stored-frame}
 use Rattle.forest.proofs.LinkMerge.{component-merges, endsListed, merge, listed-frame, law}
 use Rattle.forest.proofs.LinkSides.{Sides, loser, winner, either-side, sides, changed-are}
 use Rattle.forest.proofs.LinkHang.{Linking}
 
 module _ (new : EdgeToAdd) where
-  open EdgeToAdd new using (limits, n, a, b)
+  open EdgeToAdd new using (limits, n, a, b, d)
 
   abbrev g : Network
   g = before new
@@ -28,21 +28,21 @@ module _ (new : EdgeToAdd) where
 
   -- what is stored before the hanging
   pub merged-frame : (vs es : List ℕ) → within componentColumns vs ≡ true → among vs Column.pathVertex ≡ true
-      → Frame limits vs es (endsStored new) (merge new .table)
+      → Frame limits vs es (edgeStored new) (merge new .table)
   merged-frame vs es p i =
       listed-frame new vs es i
       then frame-merge limits vs es (endsListed new) (merge new .table) (law new .kept) p
 
   -- all that the hanging asks for
   pub linking : Apart new → Linking new (merge new .table) (merge new .count) (loser new) (winner new)
-  unfolding edgeBetween
+  unfolding edgeInDuct
   linking apart = go (loser new) (winner new) (sides new apart)
     where
       go : (u v : ℕ) → Sides new u v → Linking new (merge new .table) (merge new .count) u v
       go u v s =
           record {
             apart = apart;
-            frame = ends-frame new _ _ refl then merged-frame _ _ refl refl;
+            frame = stored-frame new _ _ refl then merged-frame _ _ refl refl;
             changed = changed-are new s;
             at-loser = at-loser (s .ends);
             at-winner = at-winner (s .ends);
@@ -51,7 +51,7 @@ module _ (new : EdgeToAdd) where
             winner-known = s .winner-known;
             parted = s .parted;
             met =
-                component-merges n g a b u v (s .loser-known) (s .winner-known)
+                component-merges n g a b d u v (s .loser-known) (s .winner-known)
                 ∙ or-right
                 (component g u v)
                 (and-both

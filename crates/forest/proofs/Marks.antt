@@ -10,11 +10,12 @@ use Rattle.graph.specs.Network.{Network}
 use Rattle.graph.specs.Groups.{bridgeBlock}
 use Rattle.graph.proofs.Truth.{true-or-false, not-both, eqb-eq, eqb-ne}
 use Rattle.graph.proofs.Below.{count-same}
+use Rattle.naming.specs.BridgeNames.{BridgesNamed}
 use Rattle.naming.specs.State.{marksAfter, afterRecording, marksWith}
 use Rattle.naming.proofs.Count.{count-at-most, count-with}
 use Rattle.numbers.specs.declared.Limits.{Limits}
 use Rattle.table.specs.Inside.Column
-use Rattle.table.specs.Inside.Layout.{cell, vertexArea, bridgeBlockArea, edgeArea}
+use Rattle.table.specs.Inside.Layout.{cell, vertexArea, bridgeBlockArea}
 use Rattle.table.specs.Inside.Merge.{nameIn}
 use Rattle.table.specs.Inside.KindValid.{passing, Counts}
 use Rattle.table.proofs.Cells.{HasColumns}
@@ -25,8 +26,8 @@ use Rattle.forest.specs.Inside.Valid.{networkOf, bookOf, markedIn, Valid
 use Rattle.forest.specs.Promise.{Holds, stateOf, VertexMarked}
 use Rattle.forest.proofs.Columns.{markColumns}
 use Rattle.forest.proofs.Beyond.{frame-beyond}
-use Rattle.forest.proofs.Networks.{state-is}
-use Rattle.forest.proofs.Frames.{Frame, frame-more, same-bridge-blocks}
+use Rattle.forest.proofs.Networks.{SameEdges, state-is}
+use Rattle.forest.proofs.Frames.{Frame, frame-more, same-bridge-blocks, same-edges}
 use Rattle.forest.proofs.MarkWords.{marked-known, marked-same, marksStored, frame-marks, other-marks, other-mark, stored-marks, stored-mark}
 use Rattle.forest.proofs.ValidFrame.{valid-with-marks, same-book}
 
@@ -134,16 +135,19 @@ module _ (limits : Limits) (n m : ℕ) (t : List ℕ) (valid : Valid limits n m 
             ∙ count-same n _ _ (λ y l. ap (λ b. bridgeBlock g z y && b) (sym (marked-after y)));
       }
 
-  ends : (s : ℕ) → s < m → cell t′ (edgeArea limits) Column.ends s ≡ cell t (edgeArea limits) Column.ends s
-  ends s h = frame .edge-word Column.ends s (omega arith) (omega (arith, valid .edges-fit)) refl
+  edges : SameEdges limits m t t′
+  edges = same-edges frame m (valid .edges-fit) refl
+
+  book : bookOf limits n m t′ ≡ bookOf limits n m t
+  book = same-book valid (frame-more frame refl refl) edges
 
   -- marking the vertex keeps the promise
-  pub vertex-marked : VertexMarked (record { limits = limits; vertices = n; edges = m }) x t (markTable t limits x)
+  pub vertex-marked : BridgesNamed (bookOf limits n m t) → VertexMarked (record { limits = limits; vertices = n; edges = m }) x t (markTable t limits x)
   unfolding Holds stateOf afterRecording marksAfter
-  vertex-marked =
+  vertex-marked named =
       record {
-        holds = valid-with-marks valid (frame-more frame refl refl) ends marks;
-        state-is = state-is (same-book valid (frame-more frame refl refl) ends) marked-after;
+        holds = record { valid = valid-with-marks valid (frame-more frame refl refl) edges marks; bridges-named = rw book named };
+        state-is = state-is book marked-after;
         same-beyond = frame-beyond frame;
       }
 
@@ -151,7 +155,7 @@ module _ (limits : Limits) (n m : ℕ) (t : List ℕ) (valid : Valid limits n m 
 pub marks-are : (shape : Shape) (t : List ℕ) → Holds shape t → (x : ℕ) → x < shape .vertices
     → cell t (bridgeBlockArea (shape .limits)) Column.markCount (nameIn t (bridgeBlockArea (shape .limits)) x) ≡ marksWith (stateOf shape t) x
 unfolding Holds stateOf bookOf networkOf marksWith
-marks-are shape t holds x h = holds .marks .counted x h
+marks-are shape t holds x h = holds .valid .marks .counted x h
 
 -- a vertex is marked if its word is 1
 pub marked-is : (shape : Shape) (t : List ℕ) (x : ℕ) → x < shape .vertices

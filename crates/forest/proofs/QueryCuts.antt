@@ -32,7 +32,7 @@ pub cuts-written : (shape : Shape) (t : List ℕ) → Holds shape t → (a b : �
 unfolding cutsCount cutAt Holds stateOf bookOf
 cuts-written shape t holds a b h l joined =
     list-written shape holds (path-only (climbs .frame)) _ _ _
-    (sym (cuts-of-block-path g (holds .proper) (climbs .path) ∙ inner-written (climbTable t limits a b) limits (climbRoute t limits a b .steps)))
+    (sym (cuts-of-block-path g (holds .valid .proper) (climbs .path) ∙ inner-written (climbTable t limits a b) limits (climbRoute t limits a b .steps)))
   where
     limits : Limits
     limits = shape .limits
@@ -41,4 +41,4 @@ cuts-written shape t holds a b h l joined =
     g = networkOf limits (shape .vertices) (shape .edges) t
 
     climbs : Climbs limits (shape .vertices) (shape .edges) t g a b (climbTable t limits a b) (climbRoute t limits a b)
-    climbs = climb-law limits (shape .vertices) (shape .edges) t holds a b h l joined
+    climbs = climb-law limits (shape .vertices) (shape .edges) t (holds .valid) a b h l joined

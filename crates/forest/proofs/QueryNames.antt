@@ -3,7 +3,7 @@ use mathlib.Core.Bool.{not}
 use mathlib.Core.List.{List}
 use mathlib.Core.Path.{_≡_, sym, _∙_, ap}
 use Prim.Native.Nat.{ℕ, _<_}
-use Rattle.graph.specs.Network.{Network, Edge, edgeBetween, edge, edgeCount}
+use Rattle.graph.specs.Network.{Network, Edge, edgeBetween, edgeInDuct, edge, edgeCount}
 use Rattle.graph.specs.Groups.{bridge, bridgeBlock}
 use Rattle.graph.proofs.BridgeBlock.{bridge-parts-bridge-blocks}
 use Rattle.naming.specs.Rename.{size, nameOf}
@@ -16,7 +16,7 @@ use Rattle.forest.specs.declared.Shape.{Shape}
 use Rattle.forest.specs.declared.VertexGroups.{VertexGroups}
 use Rattle.forest.specs.declared.VertexGroups.the-variants as G
 use Rattle.forest.specs.Inside.Words.{groupArea}
-use Rattle.forest.specs.Inside.Valid.{endsOf, networkOf, bookOf, Valid}
+use Rattle.forest.specs.Inside.Valid.{storedEdge, networkOf, bookOf, Valid}
 use Rattle.forest.specs.Inside.Queries.{bridgeBlocksDiffer, bridgeIn}
 use Rattle.forest.specs.Promise.{Holds, stateOf, bookIn, networkIn, vertexNames, vertexGroups}
 use Rattle.forest.proofs.Networks.{edge-count, network-rule}
@@ -39,13 +39,13 @@ pub group-size : (shape : Shape) (t : List ℕ) → Holds shape t → (groups : 
     → sizeIn t (groupArea (shape .limits) groups) (nameIn t (groupArea (shape .limits) groups) x)
     ≡ size (shape .vertices) (vertexGroups groups (networkIn shape t)) x
 unfolding Holds stateOf bookOf
-group-size shape t holds G.Components x h = holds .components .sized x h
-group-size shape t holds G.BridgeBlocks x h = holds .bridge-blocks .sized x h
+group-size shape t holds G.Components x h = holds .valid .components .sized x h
+group-size shape t holds G.BridgeBlocks x h = holds .valid .bridge-blocks .sized x h
 
--- edge s of a table's network has the ends that the table has for it
-pub network-edge : (limits : Limits) (n m : ℕ) (t : List ℕ) (s : ℕ) → s < m → edge (networkOf limits n m t) s ≡ endsOf t limits s
+-- edge s of a table's network is the one that the table has stored
+pub network-edge : (limits : Limits) (n m : ℕ) (t : List ℕ) (s : ℕ) → s < m → edge (networkOf limits n m t) s ≡ storedEdge t limits s
 unfolding edge networkOf
-network-edge limits n m t s h = getD-tabulate m (endsOf t limits) (edgeBetween 0 0) s h
+network-edge limits n m t s h = getD-tabulate m (storedEdge t limits) (edgeBetween 0 0) s h
 
 module _ {limits : Limits} {n m : ℕ} {t : List ℕ} (valid : Valid limits n m t) where
   abbrev g : Network
@@ -58,7 +58,7 @@ module _ {limits : Limits} {n m : ℕ} {t : List ℕ} (valid : Valid limits n m 
 
   -- an edge is a bridge exactly if the bridge-block names of its ends differ
   pub bridge-in : (s : ℕ) → s < m → bridgeIn t limits s ≡ bridge g s
-  unfolding edgeBetween bridgeIn endsOf networkOf
+  unfolding edgeInDuct bridgeIn storedEdge networkOf
   bridge-in s h =
       ap (λ (e : Edge). bridgeBlocksDiffer t limits (e .left) (e .right)) (sym (network-edge limits n m t s h))
       ∙ bridge-blocks-differ (edge g s .left) (edge g s .right) (valid .proper .left-known s known) (valid .proper .right-known s known)
@@ -67,7 +67,7 @@ module _ {limits : Limits} {n m : ℕ} {t : List ℕ} (valid : Valid limits n m 
       known : s < edgeCount g
       known = rw (edge-count limits n m t) h
 
--- the ends of an edge are those that the table has for it
-pub ends-held : (shape : Shape) (t : List ℕ) (s : ℕ) → s < shape .edges → edge (networkIn shape t) s ≡ endsOf t (shape .limits) s
+-- so is edge s of a shape's network
+pub edge-held : (shape : Shape) (t : List ℕ) (s : ℕ) → s < shape .edges → edge (networkIn shape t) s ≡ storedEdge t (shape .limits) s
 unfolding stateOf bookOf
-ends-held shape t s h = network-edge (shape .limits) (shape .vertices) (shape .edges) t s h
+edge-held shape t s h = network-edge (shape .limits) (shape .vertices) (shape .edges) t s h

@@ -30,7 +30,7 @@ scratch-column (suc (suc (suc (suc k)))) h = absurd (omega arith)
 -- a table of a shape is long enough
 long-enough : (shape : Shape) (t : List ℕ) → Holds shape t → shape .limits .vertices * Column.perVertex + shape .limits .edges * Column.perEdge ≤ length t
 unfolding Holds
-long-enough shape t holds = holds .long
+long-enough shape t holds = holds .valid .long
 
 module _ (shape : Shape) (t : List ℕ) (holds : Holds shape t) where
   abbrev limits : Limits

@@ -10,30 +10,30 @@ use Rattle.graph.specs.Groups.{bridgeBlock}
 use Rattle.graph.proofs.Ends.{touched-known}
 use Rattle.numbers.specs.declared.Limits.{Limits}
 use Rattle.table.specs.Inside.Column
-use Rattle.table.specs.Inside.Layout.{cell, vertexArea, bridgeBlockArea, edgeArea}
+use Rattle.table.specs.Inside.Layout.{vertexArea, bridgeBlockArea, edgeArea}
 use Rattle.table.specs.Inside.KindValid.{Counts}
 use Rattle.table.proofs.KindNames.{name-known}
 use Rattle.forest.specs.Inside.Climb.{upOf, depthOf, aboveEdge}
 use Rattle.forest.specs.Inside.Valid.{networkOf, bookOf, markedIn, HangsBelow, ForestValid, Valid}
 use Rattle.forest.specs.declared.Shape.{Shape}
 use Rattle.forest.specs.Promise.{Holds, stateOf, ListWritten}
-use Rattle.forest.proofs.Columns.{scratch, markColumns}
+use Rattle.forest.proofs.Columns.{scratch, markColumns, edgeColumns}
 use Rattle.forest.proofs.KindWords.{names-same, kind-same, counts-same}
-use Rattle.forest.proofs.Networks.{edge-count, network-same, book-is, state-is}
-use Rattle.forest.proofs.Frames.{Frame, frame-more, same-components, same-bridge-blocks, same-blocks, same-above}
+use Rattle.forest.proofs.Networks.{SameEdges, edge-count, network-same, book-is, state-is}
+use Rattle.forest.proofs.Frames.{Frame, frame-more, same-components, same-bridge-blocks, same-blocks, same-above, same-edges}
 use Rattle.forest.proofs.MarkWords.{same-marks, same-marked}
 use Rattle.forest.proofs.ClimbTable.{Scratched}
 use Rattle.forest.proofs.Beyond.{frame-beyond}
 
--- Only scratch columns and those of marks change, and the ends of edges that are not entered yet.
+-- Only scratch columns and those of marks change, and the words of edges that are not entered yet.
 module _ {limits : Limits} {n m : ℕ} {t t′ : List ℕ} (valid : Valid limits n m t)
-    (f : Frame limits (markColumns ++ Column.changed ∷ Column.ofBridgeBlocks Column.changed ∷ scratch) (Column.changed ∷ Column.ends ∷ []) t t′)
-    (ends : (s : ℕ) → s < m → cell t′ (edgeArea limits) Column.ends s ≡ cell t (edgeArea limits) Column.ends s) where
+    (f : Frame limits (markColumns ++ Column.changed ∷ Column.ofBridgeBlocks Column.changed ∷ scratch) (Column.changed ∷ edgeColumns) t t′)
+    (edges : SameEdges limits m t t′) where
   abbrev g : Network
   g = networkOf limits n m t
 
   same-network : networkOf limits n m t′ ≡ networkOf limits n m t
-  same-network = network-same limits n m t t′ ends
+  same-network = network-same limits n m t t′ edges
 
   known : (x : ℕ) → x < n → x < limits .vertices
   known x h = omega (arith, valid .vertices-fit)
@@ -101,13 +101,13 @@ module _ {limits : Limits} {n m : ℕ} {t t′ : List ℕ} (valid : Valid limits
       (names-same t t′ (bridgeBlockArea limits) n (same-bridge-blocks f n (valid .vertices-fit) refl))
       (names-same t t′ (edgeArea limits) m (same-blocks f m (valid .edges-fit) refl))
 
--- Only scratch columns change, and the ends of edges that are not entered yet: a table stays valid.
+-- Only scratch columns change, and the words of edges that are not entered yet: a table stays valid.
 pub valid-kept : {limits : Limits} {n m : ℕ} {t t′ : List ℕ} → Valid limits n m t
-    → Frame limits (Column.changed ∷ Column.ofBridgeBlocks Column.changed ∷ scratch) (Column.changed ∷ Column.ends ∷ []) t t′
-    → ((s : ℕ) → s < m → cell t′ (edgeArea limits) Column.ends s ≡ cell t (edgeArea limits) Column.ends s)
+    → Frame limits (Column.changed ∷ Column.ofBridgeBlocks Column.changed ∷ scratch) (Column.changed ∷ edgeColumns) t t′
+    → SameEdges limits m t t′
     → Valid limits n m t′
-valid-kept {limits} {n} {m} {t} {t′} valid f ends =
-    valid-with-marks valid (frame-more f refl refl) ends
+valid-kept {limits} {n} {m} {t} {t′} valid f edges =
+    valid-with-marks valid (frame-more f refl refl) edges
     (counts-same
     (valid .bridge-blocks)
     (same-bridge-blocks f n (valid .vertices-fit) refl)
@@ -124,30 +124,31 @@ pub path-only : {limits : Limits} {t t′ : List ℕ} → Scratched limits t t�
 path-only f = frame-more f refl refl
 
 module _ {limits : Limits} {n m : ℕ} {t t′ : List ℕ} (valid : Valid limits n m t) (f : ScratchOnly limits t t′) where
-  ends-kept : (s : ℕ) → s < m → cell t′ (edgeArea limits) Column.ends s ≡ cell t (edgeArea limits) Column.ends s
-  ends-kept s h = f .edge-word Column.ends s (omega arith) (omega (arith, valid .edges-fit)) refl
+  edges-kept : SameEdges limits m t t′
+  edges-kept = same-edges f m (valid .edges-fit) refl
 
   -- the network is the same
   pub frame-network : networkOf limits n m t′ ≡ networkOf limits n m t
-  frame-network = network-same limits n m t t′ ends-kept
+  frame-network = network-same limits n m t t′ edges-kept
 
   -- the other table is valid too
   pub frame-valid : Valid limits n m t′
-  frame-valid = valid-kept valid (frame-more f refl refl) ends-kept
+  frame-valid = valid-kept valid (frame-more f refl refl) edges-kept
 
   -- and holds the same book
   pub frame-book : bookOf limits n m t′ ≡ bookOf limits n m t
-  frame-book = same-book valid (frame-more f refl refl) ends-kept
+  frame-book = same-book valid (frame-more f refl refl) edges-kept
 
 -- Of a shape: what the table holds is as before.
 module _ (shape : Shape) {t t′ : List ℕ} (holds : Holds shape t) (f : ScratchOnly (shape .limits) t t′) where
   pub scratch-holds : Holds shape t′
   unfolding Holds
-  scratch-holds = frame-valid holds f
+  scratch-holds =
+      record { valid = frame-valid (holds .valid) f; bridges-named = rw (frame-book (holds .valid) f) (holds .bridges-named) }
 
   pub scratch-state : stateOf shape t′ ≡ stateOf shape t
   unfolding Holds stateOf
-  scratch-state = state-is (frame-book holds f) (same-marked f (shape .vertices) (holds .vertices-fit) refl)
+  scratch-state = state-is (frame-book (holds .valid) f) (same-marked f (shape .vertices) (holds .valid .vertices-fit) refl)
 
   -- so a list is written down there
   pub list-written : (at : ℕ → ℕ) (count : ℕ) (list : List ℕ) → tabulate count at ≡ list → ListWritten shape t t′ at count list

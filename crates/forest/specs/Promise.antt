@@ -7,7 +7,7 @@ use Prim.Native.Nat.{ℕ, suc, _+_, _*_, _≤_, _<_}
 use native.Mathlib.Omega.{arith}
 use lib.ListN.{length, drop}
 use Rattle.graph.specs.Below.{tabulate, length-tabulate}
-use Rattle.graph.specs.Network.{Network, edgeBetween, Proper, edgeCount}
+use Rattle.graph.specs.Network.{Network, edgeInDuct, Proper, edgeCount}
 use Rattle.graph.specs.Groups.{component, bridgeBlock}
 use Rattle.naming.specs.Rename.{Grouping, Change, nameOf, changesBetween}
 use Rattle.naming.specs.Book.{Book, vertex, edge}
@@ -23,7 +23,7 @@ use Rattle.forest.specs.declared.Shared.{Shared}
 use Rattle.forest.specs.declared.Shared.the-variants.{Block, Nothing}
 pub use Rattle.forest.specs.Rule.{tableRule, table-rule}
 use Rattle.forest.specs.Inside.Words.{groupArea}
-use Rattle.forest.specs.Inside.Valid.{Valid, endsOf, networkOf, bookOf, markedIn}
+use Rattle.forest.specs.Inside.Valid.{Sound, storedEdge, networkOf, bookOf, markedIn}
 
 -- How many words a table takes for so many vertices and edges.
 unfoldable pub wordsNeeded : Limits → ℕ
@@ -36,7 +36,7 @@ words-needed limits = refl
 
 -- The table holds a network of this shape.
 unfoldable pub Holds : Shape → List ℕ → Type 0
-Holds shape t = Valid (shape .limits) (shape .vertices) (shape .edges) t
+Holds shape t = Sound (shape .limits) (shape .vertices) (shape .edges) t
 
 -- The state that it holds.
 unfoldable pub stateOf : Shape → List ℕ → State
@@ -59,30 +59,30 @@ vertices-held shape t = refl
 
 pub edges-held : (shape : Shape) (t : List ℕ) → edgeCount (networkIn shape t) ≡ shape .edges
 unfolding stateOf bookOf networkOf edgeCount
-edges-held shape t = length-tabulate (shape .edges) (endsOf t (shape .limits))
+edges-held shape t = length-tabulate (shape .edges) (storedEdge t (shape .limits))
 
 -- for which there are words
 pub vertices-fit : (shape : Shape) (t : List ℕ) → Holds shape t → shape .vertices ≤ shape .limits .vertices
 unfolding Holds
-vertices-fit shape t holds = holds .vertices-fit
+vertices-fit shape t holds = holds .valid .vertices-fit
 
 pub edges-fit : (shape : Shape) (t : List ℕ) → Holds shape t → shape .edges ≤ shape .limits .edges
 unfolding Holds
-edges-fit shape t holds = holds .edges-fit
+edges-fit shape t holds = holds .valid .edges-fit
 
 -- and which are few
 pub few-vertices : (shape : Shape) (t : List ℕ) → Holds shape t → shape .vertices ≤ 4096
 unfolding Holds
-few-vertices shape t holds = omega (arith, holds .vertices-fit, holds .small-vertices)
+few-vertices shape t holds = omega (arith, holds .valid .vertices-fit, holds .valid .small-vertices)
 
 pub few-edges : (shape : Shape) (t : List ℕ) → Holds shape t → shape .edges ≤ 8192
 unfolding Holds
-few-edges shape t holds = omega (arith, holds .edges-fit, holds .small-edges)
+few-edges shape t holds = omega (arith, holds .valid .edges-fit, holds .valid .small-edges)
 
 -- each edge joins two different vertices, and which edges are lost together is the table's rule
 pub proper-held : (shape : Shape) (t : List ℕ) → Holds shape t → Proper (networkIn shape t)
 unfolding Holds stateOf bookOf
-proper-held shape t holds = holds .proper
+proper-held shape t holds = holds .valid .proper
 
 pub rule-held : (shape : Shape) (t : List ℕ) → networkIn shape t .rule ≡ tableRule
 unfolding stateOf bookOf networkOf
@@ -145,10 +145,10 @@ abbrev pub VerticesChanged : Shape → VertexGroups → List ℕ → ℕ → Boo
 VerticesChanged shape groups t k old new =
     tabulate k (vertexChangeAt shape groups t) ≡ changesBetween (vertexNames groups old) (vertexNames groups new)
 
--- One edge more, between a and b: the state, the changes of each kind, and the new edge's block name.
-pub record EdgeAdded (shape : Shape) (a b : ℕ) (old new : List ℕ) (growth : Growth) : Type 0 where
+-- One edge more, between a and b in duct d: the state, the changes of each kind, and the new edge's block name.
+pub record EdgeAdded (shape : Shape) (a b d : ℕ) (old new : List ℕ) (growth : Growth) : Type 0 where
   pub holds : Holds (oneEdgeMore shape) new
-  pub state-is : stateOf (oneEdgeMore shape) new ≡ afterAddition (stateOf shape old) (edge (edgeBetween a b))
+  pub state-is : stateOf (oneEdgeMore shape) new ≡ afterAddition (stateOf shape old) (edge (edgeInDuct a b d))
   pub components-changed : VerticesChanged (oneEdgeMore shape) G.Components new (growth .components) (bookIn shape old) (bookIn (oneEdgeMore shape) new)
   pub bridge-blocks-changed : VerticesChanged (oneEdgeMore shape) G.BridgeBlocks new (growth .«bridge_blocks») (bookIn shape old) (bookIn (oneEdgeMore shape) new)
   pub blocks-changed : tabulate (growth .blocks) (edgeChangeAt (oneEdgeMore shape) new)

@@ -1,12 +1,12 @@
 -- Which edges of the networks that a table holds are lost together.
 use mathlib.Core.Path.{_≡_, refl}
-use Rattle.graph.specs.Network.{Rule, never}
+use Rattle.graph.specs.Network.{Rule, sameDuct}
 
--- The rule of mates of the networks that a table holds: no other edge is lost with an edge.
+-- The rule of mates of the networks that a table holds: an edge is lost with the edges of its duct between the same two vertices.
 unfoldable pub tableRule : Rule
-tableRule = never
+tableRule = sameDuct
 
--- it is the rule of document 01
-pub table-rule : tableRule ≡ never
+-- it is the rule of request 3
+pub table-rule : tableRule ≡ sameDuct
 unfolding tableRule
 table-rule = refl

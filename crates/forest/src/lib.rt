@@ -20,6 +20,7 @@ pub mod climb;
 pub mod query;
 pub mod tree;
 
+use numbers::Duct;
 use numbers::Edge;
 use numbers::Limits;
 use numbers::Vertex;
@@ -133,13 +134,13 @@ pub fn add_vertex(t: &mut [u32], shape: Shape)
     tree::grow_vertex(t, limits, Vertex(shape.vertices));
 }
 
-// Adds the next edge, between two different vertices.
-pub fn add_edge(t: &mut [u32], shape: Shape, a: Vertex, b: Vertex) -> Growth
+// Adds the next edge, between two different vertices, in a duct or in none.
+pub fn add_edge(t: &mut [u32], shape: Shape, a: Vertex, b: Vertex, duct: Duct) -> Growth
     requires { ⌜ Holds shape (now t) × (shape .edges < shape .limits .edges) × (a .0 < shape .vertices) × (b .0 < shape .vertices) × (a .0 ≡ b .0 → ⊥) ⌝ }
-    ensures { λ r. ⌜ EdgeAdded shape (a .0) (b .0) (now (t .entry)) (now (t .exit)) r ⌝ }
+    ensures { λ r. ⌜ EdgeAdded shape (a .0) (b .0) (duct .0) (now (t .entry)) (now (t .exit)) r ⌝ }
 {
     let limits = shape.limits;
-    tree::grow_edge(t, limits, Edge(shape.edges), a, b)
+    tree::grow_edge(t, limits, Edge(shape.edges), a, b, duct)
 }
 
 // Marks a vertex that is not marked.

@@ -96,7 +96,7 @@ pub(crate) fn find_shared(t: &[u32], limits: Limits, a: Vertex, b: Vertex) -> Sh
     Shared::Nothing
 }
 
-// Writes down the edge of step i of the path, where it is a bridge.
+// Writes down the name of the block of step i of the path, where its edges are bridges.
 fn find_one(t: &mut [u32], limits: Limits, i: u32, count: u32) -> u32
     requires { ⌜ (count ≤ i) × (i < 4294967295) ⌝ }
     ensures { λ r. ⌜ (now (t .exit) ≡ findTable (now (t .entry)) limits i count) × (r ≡ findCount (now (t .entry)) limits i count) ⌝ }
@@ -105,7 +105,8 @@ fn find_one(t: &mut [u32], limits: Limits, i: u32, count: u32) -> u32
     let y = word(t, vertex_area(limits), PATH_VERTEX, i + 1);
     if bridge_blocks_differ(t, limits, x, y) {
         let e = word(t, vertex_area(limits), PATH_EDGE, i);
-        set_word(t, vertex_area(limits), RIGHT_EDGE, count, e);
+        let name = block_of(t, limits, Edge(e));
+        set_word(t, vertex_area(limits), RIGHT_EDGE, count, name.0);
         return count + 1;
     }
     count

@@ -4,7 +4,7 @@ ghost use mathlib.Core.Path.{_≡_};
 ghost use mathlib.Core.Bool.{cond};
 ghost use Prim.Native.Nat.{_<_};
 ghost use Rattle.forest.specs.Inside.Tree.{newGroup, newMarks, vertexTable, markTable, raiseFrom, turnFrom, turnedTable, turnedState, hangTable, linkGrown};
-ghost use Rattle.forest.specs.Inside.Tree.{enterBlock, condenseGrown, edgeGrown};
+ghost use Rattle.forest.specs.Inside.Tree.{enterBlock, inStepDuct, mergedVertices, condenseGrown, edgeTable, edgeGrown};
 ghost use Rattle.forest.specs.Inside.Tree.{GrowsTo};
 use crate::Growth;
 use crate::climb::block_of;
@@ -12,6 +12,7 @@ use crate::climb::climb;
 use crate::climb::depth;
 use crate::climb::top;
 use crate::climb::up;
+use numbers::Duct;
 use numbers::Edge;
 use numbers::Limits;
 use numbers::Vertex;
@@ -20,6 +21,7 @@ use table::merge::merge;
 use table::words::Area;
 use table::words::CHANGED;
 use table::words::DEPTH;
+use table::words::DUCT;
 use table::words::ENDS;
 use table::words::MARK;
 use table::words::MARK_COUNT;
@@ -219,13 +221,39 @@ fn enter_block(t: &mut [u32], limits: Limits, e: Edge, w: u32, v: Vertex)
     set_word(t, edge_area(limits), TOP, w, v.0);
 }
 
+// Whether the path has one step, and the new edge e lies in the duct of the edge of that step.
+fn in_step_duct(t: &[u32], limits: Limits, e: Edge, steps: u32) -> bool
+    ensures { λ r. ⌜ r ≡ inStepDuct (now (t .entry)) limits (e .0) steps ⌝ }
+{
+    if steps != 1 {
+        return false;
+    }
+    let duct = word(t, edge_area(limits), DUCT, e.0);
+    if duct == 0 {
+        return false;
+    }
+    let other = word(t, vertex_area(limits), PATH_EDGE, 0);
+    word(t, edge_area(limits), DUCT, other) == duct
+}
+
+// How many of the path's vertices have their bridge-blocks merged: only the first, which changes nothing, where e lies in the step's duct.
+fn merged_vertices(t: &[u32], limits: Limits, e: Edge, steps: u32) -> u32
+    requires { ⌜ steps < 4294967295 ⌝ }
+    ensures { λ r. ⌜ r ≡ mergedVertices (now (t .entry)) limits (e .0) steps ⌝ }
+{
+    if in_step_duct(t, limits, e, steps) {
+        return 1;
+    }
+    steps + 1
+}
+
 // Condenses the path between a and b by the new edge e.
 fn condense(t: &mut [u32], limits: Limits, e: Edge, a: Vertex, b: Vertex) -> Growth
     ensures { λ r. ⌜ GrowsTo (now (t .exit)) r (condenseGrown (now (t .entry)) limits (e .0) (a .0) (b .0)) ⌝ }
 {
     let route = climb(t, limits, a, b);
     let steps = route.steps;
-    let vertices = steps + 1;
+    let vertices = merged_vertices(t, limits, e, steps);
     let bridge_blocks = merge(
         t,
         bridge_block_area(limits),
@@ -254,13 +282,28 @@ fn condense(t: &mut [u32], limits: Limits, e: Edge, a: Vertex, b: Vertex) -> Gro
     }
 }
 
-// One edge more, between two different vertices.
-pub(crate) fn grow_edge(t: &mut [u32], limits: Limits, e: Edge, a: Vertex, b: Vertex) -> Growth
-    requires { ⌜ e .0 < 4294967295 ⌝ }
-    ensures { λ r. ⌜ GrowsTo (now (t .exit)) r (edgeGrown (now (t .entry)) limits (e .0) (a .0) (b .0)) ⌝ }
+// Stores the new edge e: its ends in one word, its duct in another.
+fn store_edge(t: &mut [u32], limits: Limits, e: Edge, a: Vertex, b: Vertex, duct: Duct)
+    ensures { λ r. ⌜ now (t .exit) ≡ edgeTable (now (t .entry)) limits (e .0) (a .0) (b .0) (duct .0) ⌝ }
 {
     let ends = (a.0 % 65536) * 65536 + b.0 % 65536;
     set_word(t, edge_area(limits), ENDS, e.0, ends);
+    set_word(t, edge_area(limits), DUCT, e.0, duct.0);
+}
+
+// One edge more, between two different vertices, in a duct or in none.
+pub(crate) fn grow_edge(
+    t: &mut [u32],
+    limits: Limits,
+    e: Edge,
+    a: Vertex,
+    b: Vertex,
+    duct: Duct,
+) -> Growth
+    requires { ⌜ e .0 < 4294967295 ⌝ }
+    ensures { λ r. ⌜ GrowsTo (now (t .exit)) r (edgeGrown (now (t .entry)) limits (e .0) (a .0) (b .0) (duct .0)) ⌝ }
+{
+    store_edge(t, limits, e, a, b, duct);
     let left = word(t, vertex_area(limits), NAME, a.0);
     let right = word(t, vertex_area(limits), NAME, b.0);
     if left == right {

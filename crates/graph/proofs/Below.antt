@@ -119,3 +119,11 @@ listed-same (suc n) p q f = rw (listed-same n p q (fewer n p q f), f n (omega ar
 pub listed-skip : (n : ℕ) (p : ℕ → Bool) → p n ≡ false → listed (suc n) p ≡ listed n p
 unfolding listed
 listed-skip n p e = rw e
+
+-- tests that agree below n agree on the least number that passes
+pub least-below-same : (n : ℕ) (p q : ℕ → Bool) → Agree n p q → leastBelow n p ≡ leastBelow n q
+unfolding leastBelow
+least-below-same zero p q f = refl
+least-below-same (suc n) p q f =
+    ap₂ (λ o b. elim o as (λ x. Option ℕ) [ some k ↦ some k | none ↦ cond b (some n) none ])
+    (least-below-same n p q (λ i k. f i (omega arith))) (f n (omega arith))

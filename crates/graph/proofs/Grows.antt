@@ -6,10 +6,10 @@ use Prim.Native.Nat.{ℕ, _<_}
 use native.Mathlib.Omega.{arith}
 use lib.Dec.{eqb}
 use Rattle.graph.specs.Below.{anyBelow}
-use Rattle.graph.specs.Network.{Network, Edge, MateRule, edgeCount, addEdge, touches, mates, nothing, lossOf, without, joined}
-use Rattle.graph.specs.Groups.{component, bridgeBlock}
+use Rattle.graph.specs.Network.{Network, Edge, MateRule, edge, edgeCount, addEdge, touches, mates, nothing, lossOf, without, joined}
+use Rattle.graph.specs.Groups.{component, bridge, bridgeBlock}
 use Rattle.graph.specs.Block.{block, link, onBlock}
-use Rattle.graph.proofs.Truth.{true-or-false, false-of-not, not-both, bool-ext, eqb-eq, eq-eqb}
+use Rattle.graph.proofs.Truth.{true-or-false, false-of-not, not-of-false, false-of-not-true, not-both, bool-ext, eqb-eq, eq-eqb}
 use Rattle.graph.proofs.Below.{any-below, some-below, Below}
 use Rattle.graph.proofs.Joined.{joined-less-lost, joined-same-loss, edge-count-more, edge-old, old-or-new, joined-old}
 use Rattle.graph.proofs.Mates.{loss-of-mates}
@@ -37,6 +37,14 @@ module _ (g : Network) (e : Edge) where
   pub loss-grows : (s x y : ℕ) → s < edgeCount g → joined g (lossOf g s) x y ≡ true
       → joined (addEdge g e) (lossOf (addEdge g e) s) x y ≡ true
   loss-grows s x y h j = joined-old g e (lossOf (addEdge g e) s) x y (joined-loss-old g e s x y h ∙ j)
+
+  -- a bridge was one before the edge was there
+  pub bridge-before : (s : ℕ) → s < edgeCount g → bridge (addEdge g e) s ≡ true → bridge g s ≡ true
+  unfolding bridge
+  bridge-before s h b =
+      not-of-false (false-of-not (joined g (lossOf g s) (edge g s .left) (edge g s .right)) (λ j.
+      not-both (loss-grows s (edge g s .left) (edge g s .right) h j)
+      (rw (edge-old g e s h) at (false-of-not-true (joined (addEdge g e) (lossOf (addEdge g e) s) (edge (addEdge g e) s .left) (edge (addEdge g e) s .right)) b))))
 
   -- what outlived the loss of every old edge outlives that of the new one: it is the loss of an old mate's, or of nothing old
   loss-of-new : MateRule (g .rule) → (x y : ℕ) → component g x y ≡ true

@@ -47,6 +47,10 @@ module _ (g : Network) (r : MateRule (g .rule)) where
   mates-sym s t h =
       ⊎-elim (λ q. rw q (mates-refl g t)) (λ k. rule-mates g t s (r .symmetric (edge g s) (edge g t) k)) (mates-cases g s t h)
 
+  -- whether two edges are mates does not depend on their order
+  pub mates-swap : (s t : ℕ) → mates g s t ≡ mates g t s
+  mates-swap s t = bool-ext (mates g s t) (mates g t s) (mates-sym s t) (mates-sym t s)
+
   -- being mates is transitive
   pub mates-trans : (s t u : ℕ) → mates g s t ≡ true → mates g t u ≡ true → mates g s u ≡ true
   mates-trans s t u h k = go (mates-cases g s t h) (mates-cases g t u k)

@@ -6,9 +6,10 @@ use Prim.Native.Nat.{ℕ, _<_}
 use lib.Dec.{eqb}
 use Rattle.graph.specs.Network.{Network, Edge, MateRule, Proper, never, parallel, edge, edgeCount, mates-never}
 use Rattle.graph.specs.Cycle.{OnCycle}
+use Rattle.graph.specs.Between.{leastMate}
 use Rattle.graph.specs.Travel.{firstMate}
 use Rattle.graph.proofs.Truth.{eqb-eq}
-use Rattle.graph.proofs.Travel.{first-mate}
+use Rattle.graph.proofs.Travel.{first-mate, first-mate-least}
 use Rattle.graph.proofs.MateLoss.{NoMate}
 use Rattle.graph.proofs.CommonCycle.{parallel-edges-on-cycle}
 
@@ -30,6 +31,9 @@ no-mate-never g none e s h = ap (λ rule. rule (edge g s) e) none
 -- every edge is the least of its mates
 pub first-mate-never : (g : Network) → g .rule ≡ never → (s : ℕ) → firstMate g s ≡ s
 first-mate-never g none s = eqb-eq (firstMate g s) s (sym (mates-never g none (firstMate g s) s) ∙ first-mate g s)
+
+pub least-never : (g : Network) → g .rule ≡ never → (s : ℕ) → leastMate g s ≡ true
+least-never g none s = rw (first-mate-never g none s) at (first-mate-least g (rw none never-mates) s)
 
 -- two different edges between one pair of vertices are a simple cycle (document 01: two spans between one pair are such a cycle)
 pub parallel-edges-on-cycle-never : (g : Network) → Proper g → g .rule ≡ never → (s t : ℕ) → s < edgeCount g → t < edgeCount g

@@ -1,4 +1,4 @@
--- The networks of document 01's marked histories, and their groups.
+-- The networks of document 01's marked histories, and some with ducts (request 3); their groups.
 use mathlib.Core.Bool.{Bool, true, false}
 use mathlib.Core.List.{List, [], _∷_, map}
 use mathlib.Core.Path.{_≡_, refl}
@@ -7,10 +7,11 @@ use Prim.Native.Nat.{ℕ}
 use Rattle.graph.specs.Below
 use Rattle.graph.specs.Labels
 use Rattle.graph.specs.Network
-use Rattle.graph.specs.Network.{edgeBetween as between}
+use Rattle.graph.specs.Network.{edgeBetween as between, edgeInDuct as inDuct}
 use Rattle.graph.specs.Groups
 use Rattle.graph.specs.Block
 use Rattle.graph.specs.Between
+use Rattle.graph.specs.Reduced
 
 -- The groups of items below n: for each item the least item of its group.
 unfoldable pub leasts : ℕ → (ℕ → ℕ → Bool) → List (Option ℕ)
@@ -122,3 +123,72 @@ summaries =
 pub examples-have-their-groups : map summary examples ≡ summaries
 unfolding summary examples summaries network between leasts Below.anyBelow Below.allBelow Below.leastBelow Below.listed Below.tabulate Labels.relabel Labels.labels Labels.same Network.touches Network.otherEnd Network.never Network.edgeCount Network.edge Network.mates Network.nothing Network.lossOf Network.without Network.kept Network.joined Groups.component Groups.parts Groups.bridge Groups.bridgeBlock Block.linkAt Block.link Block.pairsBelow Block.links Block.block Block.onBlock Block.atBoth Block.sharedBlock Between.insert Between.sort Between.leastMate Between.isBridgeBetween Between.bridgeBefore Between.bridgesBetween Between.isCutBetween Between.cutBefore Between.cutsBetween
 examples-have-their-groups = refl
+
+-- The same for networks in which edges of one duct between the same two vertices are lost together.
+unfoldable pub ductNetwork : ℕ → List Network.Edge → Network.Network
+ductNetwork n edges = record { rule = Network.sameDuct; vertices = n; edges = edges }
+
+-- Two edges of one duct from either side; the same with an edge in no duct beside them; two pairs of mates on a chain, of one duct number;
+-- a loop around two mates.
+unfoldable pub ductExamples : List Network.Network
+ductExamples =
+    ductNetwork 3 (inDuct 0 1 7 ∷ inDuct 1 0 7 ∷ [])
+    ∷ ductNetwork 3 (inDuct 0 1 7 ∷ inDuct 1 0 7 ∷ between 0 1 ∷ [])
+    ∷ ductNetwork 3 (inDuct 1 2 9 ∷ inDuct 0 1 9 ∷ inDuct 2 1 9 ∷ inDuct 0 1 9 ∷ [])
+    ∷ ductNetwork 3 (inDuct 0 1 4 ∷ inDuct 0 1 4 ∷ between 1 2 ∷ between 2 0 ∷ [])
+    ∷ []
+
+unfoldable pub ductSummaries : List Summary
+ductSummaries =
+    record {
+      components = some 0 ∷ some 0 ∷ some 2 ∷ [];
+      bridgeBlocks = some 0 ∷ some 1 ∷ some 2 ∷ [];
+      blocks = some 0 ∷ some 0 ∷ [];
+      bridges = true ∷ true ∷ [];
+      shared = none;
+      bridgesThere = [];
+      bridgesBack = [];
+      cuts = [];
+    }
+    ∷ record {
+      components = some 0 ∷ some 0 ∷ some 2 ∷ [];
+      bridgeBlocks = some 0 ∷ some 0 ∷ some 2 ∷ [];
+      blocks = some 0 ∷ some 0 ∷ some 0 ∷ [];
+      bridges = false ∷ false ∷ false ∷ [];
+      shared = none;
+      bridgesThere = [];
+      bridgesBack = [];
+      cuts = [];
+    }
+    ∷ record {
+      components = some 0 ∷ some 0 ∷ some 0 ∷ [];
+      bridgeBlocks = some 0 ∷ some 1 ∷ some 2 ∷ [];
+      blocks = some 0 ∷ some 1 ∷ some 0 ∷ some 1 ∷ [];
+      bridges = true ∷ true ∷ true ∷ true ∷ [];
+      shared = none;
+      bridgesThere = 1 ∷ 0 ∷ [];
+      bridgesBack = 0 ∷ 1 ∷ [];
+      cuts = 1 ∷ [];
+    }
+    ∷ record {
+      components = some 0 ∷ some 0 ∷ some 0 ∷ [];
+      bridgeBlocks = some 0 ∷ some 0 ∷ some 0 ∷ [];
+      blocks = some 0 ∷ some 0 ∷ some 0 ∷ some 0 ∷ [];
+      bridges = false ∷ false ∷ false ∷ false ∷ [];
+      shared = some 0;
+      bridgesThere = [];
+      bridgesBack = [];
+      cuts = [];
+    }
+    ∷ []
+
+-- The definitions give these groups.
+pub duct-examples-have-their-groups : map summary ductExamples ≡ ductSummaries
+unfolding summary ductExamples ductSummaries ductNetwork between inDuct leasts Below.anyBelow Below.allBelow Below.leastBelow Below.listed Below.tabulate Labels.relabel Labels.labels Labels.same Network.touches Network.otherEnd Network.parallel Network.sameDuct Network.edgeCount Network.edge Network.mates Network.nothing Network.lossOf Network.without Network.kept Network.joined Groups.component Groups.parts Groups.bridge Groups.bridgeBlock Block.linkAt Block.link Block.pairsBelow Block.links Block.block Block.onBlock Block.atBoth Block.sharedBlock Between.insert Between.sort Between.leastMate Between.isBridgeBetween Between.bridgeBefore Between.bridgesBetween Between.isCutBetween Between.cutBefore Between.cutsBetween
+duct-examples-have-their-groups = refl
+
+-- Each set of mates as one edge: of the third of these networks edges 0 and 1 are left.
+pub reduced-example : Reduced.reduced (ductNetwork 3 (inDuct 1 2 9 ∷ inDuct 0 1 9 ∷ inDuct 2 1 9 ∷ inDuct 0 1 9 ∷ []))
+    ≡ network 3 (inDuct 1 2 9 ∷ inDuct 0 1 9 ∷ [])
+unfolding Reduced.reduced Reduced.leastEdges ductNetwork network inDuct between Below.anyBelow Below.listed Network.parallel Network.sameDuct Network.edgeCount Network.edge Network.mates Between.leastMate
+reduced-example = refl

@@ -8,4 +8,5 @@ pub mod Block
 pub mod BlockPath
 pub mod Between
 pub mod Travel
+pub mod Reduced
 pub mod Examples

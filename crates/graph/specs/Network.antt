@@ -1,5 +1,5 @@
 -- A network: vertices, the edges between them, and which edges are lost together.
-use mathlib.Core.Bool.{Bool, true, false, cond, _&&_, _||_, or-false}
+use mathlib.Core.Bool.{Bool, true, false, not, cond, _&&_, _||_, or-false}
 use mathlib.Core.List.{List, [], _∷_, _++_}
 use mathlib.Core.Path.{_≡_, _∙_, ap}
 use Prim.Native.Nat.{ℕ, suc, _<_}
@@ -7,14 +7,19 @@ use lib.Dec.{eqb}
 use lib.ListN.{length, getD}
 use Rattle.graph.specs.Labels.{Pair, same}
 
--- An edge (document 01: a span) by its two ends, in the order in which they were entered.
+-- An edge (document 01: a span) by its two ends, in the order in which they were entered, and the duct that it lies in: 0 is no duct.
 pub record Edge : Type 0 where
   pub left : ℕ
   pub right : ℕ
+  pub duct : ℕ
 
--- The edge between two vertices, in the order in which they are entered.
+-- The edge between two vertices, in the order in which they are entered, in no duct.
 unfoldable pub edgeBetween : ℕ → ℕ → Edge
-edgeBetween a b = record { left = a; right = b }
+edgeBetween a b = record { left = a; right = b; duct = 0 }
+
+-- The same, in a duct.
+unfoldable pub edgeInDuct : ℕ → ℕ → ℕ → Edge
+edgeInDuct a b d = record { left = a; right = b; duct = d }
 
 -- Vertex c (document 01: a cabinet) is an end of the edge.
 unfoldable pub touches : Edge → ℕ → Bool
@@ -35,6 +40,10 @@ Rule = Edge → Edge → Bool
 -- The rule of document 01: no other edge is lost with an edge.
 unfoldable pub never : Rule
 never e f = false
+
+-- The rule of request 3: an edge is lost with the edges of its duct between the same two vertices. An edge in no duct is lost alone.
+unfoldable pub sameDuct : Rule
+sameDuct e f = not (eqb (e .duct) 0) && eqb (e .duct) (f .duct) && parallel e f
 
 -- What every law asks of a rule.
 pub record MateRule (rule : Rule) : Type 0 where

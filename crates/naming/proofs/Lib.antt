@@ -13,3 +13,5 @@ pub mod Log
 pub mod Bound
 pub mod GroupSum
 pub mod Book
+pub mod BridgeNames
+pub mod AlikeBooks

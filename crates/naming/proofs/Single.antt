@@ -79,29 +79,30 @@ module _ (n : ℕ) (before : Grouping) (names : List ℕ) (sized : length names 
       rs
       (λ z m. candidate-old z (small z (List·Memᴰ·tail m))))
 
-  -- and the new item, named by its number, does not win against any of them
+  -- the new item, named by its number, does not win against any of them
+  pub new-item-loses : ((z : ℕ) → z < n → nameOf names z < n) → (z : ℕ) → z < n
+      → AtMost (candidate before (names ++ n ∷ []) n) (candidate before (names ++ n ∷ []) z)
+  new-item-loses below z h =
+      single-loses
+      (suc n)
+      before
+      (names ++ n ∷ [])
+      longer
+      e
+      n
+      z
+      (omega arith)
+      (size-alone n before e alone)
+      (omega (arith, nameOf-old names n z (rw sized h), nameOf-new names n n sized, below z h))
+    where
+      longer : length (names ++ n ∷ []) ≡ suc n
+      longer = rw length-append (omega arith)
+
+  -- so it may be left out of their best
   pub new-item-never-wins : ((z : ℕ) → z < n → nameOf names z < n)
       → (r : ℕ) (rs : List ℕ)
       → ((z : ℕ) → List·Memᴰ z (r ∷ rs) → z < n)
       → bestOf (candidate before (names ++ n ∷ [])) (candidate before (names ++ n ∷ []) n) (r ∷ rs)
       ≡ bestOf (candidate before names) (candidate before names r) rs
   new-item-never-wins below r rs small =
-      first-never-wins (candidate before (names ++ n ∷ [])) n r rs (λ z m. loses z (small z m)) ∙ best-of-old r rs small
-    where
-      longer : length (names ++ n ∷ []) ≡ suc n
-      longer = rw length-append (omega arith)
-
-      loses : (z : ℕ) → z < n
-          → AtMost (candidate before (names ++ n ∷ []) n) (candidate before (names ++ n ∷ []) z)
-      loses z h =
-          single-loses
-          (suc n)
-          before
-          (names ++ n ∷ [])
-          longer
-          e
-          n
-          z
-          (omega arith)
-          (size-alone n before e alone)
-          (omega (arith, nameOf-old names n z (rw sized h), nameOf-new names n n sized, below z h))
+      first-never-wins (candidate before (names ++ n ∷ [])) n r rs (λ z m. new-item-loses below z (small z m)) ∙ best-of-old r rs small

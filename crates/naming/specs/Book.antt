@@ -34,7 +34,7 @@ enterVertex b =
     }
 
 -- The next edge: its block name is at first its number, and that block is its own. Then, kind by kind, the groups are taken without
--- the edge and with it.
+-- the edge, its mates staying in, and with it.
 unfoldable pub enterEdge : Book → Edge → Book
 enterEdge b e =
     let g = b .network in

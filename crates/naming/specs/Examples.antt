@@ -1,4 +1,4 @@
--- The names in document 01's marked histories.
+-- The names in document 01's marked histories, and in one with mates (request 3).
 use mathlib.Core.List.{List, [], _∷_, map}
 use mathlib.Core.Path.{_≡_, refl}
 use Prim.Native.Nat.{ℕ}
@@ -17,9 +17,9 @@ pub record Names : Type 0 where
   pub bridgeBlocks : List ℕ
   pub blocks : List ℕ
 
-unfoldable pub namesAfter : List Addition → Names
-namesAfter additions =
-    let b = Book.feedAll (Book.emptyBook Network.never) additions in
+unfoldable pub namesAfter : Network.Rule → List Addition → Names
+namesAfter rule additions =
+    let b = Book.feedAll (Book.emptyBook rule) additions in
     record { components = b .components; bridgeBlocks = b .bridgeBlocks; blocks = b .blocks }
 
 unfoldable pub between : ℕ → ℕ → Addition
@@ -62,6 +62,15 @@ names =
     ∷ []
 
 -- The naming book gives these names.
-pub examples-have-their-names : map namesAfter examples ≡ names
+pub examples-have-their-names : map (namesAfter Network.never) examples ≡ names
 unfolding namesAfter examples names between Below.anyBelow Below.allBelow Below.count Below.listed Below.tabulate Labels.relabel Labels.labels Labels.same Network.edgeBetween Network.touches Network.otherEnd Network.never Network.edgeCount Network.edge Network.addVertex Network.addEdge Network.mates Network.nothing Network.lossOf Network.without Network.kept Network.joined Groups.component Groups.bridgeBlock Block.linkAt Block.link Block.pairsBelow Block.links Block.block Rename.size Rename.nameOf Rename.better Rename.bestOf Rename.candidate Rename.holdsSeveral Rename.bestName Rename.rename Book.emptyBook Book.enterVertex Book.enterEdge Book.feed Book.feedAll
 examples-have-their-names = refl
+
+unfoldable pub inDuct : ℕ → ℕ → ℕ → Addition
+inDuct x y d = edge (Network.edgeInDuct x y d)
+
+-- Blocks are measured in single edges: two mates outweigh an edge with a lesser name, and give a loop of five edges their name.
+pub mates-outweigh : namesAfter Network.sameDuct (vertex ∷ vertex ∷ vertex ∷ vertex ∷ between 2 3 ∷ inDuct 0 1 5 ∷ inDuct 0 1 5 ∷ between 1 2 ∷ between 3 0 ∷ [])
+    ≡ record { components = 0 ∷ 0 ∷ 0 ∷ 0 ∷ []; bridgeBlocks = 0 ∷ 0 ∷ 0 ∷ 0 ∷ []; blocks = 1 ∷ 1 ∷ 1 ∷ 1 ∷ 1 ∷ [] }
+unfolding namesAfter between inDuct Below.anyBelow Below.allBelow Below.count Below.listed Below.tabulate Labels.relabel Labels.labels Labels.same Network.edgeBetween Network.edgeInDuct Network.touches Network.otherEnd Network.parallel Network.sameDuct Network.edgeCount Network.edge Network.addVertex Network.addEdge Network.mates Network.nothing Network.lossOf Network.without Network.kept Network.joined Groups.component Groups.bridgeBlock Block.linkAt Block.link Block.pairsBelow Block.links Block.block Rename.size Rename.nameOf Rename.better Rename.bestOf Rename.candidate Rename.holdsSeveral Rename.bestName Rename.rename Book.emptyBook Book.enterVertex Book.enterEdge Book.feed Book.feedAll
+mates-outweigh = refl

@@ -1,6 +1,7 @@
 pub mod Rename
 pub mod Naming
 pub mod Book
+pub mod BridgeNames
 pub mod State
 pub mod Log
 pub mod Total

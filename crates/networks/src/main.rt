@@ -5,6 +5,7 @@ use forest::Growth;
 use forest::Shape;
 use forest::Shared;
 use forest::VertexGroups;
+use numbers::Duct;
 use numbers::Edge;
 use numbers::Limits;
 use numbers::Vertex;
@@ -83,31 +84,32 @@ fn fill(t: &mut [u32], empty: Shape) -> Shape
 }
 
 // Adds an edge, where there is room and its ends are two vertices; prints what it changed.
-fn grow(t: &mut [u32], shape: Shape, a: Vertex, b: Vertex) -> Shape
+fn grow(t: &mut [u32], shape: Shape, a: Vertex, b: Vertex, d: Duct) -> Shape
     requires { ⌜ Holds shape (now t) ⌝ }
     ensures { λ r. ⌜ Holds r (now (t .exit)) ⌝ }
 {
     let mut grown = shape;
     let most = shape.limits.edges as u32;
     if shape.edges < most && a.0 < shape.vertices && b.0 < shape.vertices && a.0 != b.0 {
-        let g = forest::add_edge(t, shape, a, b);
+        let g = forest::add_edge(t, shape, a, b, d);
         grown.edges += 1;
         say_growth(t, grown, Edge(shape.edges), g);
     }
     grown
 }
 
-// Adds edges, each given by its two ends.
-fn grow_all(t: &mut [u32], apart: Shape, ends: &[u32]) -> Shape
+// Adds edges, each given by its two ends and its duct.
+fn grow_all(t: &mut [u32], apart: Shape, edges: &[u32]) -> Shape
     requires { ⌜ Holds apart (now t) ⌝ }
     ensures { λ r. ⌜ Holds r (now (t .exit)) ⌝ }
 {
     let mut shape = apart;
     let mut i: usize = 0;
-    while i < ends.len() / 2 {
-        let a = ends[i * 2];
-        let b = ends[i * 2 + 1];
-        shape = grow(t, shape, Vertex(a), Vertex(b));
+    while i < edges.len() / 3 {
+        let a = edges[i * 3];
+        let b = edges[i * 3 + 1];
+        let d = edges[i * 3 + 2];
+        shape = grow(t, shape, Vertex(a), Vertex(b), Duct(d));
         i += 1;
     }
     shape
@@ -234,36 +236,40 @@ fn tell(t: &mut [u32], shape: Shape)
     say_between(t, shape, Vertex(0), Vertex(last));
 }
 
-// A network of as many vertices as there is room for, the first and the last of them marked, and the edges with these ends: makes it in a
-// table, where a table of 256 words is enough, and prints what it tells.
-fn show(title: &[u8], vertices: u16, edges: u16, ends: &[u32]) {
+// A network of as many vertices as there is room for, the first and the last of them marked, and the edges with these ends and ducts: makes
+// it in a table, where a table of 256 words is enough, and prints what it tells.
+fn show(title: &[u8], vertices: u16, most: u16, edges: &[u32]) {
     let limits = Limits {
         vertices: vertices,
-        edges: edges,
+        edges: most,
     };
     let mut words = [0u32; 256];
     let t: &mut [u32] = &mut words;
-    if 4096 < vertices || 8192 < edges || 256 < forest::words_needed(limits) {
+    if 4096 < vertices || 8192 < most || 256 < forest::words_needed(limits) {
         return;
     }
     io::write_all(1, title);
     let empty = forest::begin(t, limits);
     let apart = fill(t, empty);
     mark_ends(t, apart);
-    let whole = grow_all(t, apart, ends);
+    let whole = grow_all(t, apart, edges);
     tell(t, whole);
 }
 
 fn main() {
     show(b"One vertex\n", 1, 1, &[]);
     show(b"\nTwo vertices apart\n", 2, 1, &[]);
-    show(b"\nA doubled edge\n", 2, 2, &[0, 1, 0, 1]);
-    show(b"\nA chain\n", 3, 2, &[0, 1, 1, 2]);
-    show(b"\nA triangle\n", 3, 3, &[0, 1, 1, 2, 2, 0]);
-    let meeting = [1, 2, 1, 2, 0, 1, 0, 1];
+    show(b"\nA doubled edge\n", 2, 2, &[0, 1, 0, 0, 1, 0]);
+    show(b"\nA chain\n", 3, 2, &[0, 1, 0, 1, 2, 0]);
+    show(b"\nA triangle\n", 3, 3, &[0, 1, 0, 1, 2, 0, 2, 0, 0]);
+    let meeting = [1, 2, 0, 1, 2, 0, 0, 1, 0, 0, 1, 0];
     show(b"\nTwo doubled edges that meet\n", 3, 4, &meeting);
-    let equal = [0, 1, 0, 1, 2, 3, 2, 3, 1, 2, 0, 3];
+    let equal = [0, 1, 0, 0, 1, 0, 2, 3, 0, 2, 3, 0, 1, 2, 0, 0, 3, 0];
     show(b"\nTwo doubled edges, joined twice\n", 4, 6, &equal);
-    let lesser = [0, 1, 2, 3, 3, 4, 1, 2];
+    let lesser = [0, 1, 0, 2, 3, 0, 3, 4, 0, 1, 2, 0];
     show(b"\nA larger component and a lesser name\n", 5, 4, &lesser);
+    let mates = [1, 2, 9, 0, 1, 9, 2, 1, 9, 0, 1, 9];
+    show(b"\nTwo pairs of mates that meet\n", 3, 4, &mates);
+    let around = [0, 1, 4, 0, 1, 4, 1, 2, 0, 2, 0, 0, 1, 0, 4];
+    show(b"\nA loop around mates\n", 3, 5, &around);
 }

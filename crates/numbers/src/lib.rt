@@ -1,10 +1,13 @@
-// The numbers of vertices and of edges, so that neither is taken for the other, and how many of each a table has words for.
+// The numbers of vertices, of edges and of ducts, so that none is taken for another, and how many vertices and edges a table has words for.
 
 // The number of a vertex. Component and bridge-block names are vertices.
 pub struct Vertex(pub u32);
 
 // The number of an edge. Block names are edges.
 pub struct Edge(pub u32);
+
+// The number of a duct; 0 is no duct.
+pub struct Duct(pub u32);
 
 // The most vertices and edges that a table has words for.
 pub struct Limits {

@@ -11,11 +11,15 @@ use lib.ListN.{length, getD, drop}
 use lib.Seq.{getD-drop}
 use Rattle.commands.specs.Bytes.{number}
 use Rattle.graph.proofs.Truth.{true-or-false, eqb-eq, eq-eqb, ne-eqb}
-use Rattle.commands.specs.Command.{Command, Form, unknown, takes, forms, form, operand, Reading, unknownByte, cutOff, command, readForm, readCommand}
+use Rattle.commands.specs.Command.{Command, addDuctSpan, Form, unknown, takes, forms, form, operand, Reading, unknownByte, cutOff, command, readForm, readCommand}
 use Rattle.commands.proofs.Cases.{le-or-gt, gt-leb, impossible}
 use Rattle.commands.proofs.ByPlace.{each-at, _also_}
 use Rattle.commands.proofs.Reading.{widthOf, long-enough, too-short, cut-off, unknown-byte, unknown-exactly, known-bytes}
-use Rattle.reading.specs.Inside.Reads.{OneOperand, TwoOperands, made, formWidth, widths, entryWidth, noCommand, cutShort, whole, passOver}
+use Rattle.reading.specs.Inside.Reads.{OneOperand, TwoOperands, made, formWidth, entryOf, widths, entryWidth, noCommand, cutShort, whole, passOver}
+
+-- a number from low on that is not low is above it
+pub above : (low n : ℕ) → low ≤ n → n ≢ low → low < n
+above low n h d = omega (arith, d)
 
 -- a number in a pair of numbers or in three, one after another
 pub one-of-two : (low n : ℕ) → low ≤ n → n < low + 2 → (n ≡ low) ⊎ (n ≡ low + 1)
@@ -70,14 +74,19 @@ module _ (byte : ℕ) (bytes : List ℕ) where
               impossible (cc)
 
   -- a byte that is no command's
-  pub read-unknown : (byte < 1) ⊎ (10 < byte) → byte ≢ 15 → readCommand byte bytes ≡ unknownByte
+  pub read-unknown : (byte < 1) ⊎ (11 < byte) → byte ≢ 15 → readCommand byte bytes ≡ unknownByte
   unfolding readCommand
   read-unknown k other =
       unknown-byte (form byte) bytes .1 (unknown-exactly byte .1 (known-bytes byte ∙ rw (outside k) (ne-eqb byte 15 other)))
     where
-      outside : (byte < 1) ⊎ (10 < byte) → (leb 1 byte && leb byte 10) ≡ false
+      outside : (byte < 1) ⊎ (11 < byte) → (leb 1 byte && leb byte 11) ≡ false
       outside (inl h) = rw (gt-leb 1 byte h)
-      outside (inr h) = rw (gt-leb byte 10 h) (and-false (leb 1 byte))
+      outside (inr h) = rw (gt-leb byte 11 h) (and-false (leb 1 byte))
+
+-- 0B makes its command of three operands
+pub read-three : (x : ℕ → ℕ) (a b d : ℕ) → x 0 ≡ a → x 1 ≡ b → x 2 ≡ d → made (form 11) 3 x ≡ some (addDuctSpan a b d)
+unfolding form forms made
+read-three x a b d h k l = rw (h, k, l)
 
 -- an operand of the bytes from a place on
 pub operand-at : (journal : List ℕ) (from k place : ℕ) → place ≡ from + 2 * k
@@ -122,20 +131,20 @@ passed-unknown byte bytes = go (form byte)
     go (takes n make) e = impossible (cc)
 
 -- an entry of the table of widths tells that the byte is no command's, or a width
-pub entry-none : (entry : ℕ) → entry ≡ 255 → entryWidth entry ≡ none
+pub entry-none : (entry : ℕ) → entry ≡ 15 → entryWidth entry ≡ none
 unfolding entryWidth
-entry-none entry e = rw (eq-eqb entry 255 e)
+entry-none entry e = rw (eq-eqb entry 15 e)
 
-pub entry-some : (entry : ℕ) → entry ≢ 255 → entryWidth entry ≡ some entry
+pub entry-some : (entry : ℕ) → entry ≢ 15 → entryWidth entry ≡ some entry
 unfolding entryWidth
-entry-some entry d = rw (ne-eqb entry 255 d)
+entry-some entry d = rw (ne-eqb entry 15 d)
 
 -- the table has an entry for each byte up to 0F
-pub widths-are : (byte : ℕ) → byte ≤ 15 → formWidth (form byte) ≡ entryWidth (getD widths byte 0)
-unfolding form forms formWidth entryWidth
+pub widths-are : (byte : ℕ) → byte ≤ 15 → formWidth (form byte) ≡ entryWidth (entryOf widths byte)
+unfolding form forms formWidth entryOf entryWidth
 widths-are =
     each-at
-    (λ byte f. byte ≤ 15 → formWidth f ≡ entryWidth (getD widths byte 0))
+    (λ byte f. byte ≤ 15 → formWidth f ≡ entryWidth (entryOf widths byte))
     forms
     unknown
     ((λ h. refl)

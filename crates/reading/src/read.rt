@@ -5,14 +5,21 @@ ghost use lib.ListN.{length, getD, drop};
 ghost use Rattle.commands.specs.Bytes.{number};
 ghost use Rattle.commands.specs.Command.{readCommand};
 ghost use Rattle.commands.specs.Command.{form};
-ghost use Rattle.reading.specs.Inside.Reads.{meaning, readingOf, OneOperand, TwoOperands, MadeOfOne, MadeOfTwo, formWidth, entryWidth, passingOf, passOver};
+ghost use Rattle.reading.specs.Inside.Reads.{meaning, readingOf, OneOperand, TwoOperands, MadeOfOne, MadeOfTwo, formWidth, entryOf, entryWidth, passingOf, passOver};
+use numbers::Duct;
 use numbers::Edge;
 use numbers::Vertex;
+
+// Where a new span lies: in no duct (02), or in a duct (0B).
+pub enum Lay {
+    NoDuct,
+    InDuct(Duct),
+}
 
 // A command with its operands: cabinets are vertices, spans are edges.
 pub enum Order {
     AddCabinet,
-    AddSpan(Vertex, Vertex),
+    AddSpan(Vertex, Vertex, Lay),
     DistrictName(Vertex),
     RingName(Vertex),
     SharedMesh(Vertex, Vertex),
@@ -60,7 +67,7 @@ fn two_operands(byte: u8, x: u32, y: u32) -> Order
     ensures { λ r. ⌜ MadeOfTwo byte x y (meaning r) ⌝ }
 {
     match byte {
-        2 => Order::AddSpan(Vertex(x), Vertex(y)),
+        2 => Order::AddSpan(Vertex(x), Vertex(y), Lay::NoDuct),
         5 => Order::SharedMesh(Vertex(x), Vertex(y)),
         6 => Order::SoleSpans(Vertex(x), Vertex(y)),
         _ => Order::CutCabinets(Vertex(x), Vertex(y)),
@@ -92,6 +99,21 @@ fn take_two(journal: &[u8], byte: u8, from: usize) -> Taken
     Taken::Command(two_operands(byte, x, y), 4)
 }
 
+// The command of 0B, whose operands stand from a place on.
+fn take_three(journal: &[u8], from: usize) -> Taken
+    requires { ⌜ from ≤ length (now journal) ⌝ }
+    ensures { λ r. ⌜ readingOf r ≡ readCommand 11 (drop from (now (journal .entry))) ⌝ }
+{
+    if journal.len() - from < 6 {
+        return Taken::CutOff;
+    }
+    let x = operand(journal, from);
+    let y = operand(journal, from + 2);
+    let d = operand(journal, from + 4);
+    let lay = Lay::InDuct(Duct(d));
+    Taken::Command(Order::AddSpan(Vertex(x), Vertex(y), lay), 6)
+}
+
 // What stands at a place of the journal.
 pub(crate) fn take_at(journal: &[u8], at: usize) -> Taken
     requires { ⌜ at < length (now journal) ⌝ }
@@ -102,6 +124,7 @@ pub(crate) fn take_at(journal: &[u8], at: usize) -> Taken
         1 => Taken::Command(Order::AddCabinet, 0),
         2 | 5..=7 => take_two(journal, byte, at + 1),
         3..=4 | 8..=10 => take_one(journal, byte, at + 1),
+        11 => take_three(journal, at + 1),
         15 => Taken::Command(Order::ExchangeShare, 0),
         _ => Taken::Unknown,
     }
@@ -115,11 +138,20 @@ pub enum Passed {
     Command(u8, usize),
 }
 
+// Entry k of a table of sixteen entries in one number: four bits each, entry 0 in the lowest.
+pub fn entry_of(table: u64, k: u8) -> u8
+    requires { ⌜ k ≤ 15 ⌝ }
+    ensures { λ r. ⌜ r ≡ entryOf table k ⌝ }
+{
+    let low = (k as u32) * 4;
+    ((table >> low) % 16) as u8
+}
+
 // The entry of a byte that is no command's.
-const NONE: u8 = 255;
+const NONE: u8 = 15;
 
 // The number of the operands' bytes, by the command byte, or NONE.
-const WIDTHS: [u8; 16] = [255, 0, 4, 2, 2, 4, 4, 4, 2, 2, 2, 255, 255, 255, 255, 0];
+const WIDTHS: u64 = 0x0FFF_6222_4442_240F;
 
 // What a byte is, by its entry in the table; if a command's, its operands stand from a place on.
 fn pass_over(journal: &[u8], byte: u8, from: usize, entry: u8) -> Passed
@@ -145,10 +177,7 @@ pub(crate) fn pass_at(journal: &[u8], at: usize) -> Passed
     match byte {
         1 => Passed::Command(byte, 0),
         2 => pass_over(journal, byte, at + 1, 4),
-        3..=15 => {
-            let i = byte as usize;
-            pass_over(journal, byte, at + 1, WIDTHS[i])
-        }
+        3..=15 => pass_over(journal, byte, at + 1, entry_of(WIDTHS, byte)),
         _ => Passed::Unknown,
     }
 }

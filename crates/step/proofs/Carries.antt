@@ -6,7 +6,7 @@ use mathlib.Core.Path.{_≡_, refl, sym, _∙_, ap}
 use Prim.Native.Nat.{ℕ, _<_}
 use native.Mathlib.Omega.{arith}
 use Rattle.graph.specs.Below.{tabulate}
-use Rattle.graph.specs.Network.{edgeBetween}
+use Rattle.graph.specs.Network.{edgeBetween, edgeInDuct}
 use Rattle.graph.specs.Groups.{bridge}
 use Rattle.graph.specs.Block.{sharedBlock}
 use Rattle.graph.specs.Between.{bridgesBetween, cutsBetween}
@@ -14,12 +14,15 @@ use Rattle.naming.specs.Rename.{Change, nameOf, changesBetween}
 use Rattle.naming.specs.Book.{Book, neither, feed}
 use Rattle.naming.specs.State.{State, afterAddition, recordsNothing, marksAfter, afterRecording}
 use Rattle.naming.proofs.Listed.{map-tabulate}
-use Rattle.commands.specs.Field.{Kind, district, ring, mesh}
-use Rattle.commands.specs.Command.{Command, addCabinet, addSpan, districtName, ringName, sharedMesh, soleSpans, cutCabinets, isSole, markExchange, holdsExchange, exchangeShare}
+use Rattle.commands.specs.Field.{Kind, district, ring, mesh, Field}
+use Rattle.commands.specs.Command.{Command, addCabinet, addSpan, districtName, ringName, sharedMesh, soleSpans, cutCabinets, isSole, markExchange, holdsExchange, addDuctSpan, exchangeShare}
 use Rattle.commands.specs.Answer.{changeNotice, changes, notices, plain, soleIs, exchangeHeld, shareIs}
 use Rattle.commands.specs.Exchange.{ringHoldsExchange, shareWithExchange}
-use Rattle.commands.specs.Facts.{asks, meshAnswer, facts, additionOf, addition, recordingOf, recording, after, spanAnswer, answerTo, answer}
+use Rattle.commands.specs.Facts.{Demand, addsSpan, asks, meshAnswer, facts, additionOf, addition, recordingOf, recording, after, spanAnswer, answerTo, answer}
 use Rattle.numbers.specs.declared.Vertex.{Vertex}
+use Rattle.reading.specs.declared.read.Lay.{Lay}
+use Rattle.reading.specs.declared.read.Lay.the-variants as L
+use Rattle.reading.specs.Inside.Reads.{spanCommand}
 use Rattle.forest.specs.declared.Growth.{Growth}
 use Rattle.forest.specs.declared.Shape.{Shape}
 use Rattle.forest.specs.declared.Shared.{Shared}
@@ -27,12 +30,12 @@ use Rattle.forest.specs.declared.VertexGroups.{VertexGroups}
 use Rattle.forest.specs.declared.VertexGroups.the-variants as G
 use Rattle.forest.specs.Promise.{Holds, stateOf, bookIn, networkIn, vertices-held, edges-held, few-vertices, few-edges, same-beyond-refl, oneEdgeMore, VertexAdded, EdgeAdded, VertexMarked, ListWritten, vertexNames, sharedName}
 use Rattle.step.specs.declared.Listed.{Listed}
-use Rattle.step.specs.declared.Listed.the-variants as L
+use Rattle.step.specs.declared.Listed.the-variants as M
 use Rattle.step.specs.declared.Finding.{Finding}
 use Rattle.step.specs.declared.Finding.the-variants as F
 use Rattle.step.specs.declared.Reply.the-variants as R
 use Rattle.step.specs.Promise.{noticeAt, noticeCount, growthNotices, itemAt, nameAnswer, sharedAnswer, listAnswer, findingAnswer, replyAnswer, shapeAfter, Carried}
-use Rattle.step.specs.Inside.Asked.{asksName}
+use Rattle.step.specs.Inside.Asked.{asksName, ductOf}
 
 -- a cabinet more
 pub cabinet-carried : (shape : Shape) (old new : List ℕ) → VertexAdded shape old new
@@ -107,17 +110,17 @@ shared-carried shape a b t shared holds e =
 
 -- 06: the sole spans between two cabinets
 pub sole-spans-carried : (shape : Shape) (a b : ℕ) (old new : List ℕ) (count : ℕ)
-    → ListWritten shape old new (itemAt L.Spans shape new) count (bridgesBetween (networkIn shape old) a b)
-    → Carried shape (soleSpans a b) old new (R.Found (F.List L.Spans count))
+    → ListWritten shape old new (itemAt M.Spans shape new) count (bridgesBetween (networkIn shape old) a b)
+    → Carried shape (soleSpans a b) old new (R.Found (F.List M.Spans count))
 unfolding addition additionOf recording recordingOf facts asks listAnswer answer answerTo
-sole-spans-carried shape a b old new count w = list-carried shape (soleSpans a b) refl refl old new L.Spans count _ w refl
+sole-spans-carried shape a b old new count w = list-carried shape (soleSpans a b) refl refl old new M.Spans count _ w refl
 
 -- 07: the cut cabinets between them
 pub cut-cabinets-carried : (shape : Shape) (a b : ℕ) (old new : List ℕ) (count : ℕ)
-    → ListWritten shape old new (itemAt L.Cabinets shape new) count (cutsBetween (networkIn shape old) a b)
-    → Carried shape (cutCabinets a b) old new (R.Found (F.List L.Cabinets count))
+    → ListWritten shape old new (itemAt M.Cabinets shape new) count (cutsBetween (networkIn shape old) a b)
+    → Carried shape (cutCabinets a b) old new (R.Found (F.List M.Cabinets count))
 unfolding addition additionOf recording recordingOf facts asks listAnswer answer answerTo
-cut-cabinets-carried shape a b old new count w = list-carried shape (cutCabinets a b) refl refl old new L.Cabinets count _ w refl
+cut-cabinets-carried shape a b old new count w = list-carried shape (cutCabinets a b) refl refl old new M.Cabinets count _ w refl
 
 -- 08: whether the span is sole
 pub sole-carried : (shape : Shape) (s : ℕ) (t : List ℕ) (sole : Bool) → Holds shape t → sole ≡ bridge (networkIn shape t) s
@@ -154,7 +157,7 @@ unfolding changes
 kind-notices kind at k old new are = sym (map-tabulate (changeNotice kind) k at) ∙ ap (map (changeNotice kind)) are
 
 -- A span more.
-module _ (shape : Shape) (a b : ℕ) (old new : List ℕ) (growth : Growth) (added : EdgeAdded shape a b old new growth) where
+module _ (shape : Shape) (a b d : ℕ) (old new : List ℕ) (growth : Growth) (added : EdgeAdded shape a b d old new growth) where
   -- its notices are few
   few-notices : Holds shape old → noticeCount growth < 65536
   few-notices holds =
@@ -183,14 +186,24 @@ module _ (shape : Shape) (a b : ℕ) (old new : List ℕ) (growth : Growth) (add
   unfolding replyAnswer spanAnswer
   span-answered = rw (edges-held shape old, added .block-name, all-notices)
 
-  pub span-carried : Holds shape old
-      → Carried shape (addSpan a b) old new (R.Span (record { 0 = shape .edges }) growth)
-  unfolding after afterAddition afterRecording marksAfter addition additionOf recording recordingOf facts answer answerTo edgeBetween shapeAfter
-  span-carried holds =
+  -- a command that adds just this span is carried out
+  span-done : Holds shape old → (c : Command) {operands : List Field} {demands : List Demand}
+      → facts c ≡ addsSpan (edgeInDuct a b d) operands demands
+      → Carried shape c old new (R.Span (record { 0 = shape .edges }) growth)
+  unfolding after afterAddition afterRecording marksAfter addition additionOf recording recordingOf answer answerTo shapeAfter
+  span-done holds c is =
       record {
         holds = added .holds;
-        state-is = added .state-is;
-        answer-is = span-answered ∙ ap (λ (s : State). spanAnswer (bookIn shape old) (s .book)) (added .state-is);
+        state-is = rw is (added .state-is);
+        answer-is = rw is (span-answered ∙ ap (λ (s : State). spanAnswer (bookIn shape old) (s .book)) (added .state-is));
         fits = few-notices holds;
         same-beyond = added .same-beyond;
       }
+
+-- 02 and 0B: a span in no duct, or in a duct
+pub span-carried : (shape : Shape) (a b : ℕ) (lay : Lay) (old new : List ℕ) (growth : Growth) → EdgeAdded shape a b (ductOf lay) old new growth
+    → Holds shape old → Carried shape (spanCommand a b lay) old new (R.Span (record { 0 = shape .edges }) growth)
+unfolding facts edgeBetween edgeInDuct spanCommand ductOf
+span-carried shape a b L.NoDuct old new growth added holds = span-done shape a b 0 old new growth added holds (addSpan a b) refl
+span-carried shape a b (L.InDuct d) old new growth added holds =
+    span-done shape a b (d .0) old new growth added holds (addDuctSpan a b (d .0)) refl

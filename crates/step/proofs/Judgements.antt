@@ -7,20 +7,22 @@ use Prim.Native.Nat.{ℕ, _<_}
 use native.Mathlib.Omega.{arith}
 use lib.Dec.{eqb, leb, ltb}
 use Rattle.graph.specs.Lists.{allIn}
-use Rattle.graph.specs.Network.{edgeBetween}
+use Rattle.graph.specs.Network.{edgeBetween, edgeInDuct}
 use Rattle.graph.specs.Groups.{component}
 use Rattle.graph.proofs.Truth.{true-or-false, eqb-eq, eqb-same, eq-eqb, ne-eqb, ltb-lt, not-both}
 use Rattle.commands.specs.Facts.{asks, facts, operandsOf, demandsOf, additionOf, addition}
-use Rattle.commands.specs.Refusal.{refusalNumber, unknownCabinet, unknownSpan, equalCabinets, full, twoDistricts, alreadyExchange, Refusal, Line, firstThatApplies, cabinetKnown, spanKnown, cabinetsKnown, spansKnown, met, cause, meets, fullFor, isFull, lines, refusalOf}
+use Rattle.commands.specs.Refusal.{refusalNumber, unknownCabinet, unknownSpan, equalCabinets, full, twoDistricts, alreadyExchange, noDuct, Refusal, Line, firstThatApplies, cabinetKnown, spanKnown, cabinetsKnown, spansKnown, met, cause, meets, fullFor, isFull, lines, refusalOf}
 use Rattle.commands.specs.Entry.{numberOf}
 use Rattle.commands.proofs.Cases.{leb-gt}
 use Rattle.forest.specs.declared.Shape.{Shape}
 use Rattle.forest.specs.Promise.{stateOf, networkIn, vertices-held, edges-held}
+use Rattle.reading.specs.declared.read.Lay.{Lay}
+use Rattle.reading.specs.declared.read.Lay.the-variants as L
 use Rattle.reading.specs.declared.read.Order.{Order}
 use Rattle.reading.specs.declared.read.Order.the-variants as O
-use Rattle.reading.specs.Inside.Reads.{meaning}
+use Rattle.reading.specs.Inside.Reads.{spanCommand, meaning}
 use Rattle.step.specs.Promise.{capacitiesOf}
-use Rattle.step.specs.Inside.Judged.{firstOf, cabinetRefusal, spanRefusal, pairRefusal, differentRefusal, exchangeRefusal, newCabinetRefusal, newSpanRefusal, districtRefusal, judgement}
+use Rattle.step.specs.Inside.Judged.{firstOf, cabinetRefusal, spanRefusal, pairRefusal, differentRefusal, exchangeRefusal, ductRefusal, newCabinetRefusal, newSpanRefusal, districtRefusal, judgement}
 
 -- the number of the first line that applies; lines that never apply are passed over by computing
 abbrev table : List Line → ℕ
@@ -59,15 +61,21 @@ exchange-lines false marked = refl
 exchange-lines true false = refl
 exchange-lines true true = refl
 
-new-span-lines : (a b same isfull : Bool)
-    → firstOf (firstOf (firstOf (cond a 0 6) (cond b 0 6)) (cond same 8 0)) (cond isfull 9 0)
-    ≡ table (line (not (a && (b && true))) unknownCabinet ∷ line (not (not same && true)) equalCabinets ∷ line isfull full ∷ [])
+new-span-lines : (a b same nought isfull : Bool)
+    → firstOf (firstOf (firstOf (cond a 0 6) (cond b 0 6)) (cond same 8 0)) (firstOf (cond nought 13 0) (cond isfull 9 0))
+    ≡ table
+    (line (not (a && (b && true))) unknownCabinet
+    ∷ line (not (not same && true)) equalCabinets
+    ∷ line (not (not nought && true)) noDuct
+    ∷ line isfull full
+    ∷ [])
 unfolding firstOf numberOf firstThatApplies refusalNumber
-new-span-lines false b same isfull = refl
-new-span-lines true false same isfull = refl
-new-span-lines true true true isfull = refl
-new-span-lines true true false true = refl
-new-span-lines true true false false = refl
+new-span-lines false b same nought isfull = refl
+new-span-lines true false same nought isfull = refl
+new-span-lines true true true nought isfull = refl
+new-span-lines true true false true isfull = refl
+new-span-lines true true false false true = refl
+new-span-lines true true false false false = refl
 
 district-lines : (a b together : Bool) → firstOf (firstOf (cond a 0 6) (cond b 0 6)) (cond together 0 10)
     ≡ table (line (not (a && (b && true))) unknownCabinet ∷ line (not (together && true)) twoDistricts ∷ [])
@@ -80,11 +88,14 @@ district-lines true true false = refl
 -- the refusal of each command is the table's
 pub judged : (shape : Shape) (t : List ℕ) (order : Order)
     → judgement shape t order ≡ numberOf (refusalOf (capacitiesOf (shape .limits)) (stateOf shape t) (meaning order))
-unfolding judgement cabinetRefusal spanRefusal pairRefusal differentRefusal exchangeRefusal newCabinetRefusal newSpanRefusal districtRefusal meaning capacitiesOf refusalOf firstThatApplies lines cabinetsKnown spansKnown meets isFull fullFor addition additionOf facts asks operandsOf demandsOf edgeBetween allIn cabinetKnown spanKnown met cause refusalNumber numberOf
+unfolding judgement cabinetRefusal spanRefusal pairRefusal differentRefusal exchangeRefusal ductRefusal newCabinetRefusal newSpanRefusal districtRefusal spanCommand meaning capacitiesOf refusalOf firstThatApplies lines cabinetsKnown spansKnown meets isFull fullFor addition additionOf facts asks operandsOf demandsOf edgeBetween edgeInDuct allIn cabinetKnown spanKnown met cause refusalNumber numberOf
 judged shape t O.AddCabinet = rw (vertices-held shape t) (full-line (leb (shape .limits .vertices) (shape .vertices)))
-judged shape t (O.AddSpan a b) =
+judged shape t (O.AddSpan a b L.NoDuct) =
     rw (vertices-held shape t, edges-held shape t)
-    (new-span-lines (ltb (a .0) (shape .vertices)) (ltb (b .0) (shape .vertices)) (eqb (a .0) (b .0)) (leb (shape .limits .edges) (shape .edges)))
+    (new-span-lines (ltb (a .0) (shape .vertices)) (ltb (b .0) (shape .vertices)) (eqb (a .0) (b .0)) false (leb (shape .limits .edges) (shape .edges)))
+judged shape t (O.AddSpan a b (L.InDuct d)) =
+    rw (vertices-held shape t, edges-held shape t)
+    (new-span-lines (ltb (a .0) (shape .vertices)) (ltb (b .0) (shape .vertices)) (eqb (a .0) (b .0)) (eqb (d .0) 0) (leb (shape .limits .edges) (shape .edges)))
 judged shape t (O.DistrictName a) = rw (vertices-held shape t) (cabinet-line (ltb (a .0) (shape .vertices)))
 judged shape t (O.RingName a) = rw (vertices-held shape t) (cabinet-line (ltb (a .0) (shape .vertices)))
 judged shape t (O.SharedMesh a b) =
@@ -167,12 +178,13 @@ module _ (shape : Shape) where
         let apart = test-failed (eqb a b) (λ d. absurd (omega arith)) (both .1) in
         (both .0, λ same. not-both (eqb-same b) (rw same at apart))
 
-    pub new-span-passes : newSpanRefusal shape a b ≡ 0 → (differentRefusal shape a b ≡ 0) × (shape .edges < shape .limits .edges)
+    pub new-span-passes : (lay : Lay) → newSpanRefusal shape a b lay ≡ 0 → (differentRefusal shape a b ≡ 0) × (shape .edges < shape .limits .edges)
     unfolding newSpanRefusal
-    new-span-passes e =
-        let both = neither-refuses (differentRefusal shape a b) (cond (leb (shape .limits .edges) (shape .edges)) 9 0) e in
-        let left = test-failed (leb (shape .limits .edges) (shape .edges)) (λ d. absurd (omega arith)) (both .1) in
-        (both .0, leb-gt (shape .limits .edges) (shape .edges) left)
+    new-span-passes lay e =
+        let isfull = leb (shape .limits .edges) (shape .edges) in
+        let both = neither-refuses (differentRefusal shape a b) (firstOf (ductRefusal lay) (cond isfull 9 0)) e in
+        let later = neither-refuses (ductRefusal lay) (cond isfull 9 0) (both .1) in
+        (both .0, leb-gt (shape .limits .edges) (shape .edges) (test-failed isfull (λ d. absurd (omega arith)) (later .1)))
 
     pub district-passes : (t : List ℕ) → districtRefusal shape t a b ≡ 0
         → (pairRefusal shape a b ≡ 0) × (component (networkIn shape t) a b ≡ true)

@@ -3,12 +3,12 @@ ghost use mathlib.Core.Bool.{true, false};
 ghost use mathlib.Core.Path.{_≡_};
 ghost use Prim.Native.Nat.{_<_};
 ghost use Rattle.graph.specs.Groups.{component};
-ghost use Rattle.commands.specs.Command.{addCabinet, addSpan, sharedMesh, soleSpans, cutCabinets, isSole, markExchange, holdsExchange, exchangeShare};
+ghost use Rattle.commands.specs.Command.{addCabinet, sharedMesh, soleSpans, cutCabinets, isSole, markExchange, holdsExchange, exchangeShare};
 ghost use Rattle.forest.specs.Promise.{Holds, stateOf, networkIn};
-ghost use Rattle.reading.specs.Inside.Reads.{meaning};
+ghost use Rattle.reading.specs.Inside.Reads.{spanCommand, meaning};
 ghost use Rattle.step.specs.Inside.Judged.{judgement};
 ghost use Rattle.step.specs.Promise.{Carried};
-ghost use Rattle.step.specs.Inside.Asked.{asksName};
+ghost use Rattle.step.specs.Inside.Asked.{asksName, ductOf};
 use crate::Finding;
 use crate::Listed;
 use crate::Reply;
@@ -24,8 +24,10 @@ use forest::group_of;
 use forest::is_bridge;
 use forest::mark;
 use forest::shared_block;
+use numbers::Duct;
 use numbers::Edge;
 use numbers::Vertex;
+use reading::read::Lay;
 use reading::read::Order;
 
 // 01: add a cabinet.
@@ -37,12 +39,22 @@ fn add_cabinet(t: &mut [u32], shape: Shape) -> Reply
     Reply::Cabinet(Vertex(shape.vertices))
 }
 
-// 02: add a span.
-fn add_span(t: &mut [u32], shape: Shape, a: Vertex, b: Vertex) -> Reply
-    requires { ⌜ Holds shape (now t) × (shape .edges < shape .limits .edges) × (a .0 < shape .vertices) × (b .0 < shape .vertices) × (a .0 ≡ b .0 → ⊥) ⌝ }
-    ensures { λ r. ⌜ Carried shape (addSpan (a .0) (b .0)) (now (t .entry)) (now (t .exit)) r ⌝ }
+// The duct that a new span lies in; 0 for none.
+fn duct_of(lay: Lay) -> Duct
+    ensures { λ r. ⌜ r .0 ≡ ductOf lay ⌝ }
 {
-    let growth = add_edge(t, shape, a, b);
+    match lay {
+        Lay::NoDuct => Duct(0),
+        Lay::InDuct(d) => d,
+    }
+}
+
+// 02 and 0B: add a span.
+fn add_span(t: &mut [u32], shape: Shape, a: Vertex, b: Vertex, lay: Lay) -> Reply
+    requires { ⌜ Holds shape (now t) × (shape .edges < shape .limits .edges) × (a .0 < shape .vertices) × (b .0 < shape .vertices) × (a .0 ≡ b .0 → ⊥) ⌝ }
+    ensures { λ r. ⌜ Carried shape (spanCommand (a .0) (b .0) lay) (now (t .entry)) (now (t .exit)) r ⌝ }
+{
+    let growth = add_edge(t, shape, a, b, duct_of(lay));
     Reply::Span(Edge(shape.edges), growth)
 }
 
@@ -126,7 +138,7 @@ pub(crate) fn carry_out(t: &mut [u32], shape: Shape, order: Order) -> Reply
 {
     match order {
         Order::AddCabinet => add_cabinet(t, shape),
-        Order::AddSpan(a, b) => add_span(t, shape, a, b),
+        Order::AddSpan(a, b, lay) => add_span(t, shape, a, b, lay),
         Order::DistrictName(a) => group_name(t, shape, VertexGroups::Components, a),
         Order::RingName(a) => group_name(t, shape, VertexGroups::BridgeBlocks, a),
         Order::SharedMesh(a, b) => shared_mesh(t, shape, a, b),

@@ -1,12 +1,13 @@
 // The refusal that a command meets, room apart, by its number; 0 if it meets none. Each function tests lines of the table in their order.
 ghost use mathlib.Core.Path.{_≡_};
 ghost use Rattle.forest.specs.Promise.{Holds};
-ghost use Rattle.step.specs.Inside.Judged.{cabinetRefusal, spanRefusal, pairRefusal, differentRefusal, exchangeRefusal, newCabinetRefusal, newSpanRefusal, districtRefusal, judgement};
+ghost use Rattle.step.specs.Inside.Judged.{cabinetRefusal, spanRefusal, pairRefusal, differentRefusal, exchangeRefusal, ductRefusal, newCabinetRefusal, newSpanRefusal, districtRefusal, judgement};
 use forest::Shape;
 use forest::is_marked;
 use forest::same_component;
 use numbers::Edge;
 use numbers::Vertex;
+use reading::read::Lay;
 use reading::read::Order;
 
 // 6: the cabinet is not known.
@@ -57,6 +58,16 @@ fn exchange_refusal(t: &[u32], shape: Shape, a: Vertex) -> u32
     if is_marked(t, shape, a) { 12 } else { 0 }
 }
 
+// 13: the duct is 0.
+fn duct_refusal(lay: Lay) -> u32
+    ensures { λ r. ⌜ r ≡ ductRefusal lay ⌝ }
+{
+    match lay {
+        Lay::NoDuct => 0,
+        Lay::InDuct(d) => { if d.0 == 0 { 13 } else { 0 } }
+    }
+}
+
 // 9: there are as many cabinets as there may be.
 fn new_cabinet_refusal(shape: Shape) -> u32
     ensures { λ r. ⌜ r ≡ newCabinetRefusal shape ⌝ }
@@ -69,14 +80,18 @@ fn new_cabinet_refusal(shape: Shape) -> u32
     }
 }
 
-// 6, then 8, then 9: there are as many spans as there may be.
-fn new_span_refusal(shape: Shape, a: Vertex, b: Vertex) -> u32
-    ensures { λ r. ⌜ r ≡ newSpanRefusal shape (a .0) (b .0) ⌝ }
+// 6, then 8, then 13, then 9: there are as many spans as there may be.
+fn new_span_refusal(shape: Shape, a: Vertex, b: Vertex, lay: Lay) -> u32
+    ensures { λ r. ⌜ r ≡ newSpanRefusal shape (a .0) (b .0) lay ⌝ }
 {
     let limits = shape.limits;
     let ends = different_refusal(shape, a, b);
     if ends != 0 {
         return ends;
+    }
+    let duct = duct_refusal(lay);
+    if duct != 0 {
+        return duct;
     }
     if (limits.edges as u32) <= shape.edges {
         9
@@ -108,7 +123,7 @@ pub(crate) fn judge(t: &[u32], shape: Shape, order: Order) -> u32
 {
     match order {
         Order::AddCabinet => new_cabinet_refusal(shape),
-        Order::AddSpan(a, b) => new_span_refusal(shape, a, b),
+        Order::AddSpan(a, b, lay) => new_span_refusal(shape, a, b, lay),
         Order::DistrictName(a) => cabinet_refusal(shape, a),
         Order::RingName(a) => cabinet_refusal(shape, a),
         Order::SharedMesh(a, b) => different_refusal(shape, a, b),

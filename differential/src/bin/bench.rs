@@ -15,6 +15,7 @@ use differential::layouts::{self, Layout};
 use differential::random::Random;
 use differential::second::forecast::counts;
 use differential::second::Second;
+use differential::spans::Span;
 use std::hint::black_box;
 use std::time::{Duration, Instant};
 
@@ -23,7 +24,7 @@ const ANSWER_ROOM: usize = 24 << 20;
 
 type Shape = (&'static str, fn(usize) -> Writer);
 
-const SHAPES: [Shape; 10] = [
+const SHAPES: [Shape; 11] = [
     ("random", random),
     ("chain then loops", chain_then_loops),
     ("one long loop", long_loop),
@@ -34,6 +35,7 @@ const SHAPES: [Shape; 10] = [
     ("wide ranges", wide_ranges),
     ("exchange questions", exchange_questions),
     ("shares", shares),
+    ("chain of mates", chain_of_mates),
 ];
 
 fn written(layout: &Layout) -> Writer {
@@ -87,8 +89,8 @@ fn look_ups(cabinets: usize) -> Writer {
 fn wide_ranges(cabinets: usize) -> Writer {
     let mut layout = Layout::of(cabinets);
     let half = cabinets / 2;
-    layout.spans.extend((0..half).map(|i| (i, cabinets - 1 - i)));
-    layout.spans.extend((1..half).map(|i| (0, i)));
+    layout.spans.extend((0..half).map(|i| Span::new(i, cabinets - 1 - i)));
+    layout.spans.extend((1..half).map(|i| Span::new(0, i)));
     written(&layout)
 }
 
@@ -119,11 +121,31 @@ fn shares(cabinets: usize) -> Writer {
     writer
 }
 
+/// A chain whose links lie in ducts, then a mate beside each link; sole spans from end to end; then
+/// the span that closes the chain.
+fn chain_of_mates(cabinets: usize) -> Writer {
+    let mut layout = layouts::chain(cabinets);
+    layout.spans.iter_mut().for_each(|span| span.duct = 1 + span.a % 16);
+    let mates: Vec<Span> = layout.spans.iter().map(|span| span.turned()).collect();
+    layout.spans.extend(mates);
+    let mut writer = written(&layout);
+    for _ in 0..cabinets / 64 {
+        writer.command(0x06, &[0, cabinets - 1]);
+    }
+    writer.span(cabinets - 1, 0);
+    writer
+}
+
 type Long = (&'static str, fn() -> Vec<u8>);
 
 /// Journals to forecast, as long as they may be. A run need not accept them.
-const LONG: [Long; 3] =
-    [("01 alone", || alike(0x01)), ("02 alone", || alike(0x02)), ("all commands", mixed)];
+const LONG: [Long; 5] = [
+    ("01 alone", || alike(0x01)),
+    ("02 alone", || alike(0x02)),
+    ("0B alone", || alike(0x0B)),
+    ("all but 0B", || mixed(|byte| byte != 0x0B)),
+    ("all commands", || mixed(|_| true)),
+];
 
 /// A command with this byte and random operands.
 fn command(byte: u8, random: &mut Random) -> Vec<u8> {
@@ -138,12 +160,15 @@ fn alike(byte: u8) -> Vec<u8> {
     one.repeat(LONGEST_JOURNAL / one.len())
 }
 
-/// Commands of every byte in random order; cabinets where no other command fits.
-fn mixed() -> Vec<u8> {
+/// Commands of every byte that passes the test, in random order; cabinets where no other command
+/// fits.
+fn mixed(passes: fn(u8) -> bool) -> Vec<u8> {
+    let picked: Vec<_> = COMMANDS.into_iter().filter(|(byte, _)| passes(*byte)).collect();
+    let longest = picked.iter().map(|(_, operands)| 1 + 2 * operands).max().unwrap_or(1);
     let mut random = Random::new(6);
     let mut journal = Vec::new();
-    while journal.len() + 5 <= LONGEST_JOURNAL {
-        let (byte, _) = *random.pick(&COMMANDS);
+    while journal.len() + longest <= LONGEST_JOURNAL {
+        let (byte, _) = *random.pick(&picked);
         journal.extend(command(byte, &mut random));
     }
     journal.resize(LONGEST_JOURNAL, 0x01);

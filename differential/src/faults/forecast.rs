@@ -10,9 +10,26 @@ type Wrong = (&'static str, Misforecast);
 
 /// Lengths that do not suffice for some journals: a run with exactly so much room must find them
 /// where the second implementation has them too.
-pub const TOO_SMALL: [Wrong; 6] = [
+pub const TOO_SMALL: [Wrong; 9] = [
     ("the part of 06 left out", |journal, right| {
-        of_length(journal, right, |counts| length(counts) - (3 + 2 * counts[2]) * counts[6])
+        of_length(journal, right, |counts| length(counts) - (3 + 2 * spans(counts)) * counts[6])
+    }),
+    ("0B not counted as a span", |journal, right| {
+        of_length(journal, right, |counts| {
+            let mut without = *counts;
+            without[0x0B] = 0;
+            length(&without)
+        })
+    }),
+    ("0B counted with 7 alone", |journal, right| {
+        of_length(journal, right, |counts| {
+            let mut without = *counts;
+            without[0x0B] = 0;
+            length(&without) + 7 * counts[0x0B]
+        })
+    }),
+    ("0B not counted in the part of 06", |journal, right| {
+        of_length(journal, right, |counts| length(counts) - 2 * counts[0x0B] * counts[6])
     }),
     ("0 for 09", |journal, right| {
         of_length(journal, right, |counts| length(counts) - counts[0x09])
@@ -26,7 +43,7 @@ pub const TOO_SMALL: [Wrong; 6] = [
     ("L one less", |journal, right| {
         let once = |k: usize| if k > 1 { k } else { 0 };
         of_length(journal, right, |counts| {
-            length(counts) - 5 * (2 * once(counts[1]) + once(counts[2]))
+            length(counts) - 5 * (2 * once(counts[1]) + once(spans(counts)))
         })
     }),
     ("a length one byte too small", |journal, right| {
@@ -38,7 +55,7 @@ pub const TOO_SMALL: [Wrong; 6] = [
 pub const WRONG: [Wrong; 6] = [
     ("c and s exchanged in the parts of 06 and 07", |journal, right| {
         of_length(journal, right, |counts| {
-            let [c, s, sole, cut] = [1, 2, 6, 7].map(|byte| counts[byte]);
+            let (c, s, sole, cut) = (counts[1], spans(counts), counts[6], counts[7]);
             length(counts) + 2 * (c * sole + s * cut) - 2 * (s * sole + c * cut)
         })
     }),
@@ -60,6 +77,11 @@ pub const WRONG: [Wrong; 6] = [
     ("another number forecast", |_, right| Forecast { number: right.number + 1, ..right }),
 ];
 
+/// The span commands.
+fn spans(counts: &Counts) -> usize {
+    counts[0x02] + counts[0x0B]
+}
+
 /// Where the journal is accepted, with this length in place of the right one.
 fn of_length(journal: &[u8], right: Forecast, length: impl Fn(&Counts) -> usize) -> Forecast {
     match counts(journal) {
@@ -75,7 +97,7 @@ fn for_later(journal: &[u8]) -> usize {
     while let Some(Ok((_, length))) = rest.first().map(|_| read(rest)) {
         match rest[0] {
             0x01 => later += 2 * cut,
-            0x02 => later += 2 * sole,
+            0x02 | 0x0B => later += 2 * sole,
             0x06 => sole += 1,
             0x07 => cut += 1,
             _ => {}

@@ -15,6 +15,8 @@ pub struct Forest {
     /// A number for each vertex that falls on the way up.
     depth: Vec<u32>,
     ends: Vec<(u32, u32)>,
+    /// For each edge its duct, 0 for none.
+    duct: Vec<u32>,
     /// For each block name the vertex above the block.
     top: Vec<u32>,
     /// For each vertex whether it is an exchange.
@@ -43,6 +45,7 @@ impl Forest {
             up: Vec::with_capacity(vertices),
             depth: Vec::with_capacity(vertices),
             ends: Vec::with_capacity(edges),
+            duct: Vec::with_capacity(edges),
             top: Vec::with_capacity(edges),
             exchange: Vec::with_capacity(vertices),
             exchanges: Vec::with_capacity(vertices),
@@ -112,17 +115,36 @@ impl Forest {
         self.exchanges.push(0);
     }
 
-    /// Adds an edge and gives its block name.
-    pub fn add_span(&mut self, a: u32, b: u32) -> u32 {
+    /// Adds an edge in a duct, 0 for none, and gives its block name.
+    pub fn add_span(&mut self, a: u32, b: u32, duct: u32) -> u32 {
         self.ring.changed.clear();
         self.mesh.changed.clear();
         self.district.changed.clear();
         self.ends.push((a, b));
-        if self.district(a) == self.district(b) {
-            self.condense(a, b)
-        } else {
-            self.link(a, b)
+        self.duct.push(duct);
+        if self.district(a) != self.district(b) {
+            return self.link(a, b);
         }
+        match self.block_of_mates(a, b, duct) {
+            Some(block) => self.join_mates(block),
+            None => self.condense(a, b),
+        }
+    }
+
+    /// The block of a new edge's mates, if its ends are in two bridge-blocks. A block that two such
+    /// vertices share consists of mates alone, so one edge of it tells the duct of all.
+    fn block_of_mates(&self, a: u32, b: u32, duct: u32) -> Option<u32> {
+        if duct == 0 || self.ring(a) == self.ring(b) {
+            return None;
+        }
+        self.shared_mesh(a, b).filter(|&block| self.duct[block as usize] == duct)
+    }
+
+    /// The newest edge goes to the block of its mates. No bridge-block changes.
+    fn join_mates(&mut self, block: u32) -> u32 {
+        self.mesh.add_to(block);
+        self.top.push(0);
+        block
     }
 
     /// The items renamed by the latest edge, by kind.
@@ -220,7 +242,8 @@ impl Forest {
         self.top[block as usize]
     }
 
-    /// The bridges on the path found last: a block of one edge has that edge's number as name.
+    /// The bridges on the path found last, of each set of mates the least: a block that is one edge,
+    /// or one edge and its mates, has that edge's number as name.
     pub fn sole_spans(&self) -> impl Iterator<Item = u32> + Clone + '_ {
         let sides = self.path.vertices[..self.path.length].windows(2);
         let blocks = &self.path.blocks[..self.path.length - 1];

@@ -1,7 +1,9 @@
 //! The naming book of document 01.
 
-use super::groups::{groups, Labels, Network};
+use super::groups::{groups, Labels, Network, NONE};
+use super::mates::Misduct;
 use crate::kinds::{ByKind, Kind, KINDS};
+use crate::spans::Span;
 
 /// A fault put in on purpose for one kind of group, to see that it is found.
 #[derive(Clone, Copy, PartialEq, Eq, Debug)]
@@ -26,9 +28,9 @@ pub struct Book {
 }
 
 impl Book {
-    pub fn empty(fault: Option<Fault>) -> Book {
+    pub fn empty(fault: Option<Fault>, misduct: Option<Misduct>) -> Book {
         Book {
-            network: Network::default(),
+            network: Network { fault: misduct, ..Network::default() },
             names: ByKind::default(),
             groups: ByKind::default(),
             fault,
@@ -46,18 +48,20 @@ impl Book {
         book
     }
 
-    /// Adds the next span, its mesh name at first its number; then each kind is named anew.
-    pub fn with_span(&self, a: usize, b: usize) -> Book {
+    /// Adds the next span, its mesh name at first its number; then each kind is named anew. The
+    /// groups without the span are those before it: its mates stay in.
+    pub fn with_span(&self, span: Span) -> Book {
         let mut book = self.clone();
         let number = book.network.spans.len();
-        book.network.spans.push((a, b));
+        book.network.spans.push(span);
         book.names.mesh.push(number);
-        let mut without = self.groups.clone();
-        without.mesh.push(number);
         book.groups = groups(&book.network);
+        let (mut without, mut with) = (self.groups.clone(), book.groups.clone());
+        without.mesh.push(number);
+        book.network.spoil(&mut without, &mut with);
         for kind in KINDS {
             let wins = book.contest(kind);
-            rename(&without[kind], &book.groups[kind], &mut book.names[kind], wins);
+            rename(&without[kind], &with[kind], &mut book.names[kind], wins);
         }
         book
     }
@@ -105,7 +109,7 @@ fn rename(
     let sizes = sizes(without);
     let mut best: Vec<Option<Candidate>> = vec![None; names.len()];
     let mut several = vec![false; names.len()];
-    for item in 0..names.len() {
+    for item in (0..names.len()).filter(|&item| without[item] != NONE) {
         let group = without[item];
         let other = Candidate { group, size: sizes[group], name: names[item] };
         let so_far = best[with[item]].get_or_insert(other);
@@ -124,7 +128,7 @@ fn rename(
 /// The number of items under each label.
 pub fn sizes(labels: &Labels) -> Vec<usize> {
     let mut sizes = vec![0; labels.len()];
-    for &label in labels {
+    for &label in labels.iter().filter(|&&label| label != NONE) {
         sizes[label] += 1;
     }
     sizes

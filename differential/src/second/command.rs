@@ -2,8 +2,10 @@
 
 use super::book::Book;
 use super::groups::{cut_cabinets, is_sole, route, shared_mesh, sole_spans};
+use super::mates::Misduct;
 use super::State;
 use crate::kinds::KINDS;
+use crate::spans::Span;
 
 #[derive(Clone, Copy, PartialEq, Eq, Debug)]
 pub enum Command {
@@ -17,7 +19,20 @@ pub enum Command {
     IsSole(usize),
     Mark(usize),
     IsFed(usize),
+    /// Two cabinets and a duct.
+    AddInDuct(usize, usize, usize),
     Share,
+}
+
+impl Command {
+    /// The span that this command adds, where it is accepted.
+    pub fn span(self) -> Option<Span> {
+        match self {
+            Command::AddSpan(a, b) => Some(Span::new(a, b)),
+            Command::AddInDuct(a, b, duct) => Some(Span::in_duct(a, b, duct)),
+            _ => None,
+        }
+    }
 }
 
 /// The capacities of a run.
@@ -39,6 +54,7 @@ fn operand_count(byte: u8) -> Option<usize> {
         0x01 | 0x0F => Some(0),
         0x02 | 0x05..=0x07 => Some(2),
         0x03 | 0x04 | 0x08..=0x0A => Some(1),
+        0x0B => Some(3),
         _ => None,
     }
 }
@@ -63,6 +79,7 @@ pub fn read(bytes: &[u8]) -> Result<(Command, usize), u32> {
         0x08 => Command::IsSole(operand(0)),
         0x09 => Command::Mark(operand(0)),
         0x0A => Command::IsFed(operand(0)),
+        0x0B => Command::AddInDuct(operand(0), operand(1), operand(2)),
         _ => Command::Share,
     };
     Ok((command, length))
@@ -71,13 +88,21 @@ pub fn read(bytes: &[u8]) -> Result<(Command, usize), u32> {
 /// The refusal that meets this command whatever the room: the first line of the table that applies.
 pub fn refusal(command: Command, state: &State, capacities: Capacities) -> Option<u32> {
     let book = &state.book;
-    let lines = [
+    let mut lines = [
         (has_unknown_cabinet(command, book), 6),
         (has_unknown_span(command, book), 7),
         (has_equal_cabinets(command), 8),
         (marks_an_exchange(command, state), 12),
+        (names_no_duct(command), 13),
         (finds_no_capacity(command, book, capacities), 9),
     ];
+    // Faults put in on purpose.
+    match book.network.fault {
+        Some(Misduct::DuctFirst) => lines[..5].rotate_right(1),
+        Some(Misduct::DuctBeforeEnds) => lines[2..5].rotate_right(1),
+        Some(Misduct::DuctAfterCapacity) => lines.swap(4, 5),
+        _ => {}
+    }
     let first = lines.into_iter().find(|line| line.0).map(|line| line.1);
     first.or_else(|| goes_across_districts(command, book).then_some(10))
 }
@@ -90,6 +115,7 @@ fn has_unknown_cabinet(command: Command, book: &Book) -> bool {
             unknown(a)
         }
         Command::AddSpan(a, b)
+        | Command::AddInDuct(a, b, _)
         | Command::SharedMesh(a, b)
         | Command::SoleSpans(a, b)
         | Command::CutCabinets(a, b) => unknown(a) || unknown(b),
@@ -101,17 +127,26 @@ fn has_unknown_span(command: Command, book: &Book) -> bool {
 }
 
 fn has_equal_cabinets(command: Command) -> bool {
-    matches!(command, Command::AddSpan(a, b) | Command::SharedMesh(a, b) if a == b)
+    match command {
+        Command::AddSpan(a, b) | Command::AddInDuct(a, b, _) | Command::SharedMesh(a, b) => a == b,
+        _ => false,
+    }
 }
 
 fn marks_an_exchange(command: Command, state: &State) -> bool {
     matches!(command, Command::Mark(a) if state.exchanges.hold(a))
 }
 
+fn names_no_duct(command: Command) -> bool {
+    matches!(command, Command::AddInDuct(_, _, 0))
+}
+
 fn finds_no_capacity(command: Command, book: &Book, capacities: Capacities) -> bool {
     match command {
         Command::AddCabinet => book.network.cabinets >= capacities.cabinets,
-        Command::AddSpan(..) => book.network.spans.len() >= capacities.spans,
+        Command::AddSpan(..) | Command::AddInDuct(..) => {
+            book.network.spans.len() >= capacities.spans
+        }
         _ => false,
     }
 }
@@ -134,7 +169,10 @@ pub fn answer(command: Command, before: &State, after: &State) -> Vec<u8> {
     let route = |a, b| route(network, a, b).expect("refusal 10 meets cabinets of two districts");
     match command {
         Command::AddCabinet => fields(0x81, &[before.network.cabinets]),
-        Command::AddSpan(..) => span_answer(before, after),
+        Command::AddInDuct(..) if network.fault == Some(Misduct::AnsweredByItsOwn) => {
+            span_answer(0x8B, before, after)
+        }
+        Command::AddSpan(..) | Command::AddInDuct(..) => span_answer(0x82, before, after),
         Command::DistrictName(a) => fields(0x83, &[names.district[a]]),
         Command::RingName(a) => fields(0x84, &[names.ring[a]]),
         Command::SharedMesh(a, b) => match shared_mesh(network, groups, a, b) {
@@ -143,15 +181,19 @@ pub fn answer(command: Command, before: &State, after: &State) -> Vec<u8> {
         },
         Command::SoleSpans(a, b) => list(0x86, &sole_spans(network, groups, &route(a, b))),
         Command::CutCabinets(a, b) => list(0x87, &cut_cabinets(groups, &route(a, b))),
-        Command::IsSole(s) => vec![0x88, is_sole(network, groups, s) as u8],
+        Command::IsSole(s) => {
+            let inverted = network.fault == Some(Misduct::SoleInverted);
+            vec![0x88, (is_sole(network, groups, s) != inverted) as u8]
+        }
         Command::Mark(_) => vec![0x89],
         Command::IsFed(a) => vec![0x8A, exchanges.feed(groups, a) as u8],
         Command::Share => fields(0x8F, &[exchanges.share(groups)]),
     }
 }
 
-/// The answer 82: the span's number, its mesh name, the count of notices, the notices.
-fn span_answer(before: &Book, after: &Book) -> Vec<u8> {
+/// The answer 82, of which the first byte is given: the span's number, its mesh name, the count of
+/// notices, the notices.
+fn span_answer(first: u8, before: &Book, after: &Book) -> Vec<u8> {
     let number = before.network.spans.len();
     let mut notices = Vec::new();
     let mut count = 0;
@@ -165,7 +207,7 @@ fn span_answer(before: &Book, after: &Book) -> Vec<u8> {
             }
         }
     }
-    let mut bytes = fields(0x82, &[number, after.names.mesh[number], count]);
+    let mut bytes = fields(first, &[number, after.names.mesh[number], count]);
     bytes.extend(notices);
     bytes
 }

@@ -27,9 +27,9 @@ pub fn counts(journal: &[u8]) -> Result<Counts, (u32, usize)> {
     Ok(counts)
 }
 
-/// The length, with c cabinet and s span commands.
+/// The length, with c cabinet and s span commands; 0B is one of these.
 pub fn length(counts: &Counts) -> usize {
-    let (c, s) = (counts[1], counts[2]);
+    let (c, s) = (counts[1], counts[2] + counts[0x0B]);
     3 * c
         + 7 * s
         + 5 * (2 * c * highest_bit(c) + s * highest_bit(s))

@@ -1,20 +1,25 @@
-//! Districts, rings and meshes of a network, computed from its list of spans alone.
+//! Districts, rings and meshes of a network, computed from its list of spans alone. To lose a span
+//! is to lose its mates with it.
 //!
 //! Groups are given by labels: two items share a group exactly if their labels agree.
 
+use super::mates::Misduct;
 use crate::kinds::ByKind;
+use crate::spans::Span;
 
-/// Cabinets 0, 1, 2 and on, and the spans with their two ends, in the order of arrival.
+/// Cabinets 0, 1, 2 and on, and the spans in the order of arrival.
 #[derive(Clone, Default, Debug)]
 pub struct Network {
     pub cabinets: usize,
-    pub spans: Vec<(usize, usize)>,
+    pub spans: Vec<Span>,
+    /// A fault in what is made of the ducts.
+    pub fault: Option<Misduct>,
 }
 
 /// A label for each cabinet (districts, rings) or for each span (meshes).
 pub type Labels = Vec<usize>;
 
-const NONE: usize = usize::MAX;
+pub const NONE: usize = usize::MAX;
 
 /// The three groupings of a network.
 pub fn groups(network: &Network) -> ByKind<Labels> {
@@ -43,7 +48,7 @@ pub struct Near {
 impl Near {
     pub fn of(network: &Network) -> Near {
         let mut first = vec![0; network.cabinets + 1];
-        for &(a, b) in &network.spans {
+        for &Span { a, b, .. } in &network.spans {
             first[a + 1] += 1;
             first[b + 1] += 1;
         }
@@ -52,7 +57,7 @@ impl Near {
         }
         let mut next = first.clone();
         let mut steps = vec![Step { span: NONE, to: NONE }; 2 * network.spans.len()];
-        for (span, &(a, b)) in network.spans.iter().enumerate() {
+        for (span, &Span { a, b, .. }) in network.spans.iter().enumerate() {
             steps[next[a]] = Step { span, to: b };
             next[a] += 1;
             steps[next[b]] = Step { span, to: a };
@@ -93,11 +98,12 @@ fn joined_over(near: &Near, allowed: impl Fn(usize) -> bool) -> Labels {
 }
 
 /// What one passage through the network, into the depth, finds by low points: the spans whose
-/// removal parts their own ends, and the mesh of each span.
+/// loss parts their own ends, and the mesh of each span.
 ///
 /// The low point of a cabinet is the earliest cabinet that can be reached from it, or from one
-/// reached through it, without the span that led there.
+/// reached through it, when the span that led there is lost.
 struct Passed<'a> {
+    network: &'a Network,
     near: &'a Near,
     clock: usize,
     reached: Vec<usize>,
@@ -109,8 +115,9 @@ struct Passed<'a> {
 }
 
 impl<'a> Passed<'a> {
-    fn through(network: &Network, near: &'a Near) -> Passed<'a> {
+    fn through(network: &'a Network, near: &'a Near) -> Passed<'a> {
         let mut passed = Passed {
+            network,
             near,
             clock: 0,
             reached: vec![NONE; network.cabinets],
@@ -127,8 +134,9 @@ impl<'a> Passed<'a> {
         passed
     }
 
-    /// Goes on from `here`, which span `led` was taken to. Only that span is left out on the way
-    /// back, not the neighbour that it came from: a second span to it is another way.
+    /// Goes on from `here`, which span `led` was taken to. Only that span and its mates are no way
+    /// back: another span to the cabinet that it came from is one. All of them are open, since mates
+    /// share a mesh.
     fn visit(&mut self, here: usize, led: usize) {
         self.reached[here] = self.clock;
         self.low[here] = self.clock;
@@ -142,21 +150,26 @@ impl<'a> Passed<'a> {
                 self.go(here, step);
             } else if self.reached[step.to] < self.reached[here] {
                 self.open.push(step.span);
-                self.low[here] = self.low[here].min(self.reached[step.to]);
+                if !self.network.lost_with(step.span, led) {
+                    self.low[here] = self.low[here].min(self.reached[step.to]);
+                }
             }
         }
     }
 
-    /// Takes a step to a cabinet that was not reached yet.
+    /// Takes a step to a cabinet that was not reached yet. If its loss parts its ends, the mesh is
+    /// the span and its mates.
     fn go(&mut self, here: usize, step: Step) {
         let first_open = self.open.len();
         self.open.push(step.span);
         self.visit(step.to, step.span);
         self.low[here] = self.low[here].min(self.low[step.to]);
-        self.sole[step.span] = self.low[step.to] > self.reached[here];
+        let parts = self.low[step.to] > self.reached[here];
+        let apart = parts && self.network.fault == Some(Misduct::ApartInMeshes);
         if self.low[step.to] >= self.reached[here] {
             for span in self.open.drain(first_open..) {
-                self.mesh[span] = step.span;
+                self.mesh[span] = if apart { span } else { step.span };
+                self.sole[span] = parts;
             }
         }
     }
@@ -186,17 +199,20 @@ pub fn route(network: &Network, a: usize, b: usize) -> Option<Vec<Step>> {
     Some(steps)
 }
 
-/// Is span `span` sole between its own ends? Its removal parts them exactly if they share no ring.
+/// Is span `span` sole between its own ends? Its loss parts them exactly if they share no ring.
 pub fn is_sole(network: &Network, groups: &ByKind<Labels>, span: usize) -> bool {
-    let (a, b) = network.spans[span];
+    let Span { a, b, .. } = network.spans[span];
     groups.ring[a] != groups.ring[b]
 }
 
-/// The sole spans between a and b, in travelling order. Every route takes all of them in that
-/// order, so they are those spans of any route whose removal parts their own ends.
+/// The sets of mates whose loss parts a and b, each by its least number, in travelling order. Every
+/// route takes one span of each of them in that order, so they are the sets of those spans of any
+/// route whose loss parts their own ends.
 pub fn sole_spans(network: &Network, groups: &ByKind<Labels>, route: &[Step]) -> Vec<usize> {
+    let near = Near::of(network);
     let spans = route.iter().map(|step| step.span);
-    spans.filter(|&span| is_sole(network, groups, span)).collect()
+    let sole = spans.filter(|&span| is_sole(network, groups, span));
+    sole.flat_map(|span| network.listed(&near, span)).collect()
 }
 
 /// The cut cabinets between a and b, in travelling order. Every route goes through all of them in
@@ -216,15 +232,11 @@ pub fn shared_mesh(
     b: usize,
 ) -> Option<usize> {
     let mut at_a = vec![false; network.spans.len()];
-    for (span, &ends) in network.spans.iter().enumerate() {
-        if touches(ends, a) {
-            at_a[groups.mesh[span]] = true;
+    for (number, span) in network.spans.iter().enumerate() {
+        if span.touches(a) {
+            at_a[groups.mesh[number]] = true;
         }
     }
     (0..network.spans.len())
-        .find(|&span| touches(network.spans[span], b) && at_a[groups.mesh[span]])
-}
-
-pub fn touches(ends: (usize, usize), cabinet: usize) -> bool {
-    ends.0 == cabinet || ends.1 == cabinet
+        .find(|&number| network.spans[number].touches(b) && at_a[groups.mesh[number]])
 }

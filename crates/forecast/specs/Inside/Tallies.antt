@@ -1,16 +1,17 @@
 -- The tally of the commands of a journal: what is counted at each command, and the length that it comes to.
 use mathlib.Core.Bool.{cond}
-use mathlib.Core.List.{List, [], _∷_, map}
+use mathlib.Core.List.{List, map}
 use mathlib.Core.Option.{none, some}
 use mathlib.Core.Path.{_≡_}
 use Prim.Native.Nat.{ℕ, suc, _+_, _*_, _≤_}
 use lib.Dec.{eqb}
-use lib.ListN.{length, getD, drop}
+use lib.ListN.{length, drop}
 use Rattle.commands.specs.Command.{Command}
 use Rattle.commands.specs.Facts.{Facts, additionOf}
 use Rattle.commands.specs.Text.{Text, textFrom, placeBehind}
 use Rattle.commands.specs.Forecast.{isCabinet, isSpan, cabinetCommands, spanCommands, longestPlain, plainLengths, lengthFor, noForecast}
 use Rattle.commands.specs.Forecast as Paper
+use Rattle.reading.specs.Inside.Reads.{entryOf}
 use Rattle.forecast.specs.declared.Tally.{Tally}
 
 -- No number of the tally is above the bound.
@@ -34,26 +35,30 @@ abbrev pub spanMore : Tally → Tally
 spanMore t =
     record { cabinets = t .cabinets; spans = t .spans + 1; bytes = t .bytes; spanlists = t .spanlists; cabinetlists = t .cabinetlists }
 
--- An answer more: n bytes, and so many lists of spans and of cabinets behind them.
-unfoldable pub answerMore : ℕ → ℕ → ℕ → Tally → Tally
-answerMore n spanlists cabinetlists t =
+-- An entry of the tables more: a span or none; n bytes of an answer, and so many lists of spans and of cabinets behind them.
+unfoldable pub entryMore : ℕ → ℕ → ℕ → ℕ → Tally → Tally
+entryMore spans n spanlists cabinetlists t =
     record {
       cabinets = t .cabinets;
-      spans = t .spans;
+      spans = t .spans + spans;
       bytes = t .bytes + n;
       spanlists = t .spanlists + spanlists;
       cabinetlists = t .cabinetlists + cabinetlists;
     }
 
--- Of the answer to a command that adds nothing, by its byte: the bytes, the lists of spans and the lists of cabinets.
-abbrev pub bytesOf : List ℕ
-bytesOf = 0 ∷ 0 ∷ 0 ∷ 3 ∷ 3 ∷ 4 ∷ 3 ∷ 3 ∷ 2 ∷ 1 ∷ 2 ∷ 0 ∷ 0 ∷ 0 ∷ 0 ∷ 3 ∷ []
+-- By the byte of a command other than 01 and 02: the spans that it adds; of the answer to one that adds nothing, the bytes, the lists of
+-- spans and the lists of cabinets.
+abbrev pub spansOf : ℕ
+spansOf = 0x0000100000000000
 
-abbrev pub spanlistsOf : List ℕ
-spanlistsOf = 0 ∷ 0 ∷ 0 ∷ 0 ∷ 0 ∷ 0 ∷ 1 ∷ 0 ∷ 0 ∷ 0 ∷ 0 ∷ 0 ∷ 0 ∷ 0 ∷ 0 ∷ 0 ∷ []
+abbrev pub bytesOf : ℕ
+bytesOf = 0x3000021233433000
 
-abbrev pub cabinetlistsOf : List ℕ
-cabinetlistsOf = 0 ∷ 0 ∷ 0 ∷ 0 ∷ 0 ∷ 0 ∷ 0 ∷ 1 ∷ 0 ∷ 0 ∷ 0 ∷ 0 ∷ 0 ∷ 0 ∷ 0 ∷ 0 ∷ []
+abbrev pub spanlistsOf : ℕ
+spanlistsOf = 0x0000000001000000
+
+abbrev pub cabinetlistsOf : ℕ
+cabinetlistsOf = 0x0000000010000000
 
 -- A command more, by its byte.
 unfoldable pub countedBy : ℕ → Tally → Tally
@@ -64,7 +69,7 @@ countedBy byte t =
     (cond
     (eqb byte 2)
     (spanMore t)
-    (answerMore (getD bytesOf byte 0) (getD spanlistsOf byte 0) (getD cabinetlistsOf byte 0) t))
+    (entryMore (entryOf spansOf byte) (entryOf bytesOf byte) (entryOf spanlistsOf byte) (entryOf cabinetlistsOf byte) t))
 
 -- The greatest lengths of the answers to the commands that add nothing, with c cabinet and s span commands.
 unfoldable pub plainLength : ℕ → ℕ → Tally → ℕ

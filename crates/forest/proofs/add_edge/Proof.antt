@@ -21,14 +21,16 @@ returns c =
       n = s .args .shape .vertices;
       m = s .args .shape .edges;
       t = s .args .t .now;
-      valid = s .pre .0;
+      valid = s .pre .0 .valid;
       room = s .pre .1;
       a = s .args .a .0;
       b = s .args .b .0;
+      d = s .args .duct .0;
       a-known = s .pre .2;
       b-known = s .pre .3;
       differ = s .pre .4;
     })
+    (s .pre .0 .bridges-named)
     (c .before .before .grow-edge .last .0)
     (c .before .before .grow-edge .result)
     (c .before .before .grow-edge .ensures)

@@ -15,7 +15,7 @@ returns : tie.Need-returns
 unfolding Holds
 returns c =
     let s = c .before .before .before .before .before .before in
-    rw (c .before .before .grow-vertex .ensures) (vertex-added (s .args .shape .limits) (s .args .shape .vertices) (s .args .shape .edges) (s .args .t .now) (s .pre .0) (s .pre .1))
+    rw (c .before .before .grow-vertex .ensures) (vertex-added (s .args .shape .limits) (s .args .shape .vertices) (s .args .shape .edges) (s .args .t .now) (s .pre .0 .valid) (s .pre .1) (s .pre .0 .bridges-named))
 
 pub add-vertex-spec : {M : Type 1} → statement M
 add-vertex-spec = tie.close (tie.spec grow-vertex-requires same-length returns)

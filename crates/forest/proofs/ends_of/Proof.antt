@@ -1,8 +1,8 @@
 -- `ends_of` reads the two ends of an edge.
 use borrow.Author.Needs.{needs}
-use Rattle.graph.specs.Network.{edgeBetween}
-use Rattle.forest.specs.Inside.Valid.{endsOf}
-use Rattle.forest.proofs.QueryNames.{ends-held}
+use Rattle.graph.specs.Network.{edgeInDuct}
+use Rattle.forest.specs.Inside.Valid.{storedEdge}
+use Rattle.forest.proofs.QueryNames.{edge-held}
 use Rattle.forest.proofs.ends_of.Statement.{statement}
 use Rattle.forest.proofs.ends_of.Tie as tie
 
@@ -13,10 +13,10 @@ word-requires : tie.Need-word-requires
 word-requires c κs = search needs
 
 returns : tie.Need-returns
-unfolding edgeBetween endsOf
+unfolding edgeInDuct storedEdge
 returns c =
     let s = c .before .before .before .before in
-    let held = ends-held (s .args .shape) (s .args .t .now) (s .args .s .0) (s .pre .1) in (
+    let held = edge-held (s .args .shape) (s .args .t .now) (s .args .s .0) (s .pre .1) in (
       rw (held, c .word .ensures, c .before .edge-area .ensures),
       rw (held, c .word .ensures, c .before .edge-area .ensures),
     )

@@ -14,7 +14,7 @@ returns : tie.Need-returns
 unfolding Holds stateOf bookOf
 returns c =
     let s = c .before .before .before in
-    c .ends-differ .ensures ∙ bridge-in (s .pre .0) (s .args .s .0) (s .pre .1)
+    c .ends-differ .ensures ∙ bridge-in (s .pre .0 .valid) (s .args .s .0) (s .pre .1)
 
 pub is-bridge-spec : {M : Type 1} → statement M
 is-bridge-spec = tie.close (tie.spec ends-differ-requires returns)

@@ -17,7 +17,7 @@ returns c =
     let s = c .before .before .before .before .before .before in
     let shape = s .args .shape in
     rw (c .before .before .mark-vertex .ensures)
-    (vertex-marked (shape .limits) (shape .vertices) (shape .edges) (s .args .t .now) (s .pre .0) (s .args .x .0) (s .pre .1) (s .pre .2))
+    (vertex-marked (shape .limits) (shape .vertices) (shape .edges) (s .args .t .now) (s .pre .0 .valid) (s .args .x .0) (s .pre .1) (s .pre .2) (s .pre .0 .bridges-named))
 
 pub mark-spec : {M : Type 1} → statement M
 mark-spec = tie.close (tie.spec mark-vertex-requires same-length returns)

@@ -25,7 +25,7 @@ returns c =
     let left = c .before .before in
     let s = left .before .before .before .before in
     rw (left .word .ensures, left .before .vertex-area .ensures, c .word2 .ensures, c .before .vertex-area2 .ensures)
-    (sym (same-group (s .pre .0 .components) (s .args .a .0) (s .args .b .0) (s .pre .1) (s .pre .2)))
+    (sym (same-group (s .pre .0 .valid .components) (s .args .a .0) (s .args .b .0) (s .pre .1) (s .pre .2)))
 
 pub same-component-spec : {M : Type 1} → statement M
 same-component-spec =

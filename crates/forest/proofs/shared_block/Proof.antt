@@ -15,7 +15,7 @@ unfolding Holds stateOf bookOf
 returns c =
     let s = c .before .before .before in
     c .find-shared .ensures
-    ∙ shared-in (s .pre .0) (s .args .a .0) (s .args .b .0) (s .pre .1) (s .pre .2) (s .pre .3)
+    ∙ shared-in (s .pre .0 .valid) (s .args .a .0) (s .args .b .0) (s .pre .1) (s .pre .2) (s .pre .3)
 
 pub shared-block-spec : {M : Type 1} → statement M
 shared-block-spec = tie.close (tie.spec find-shared-requires returns)

@@ -58,12 +58,12 @@ pub record Found : Type 0 where
   pub table : List ℕ
   pub count : ℕ
 
--- The edge of step i of the path is written down where the vertices at its two sides are in different bridge-blocks.
+-- The name of the block of step i of the path is written down where the vertices at its two sides are in different bridge-blocks.
 unfoldable pub findTable : List ℕ → Limits → ℕ → ℕ → List ℕ
 findTable t limits i count =
     cond
     (bridgeBlocksDiffer t limits (pathVertex t limits i) (pathVertex t limits (i + 1)))
-    (put t (vertexArea limits) Column.rightEdge count (pathEdge t limits i))
+    (put t (vertexArea limits) Column.rightEdge count (blockOf t limits (pathEdge t limits i)))
     t
 
 unfoldable pub findCount : List ℕ → Limits → ℕ → ℕ → ℕ

@@ -1,6 +1,6 @@
 -- What one vertex more, one edge more and a mark do to the table, step by step. An edge links two components, or condenses the path
 -- between two vertices.
-use mathlib.Core.Bool.{cond}
+use mathlib.Core.Bool.{Bool, not, cond, _&&_}
 use mathlib.Core.List.{List}
 use mathlib.Core.Path.{_≡_}
 use Prim.Native.Nat.{ℕ, zero, suc, _+_, _*_, _-_, _%_, _^_}
@@ -13,7 +13,7 @@ use Rattle.table.specs.Inside.Layout.{cell, put, vertexArea, bridgeBlockArea, e
 use Rattle.table.specs.Inside.Merge.{nameIn, sizeIn, rangeIn, bestListed, mergeListed, leastOf}
 use Rattle.forest.specs.declared.Growth.{Growth}
 use Rattle.forest.specs.declared.tree.Turning.{Turning}
-use Rattle.forest.specs.Inside.Climb.{upOf, depthOf, blockOf, aboveEdge, climbTable, climbRoute}
+use Rattle.forest.specs.Inside.Climb.{upOf, depthOf, blockOf, aboveEdge, pathEdge, climbTable, climbRoute}
 
 -- A group of one item, named by its number.
 unfoldable pub newGroup : List ℕ → Area → ℕ → List ℕ
@@ -144,12 +144,25 @@ enterBlock t limits e w v =
     w
     v
 
+-- The path has one step, and the new edge e lies in the duct of the edge of that step. Then no bridge-block changes: either that edge is a
+-- bridge and so, being parallel to e, a mate of it, or the path's two vertices share a bridge-block already.
+unfoldable pub inStepDuct : List ℕ → Limits → ℕ → ℕ → Bool
+inStepDuct t limits e steps =
+    let duct = cell t (edgeArea limits) Column.duct e in
+    eqb steps 1 && not (eqb duct 0) && eqb (cell t (edgeArea limits) Column.duct (pathEdge t limits 0)) duct
+
+-- How many of the path's vertices have their bridge-blocks merged: all, or only the first, which changes nothing, where the new edge lies in
+-- the step's duct. (If it does and its ends are in different bridge-blocks, it is a mate of the step's edge; if they are in one, no
+-- bridge-block changes.)
+unfoldable pub mergedVertices : List ℕ → Limits → ℕ → ℕ → ℕ
+mergedVertices t limits e steps = cond (inStepDuct t limits e steps) 1 (steps + 1)
+
 -- The path between a and b condensed by the new edge e.
 unfoldable pub condenseGrown : List ℕ → Limits → ℕ → ℕ → ℕ → Grown
 condenseGrown t limits e a b =
     let route = climbRoute t limits a b in
     let climbed = climbTable t limits a b in
-    let bridgeBlocks = mergeListed climbed (bridgeBlockArea limits) (pathVertices limits (route .steps + 1)) in
+    let bridgeBlocks = mergeListed climbed (bridgeBlockArea limits) (pathVertices limits (mergedVertices climbed limits e (route .steps))) in
     let blocks = mergeListed (bridgeBlocks .table) (edgeArea limits) (pathEdges limits (route .steps)) in
     let w = bestListed (bridgeBlocks .table) (edgeArea limits) (pathEdges limits (route .steps)) in
     record {
@@ -160,14 +173,15 @@ condenseGrown t limits e a b =
       block = w;
     }
 
--- The ends of the new edge, kept in one word.
-unfoldable pub endsTable : List ℕ → Limits → ℕ → ℕ → ℕ → List ℕ
-endsTable t limits e a b = put t (edgeArea limits) Column.ends e (a % 65536 * 65536 + b % 65536)
+-- The new edge stored: its ends in one word, its duct in another.
+unfoldable pub edgeTable : List ℕ → Limits → ℕ → ℕ → ℕ → ℕ → List ℕ
+edgeTable t limits e a b d =
+    put (put t (edgeArea limits) Column.ends e (a % 65536 * 65536 + b % 65536)) (edgeArea limits) Column.duct e d
 
 -- One edge more: two components are linked, or the path is condensed.
-unfoldable pub edgeGrown : List ℕ → Limits → ℕ → ℕ → ℕ → Grown
-edgeGrown t limits e a b =
-    let t₁ = endsTable t limits e a b in
+unfoldable pub edgeGrown : List ℕ → Limits → ℕ → ℕ → ℕ → ℕ → Grown
+edgeGrown t limits e a b d =
+    let t₁ = edgeTable t limits e a b d in
     cond
     (eqb (nameIn t₁ (vertexArea limits) a) (nameIn t₁ (vertexArea limits) b))
     (condenseGrown t₁ limits e a b)

@@ -7,11 +7,12 @@ use Prim.Native.Nat.{ℕ, suc, _+_, _*_, _/_, _%_, _≤_, _<_}
 use lib.Dec.{eqb, ltb}
 use lib.ListN.{length}
 use Rattle.graph.specs.Below.{tabulate}
-use Rattle.graph.specs.Network.{Network, Edge, edgeBetween, Proper, edge, touches}
+use Rattle.graph.specs.Network.{Network, Edge, edgeInDuct, Proper, edge, touches}
 use Rattle.graph.specs.Groups.{component, bridgeBlock}
 use Rattle.graph.specs.Block.{block, onBlock}
 use Rattle.naming.specs.Rename.{size}
 use Rattle.naming.specs.Book.{Book}
+use Rattle.naming.specs.BridgeNames.{BridgesNamed}
 use Rattle.numbers.specs.declared.Limits.{Limits}
 use Rattle.table.specs.Inside.Column
 use Rattle.table.specs.Inside.Layout.{cell, vertexArea, bridgeBlockArea, edgeArea}
@@ -19,14 +20,15 @@ use Rattle.table.specs.Inside.KindValid.{namesIn, KindValid, Counts}
 use Rattle.forest.specs.Rule.{tableRule}
 use Rattle.forest.specs.Inside.Climb.{upOf, depthOf, aboveEdge}
 
--- The two ends of edge s, kept in one word.
-unfoldable pub endsOf : List ℕ → Limits → ℕ → Edge
-endsOf t limits s =
-    edgeBetween (cell t (edgeArea limits) Column.ends s / 65536) (cell t (edgeArea limits) Column.ends s % 65536)
+-- Edge s as it is stored: its two ends in one word, its duct in another.
+unfoldable pub storedEdge : List ℕ → Limits → ℕ → Edge
+storedEdge t limits s =
+    let ends = cell t (edgeArea limits) Column.ends s in
+    edgeInDuct (ends / 65536) (ends % 65536) (cell t (edgeArea limits) Column.duct s)
 
 -- The network of n vertices and m edges that the table holds.
 unfoldable pub networkOf : Limits → ℕ → ℕ → List ℕ → Network
-networkOf limits n m t = record { rule = tableRule; vertices = n; edges = tabulate m (endsOf t limits) }
+networkOf limits n m t = record { rule = tableRule; vertices = n; edges = tabulate m (storedEdge t limits) }
 
 -- The naming book that the table holds.
 unfoldable pub bookOf : Limits → ℕ → ℕ → List ℕ → Book
@@ -75,3 +77,8 @@ pub record Valid (limits : Limits) (n m : ℕ) (t : List ℕ) : Type 0 where
   pub marks : Counts t (bridgeBlockArea limits) n (bridgeBlock (networkOf limits n m t)) Column.markCount (markedIn limits n t)
   pub blocks : KindValid t (edgeArea limits) m (block (networkOf limits n m t))
   pub forest : ForestValid t limits n m (networkOf limits n m t)
+
+-- The words are valid, and no bridge has a block name greater than its own number.
+pub record Sound (limits : Limits) (n m : ℕ) (t : List ℕ) : Type 0 where
+  pub valid : Valid limits n m t
+  pub bridges-named : BridgesNamed (bookOf limits n m t)

@@ -9,11 +9,11 @@ use Rattle.networks.proofs.grow_all.Statement.{statement}
 use Rattle.networks.proofs.grow_all.Tie as tie
 
 abbrev Inv-loop : tie.InvT-loop
-Inv-loop t₀ ends shape₀ i₀ t shape i =
+Inv-loop t₀ edges shape₀ i₀ t shape i =
     Holds shape t × (length t ≡ length t₀)
 
 abbrev μ-loop : tie.MeasureT-loop
-μ-loop t₀ ends shape₀ i₀ t shape i = length ends / 2 - i
+μ-loop t₀ edges shape₀ i₀ t shape i = length edges / 3 - i
 
 loop-holds : tie.Need-loop-holds Inv-loop μ-loop
 loop-holds c = (c .before .before .pre, refl)
@@ -38,6 +38,18 @@ mul-b-2 c = omega arith
 
 shared-slice-read-b : tie.Need-shared-slice-read-b Inv-loop μ-loop
 shared-slice-read-b c = omega arith
+
+mul-d : tie.Need-mul-d Inv-loop μ-loop
+mul-d c = omega arith
+
+add-d : tie.Need-add-d Inv-loop μ-loop
+add-d c = omega arith
+
+mul-d-2 : tie.Need-mul-d-2 Inv-loop μ-loop
+mul-d-2 c = omega arith
+
+shared-slice-read-d : tie.Need-shared-slice-read-d Inv-loop μ-loop
+shared-slice-read-d c = omega arith
 
 grow-requires : tie.Need-grow-requires Inv-loop μ-loop
 grow-requires c κs = search needs
@@ -71,6 +83,10 @@ grow-all-spec =
     add-b
     mul-b-2
     shared-slice-read-b
+    mul-d
+    add-d
+    mul-d-2
+    shared-slice-read-d
     grow-requires
     add-i
     loop-less

@@ -1,12 +1,13 @@
 -- What reading a command gives: the paper's value for each case of the code's answer.
 use mathlib.Core.Bool.{cond}
-use mathlib.Core.List.{List, [], _∷_}
 use mathlib.Core.Logic.{_⊎_}
 use mathlib.Core.Option.{Option, none, some}
 use mathlib.Core.Path.{_≡_}
-use Prim.Native.Nat.{ℕ, _*_}
+use Prim.Native.Nat.{ℕ, _*_, _/_, _%_, _^_}
 use lib.Dec.{eqb}
-use Rattle.commands.specs.Command.{Command, addCabinet, addSpan, districtName, ringName, sharedMesh, soleSpans, cutCabinets, isSole, markExchange, holdsExchange, exchangeShare, Form, unknown, takes, form, Reading, unknownByte, cutOff, command}
+use Rattle.commands.specs.Command.{Command, addCabinet, addSpan, districtName, ringName, sharedMesh, soleSpans, cutCabinets, isSole, markExchange, holdsExchange, addDuctSpan, exchangeShare, Form, unknown, takes, form, Reading, unknownByte, cutOff, command}
+use Rattle.reading.specs.declared.read.Lay.{Lay}
+use Rattle.reading.specs.declared.read.Lay.the-variants as L
 use Rattle.reading.specs.declared.read.Order.{Order}
 use Rattle.reading.specs.declared.read.Order.the-variants as O
 use Rattle.reading.specs.declared.read.Taken.{Taken}
@@ -14,10 +15,15 @@ use Rattle.reading.specs.declared.read.Taken.the-variants as K
 use Rattle.reading.specs.declared.read.Passed.{Passed}
 use Rattle.reading.specs.declared.read.Passed.the-variants as P
 
+-- The command that adds a span which lies so: 02 in no duct, 0B in a duct.
+unfoldable pub spanCommand : ℕ → ℕ → Lay → Command
+spanCommand a b L.NoDuct = addSpan a b
+spanCommand a b (L.InDuct d) = addDuctSpan a b (d .0)
+
 -- The command that an order is.
 unfoldable pub meaning : Order → Command
 meaning O.AddCabinet = addCabinet
-meaning (O.AddSpan a b) = addSpan (a .0) (b .0)
+meaning (O.AddSpan a b lay) = spanCommand (a .0) (b .0) lay
 meaning (O.DistrictName a) = districtName (a .0)
 meaning (O.RingName a) = ringName (a .0)
 meaning (O.SharedMesh a b) = sharedMesh (a .0) (b .0)
@@ -58,13 +64,17 @@ unfoldable pub formWidth : Form → Option ℕ
 formWidth unknown = none
 formWidth (takes n make) = some (2 * n)
 
--- The same by the command byte, from 00 on, as a table; 255 where the byte is no command's.
-abbrev pub widths : List ℕ
-widths = 255 ∷ 0 ∷ 4 ∷ 2 ∷ 2 ∷ 4 ∷ 4 ∷ 4 ∷ 2 ∷ 2 ∷ 2 ∷ 255 ∷ 255 ∷ 255 ∷ 255 ∷ 0 ∷ []
+-- Entry k of a table of sixteen entries in one number: four bits each, entry 0 in the lowest.
+unfoldable pub entryOf : ℕ → ℕ → ℕ
+entryOf table k = table / 2 ^ (k * 4) % 16
+
+-- The number of the operands' bytes by the command byte, from 00 on; 15 where the byte is no command's.
+abbrev pub widths : ℕ
+widths = 0x0FFF62224442240F
 
 -- What an entry of the table says.
 unfoldable pub entryWidth : ℕ → Option ℕ
-entryWidth entry = cond (eqb entry 255) none (some entry)
+entryWidth entry = cond (eqb entry 15) none (some entry)
 
 -- What is known of a reading where the operands are passed over: of a command its byte and the number of its operands' bytes.
 pub data Passing : Type 0 where

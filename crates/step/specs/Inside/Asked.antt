@@ -1,6 +1,8 @@
--- The questions for the name of a group.
+-- The questions for the name of a group, and the duct of a new span.
 use Prim.Native.Nat.{ℕ}
 use Rattle.commands.specs.Command.{Command, districtName, ringName}
+use Rattle.reading.specs.declared.read.Lay.{Lay}
+use Rattle.reading.specs.declared.read.Lay.the-variants as L
 use Rattle.forest.specs.declared.VertexGroups.{VertexGroups}
 use Rattle.forest.specs.declared.VertexGroups.the-variants as G
 
@@ -8,3 +10,8 @@ use Rattle.forest.specs.declared.VertexGroups.the-variants as G
 unfoldable pub asksName : VertexGroups → ℕ → Command
 asksName G.Components a = districtName a
 asksName G.BridgeBlocks a = ringName a
+
+-- The duct that a new span lies in; 0 for none.
+unfoldable pub ductOf : Lay → ℕ
+ductOf L.NoDuct = 0
+ductOf (L.InDuct d) = d .0

@@ -6,6 +6,8 @@ use lib.Dec.{eqb, leb, ltb}
 use Rattle.graph.specs.Groups.{component}
 use Rattle.forest.specs.declared.Shape.{Shape}
 use Rattle.forest.specs.Promise.{stateOf, networkIn}
+use Rattle.reading.specs.declared.read.Lay.{Lay}
+use Rattle.reading.specs.declared.read.Lay.the-variants as L
 use Rattle.reading.specs.declared.read.Order.{Order}
 use Rattle.reading.specs.declared.read.Order.the-variants as O
 
@@ -28,11 +30,16 @@ differentRefusal shape a b = firstOf (pairRefusal shape a b) (cond (eqb a b) 8 0
 unfoldable pub exchangeRefusal : Shape → List ℕ → ℕ → ℕ
 exchangeRefusal shape t a = firstOf (cabinetRefusal shape a) (cond (stateOf shape t .marked a) 12 0)
 
+unfoldable pub ductRefusal : Lay → ℕ
+ductRefusal L.NoDuct = 0
+ductRefusal (L.InDuct d) = cond (eqb (d .0) 0) 13 0
+
 unfoldable pub newCabinetRefusal : Shape → ℕ
 newCabinetRefusal shape = cond (leb (shape .limits .vertices) (shape .vertices)) 9 0
 
-unfoldable pub newSpanRefusal : Shape → ℕ → ℕ → ℕ
-newSpanRefusal shape a b = firstOf (differentRefusal shape a b) (cond (leb (shape .limits .edges) (shape .edges)) 9 0)
+unfoldable pub newSpanRefusal : Shape → ℕ → ℕ → Lay → ℕ
+newSpanRefusal shape a b lay =
+    firstOf (differentRefusal shape a b) (firstOf (ductRefusal lay) (cond (leb (shape .limits .edges) (shape .edges)) 9 0))
 
 unfoldable pub districtRefusal : Shape → List ℕ → ℕ → ℕ → ℕ
 districtRefusal shape t a b = firstOf (pairRefusal shape a b) (cond (component (networkIn shape t) a b) 0 10)
@@ -40,7 +47,7 @@ districtRefusal shape t a b = firstOf (pairRefusal shape a b) (cond (component (
 -- The refusal of each command.
 unfoldable pub judgement : Shape → List ℕ → Order → ℕ
 judgement shape t O.AddCabinet = newCabinetRefusal shape
-judgement shape t (O.AddSpan a b) = newSpanRefusal shape (a .0) (b .0)
+judgement shape t (O.AddSpan a b lay) = newSpanRefusal shape (a .0) (b .0) lay
 judgement shape t (O.DistrictName a) = cabinetRefusal shape (a .0)
 judgement shape t (O.RingName a) = cabinetRefusal shape (a .0)
 judgement shape t (O.SharedMesh a b) = differentRefusal shape (a .0) (b .0)

@@ -41,12 +41,15 @@ perBlock = 4
 abbrev pub ofBridgeBlocks : ℕ → ℕ
 ofBridgeBlocks c = perComponent + c
 
--- The other columns of the edges, behind those of blocks: an edge's two ends; by a block's name, the vertex above it.
+-- The other columns of the edges, behind those of blocks: an edge's two ends; by a block's name, the vertex above it; an edge's duct.
 abbrev pub ends : ℕ
 ends = perBlock
 
 abbrev pub top : ℕ
 top = ends + 1
+
+abbrev pub duct : ℕ
+duct = ends + 2
 
 -- The other columns of the vertices, behind those of bridge-blocks: the way up, the depth, the path's vertices and edges, those of its right
 -- side, and whether the vertex is marked.

@@ -1,4 +1,4 @@
--- `query::find_one` writes the edge of a step down where it is a bridge.
+-- `query::find_one` writes the block name of a step down where its edges are bridges.
 use mathlib.Core.Path.{_≡_, sym, _∙_}
 use Prim.Native.Nat.{_+_}
 use native.Mathlib.Numerals.{add-one}
@@ -34,6 +34,9 @@ vertex-area-requires-3 c κs = search needs
 word-requires-3 : tie.Need-word-requires-3
 word-requires-3 c κs = search needs
 
+block-of-requires : tie.Need-block-of-requires
+block-of-requires c κs = search needs
+
 vertex-area-requires-4 : tie.Need-vertex-area-requires-4
 vertex-area-requires-4 c κs = search needs
 
@@ -42,7 +45,8 @@ set-word-requires c κs = search needs
 
 add-result : tie.Need-add-result
 add-result c =
-    let at-vertex-area2 = c .before .before .before .before .before .before .before .before .before .before .before .before in
+    let at-block-of = c .before .before .before .before .before in
+    let at-vertex-area2 = at-block-of .before .before .before .before .before .before .before .before .before in
     let start = at-vertex-area2 .before .before .before .before .before .before in
     record { fits = omega (arith, start .pre) }
 
@@ -76,12 +80,14 @@ unfolding findTable findCount
 returns c =
     let at-set-word = c .before .before in
     let at-vertex-area4 = at-set-word .before in
-    let at-word3 = at-vertex-area4 .before .before in
+    let at-block-of = at-vertex-area4 .before .before in
+    let at-word3 = at-block-of .before .before in
     let at-vertex-area3 = at-word3 .before in
     let at-if1 = at-vertex-area3 .before .before in
     let e = sym (asked (at-if1 .before)) ∙ at-if1 .if1 .taken in (
       rw (
         at-set-word .set-word .ensures,
+        at-block-of .block-of .ensures,
         at-word3 .word3 .ensures,
         at-vertex-area4 .vertex-area4 .ensures,
         at-vertex-area3 .vertex-area3 .ensures,
@@ -111,6 +117,7 @@ find-one-spec =
     bridge-blocks-differ-requires
     vertex-area-requires-3
     word-requires-3
+    block-of-requires
     vertex-area-requires-4
     set-word-requires
     add-result

@@ -1,5 +1,5 @@
 -- `tree::condense` condenses the path between two vertices: the steps of the code are those of `condenseGrown`.
-use mathlib.Core.Path.{refl}
+use mathlib.Core.Path.{refl, _∙_}
 use native.Mathlib.Omega.{arith}
 use borrow.Author.Needs.{needs}
 use Rattle.forest.specs.Inside.Tree.{pathVertices, pathEdges, condenseGrown}
@@ -10,9 +10,9 @@ use Rattle.forest.proofs.tree.condense.Tie as tie
 climb-requires : tie.Need-climb-requires
 climb-requires c κs = search needs
 
-add-vertices : tie.Need-add-vertices
-add-vertices c =
-    let at-climb = c .before .before in
+merged-vertices-requires : tie.Need-merged-vertices-requires
+merged-vertices-requires c κs =
+    let at-climb = c .before .before .before in
     let args = at-climb .before .before .before .args in
     let most = route-most (args .t .now) (args .limits) (args .a .0) (args .b .0) in
     rw (at-climb .climb .ensures .1) (omega arith)
@@ -39,7 +39,12 @@ enter-block-requires : tie.Need-enter-block-requires
 enter-block-requires c κs = search needs
 
 same-length : tie.Need-same-length
-same-length c = search needs
+same-length c =
+    let at-enter-block = c .before .before in
+    let at-merge2 = at-enter-block .before .before .before .before .before in
+    let at-merge = at-merge2 .before .before .before .before .before .before in
+    let at-climb = at-merge .before .before .before .before .before .before .before .before in
+    at-enter-block .enter-block .kept .0 ∙ at-merge2 .merge2 .kept .0 ∙ at-merge .merge .kept .0 ∙ at-climb .climb .kept .0
 
 returns : tie.Need-returns
 unfolding condenseGrown pathVertices pathEdges
@@ -52,7 +57,8 @@ returns c =
     let at-merge = at-edge-area .before .before .before .before in
     let at-vertex-area = at-merge .before in
     let at-bridge-block-area = at-vertex-area .before in
-    let at-climb = at-bridge-block-area .before .before .before .before in
+    let at-merged-vertices = at-bridge-block-area .before .before in
+    let at-climb = at-merged-vertices .before .before .before .before in
     record {
       table-is =
           rw (
@@ -60,6 +66,7 @@ returns c =
             at-merge2 .merge2 .ensures .0,
             at-merge2 .merge2 .ensures .2,
             at-merge .merge .ensures .0,
+            at-merged-vertices .merged-vertices .ensures,
             at-climb .climb .ensures .0,
             at-climb .climb .ensures .1,
             at-vertex-area2 .vertex-area2 .ensures,
@@ -71,6 +78,7 @@ returns c =
       bridge-blocks-are =
           rw (
             at-merge .merge .ensures .1,
+            at-merged-vertices .merged-vertices .ensures,
             at-climb .climb .ensures .0,
             at-climb .climb .ensures .1,
             at-vertex-area .vertex-area .ensures,
@@ -80,6 +88,7 @@ returns c =
           rw (
             at-merge2 .merge2 .ensures .1,
             at-merge .merge .ensures .0,
+            at-merged-vertices .merged-vertices .ensures,
             at-climb .climb .ensures .0,
             at-climb .climb .ensures .1,
             at-vertex-area2 .vertex-area2 .ensures,
@@ -91,6 +100,7 @@ returns c =
           rw (
             at-merge2 .merge2 .ensures .2,
             at-merge .merge .ensures .0,
+            at-merged-vertices .merged-vertices .ensures,
             at-climb .climb .ensures .0,
             at-climb .climb .ensures .1,
             at-vertex-area2 .vertex-area2 .ensures,
@@ -105,7 +115,7 @@ condense-spec =
     tie.close
     (tie.spec
     climb-requires
-    add-vertices
+    merged-vertices-requires
     bridge-block-area-requires
     vertex-area-requires
     merge-requires

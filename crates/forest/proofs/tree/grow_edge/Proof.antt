@@ -1,22 +1,12 @@
 -- `tree::grow_edge` condenses the path between two vertices of one component, and links two components.
-use mathlib.Core.Path.{_≡_}
 use borrow.Author.Tests.{eq-eqb, ne-eqb}
 use borrow.Author.Needs.{needs}
-use Rattle.forest.specs.Inside.Tree.{endsTable, edgeGrown}
+use Rattle.forest.specs.Inside.Tree.{edgeGrown}
 use Rattle.forest.proofs.tree.grow_edge.Statement.{statement}
 use Rattle.forest.proofs.tree.grow_edge.Tie as tie
 
-mul-ends : tie.Need-mul-ends
-mul-ends c = search needs
-
-add-ends : tie.Need-add-ends
-add-ends c = search needs
-
-edge-area-requires : tie.Need-edge-area-requires
-edge-area-requires c κs = search needs
-
-set-word-requires : tie.Need-set-word-requires
-set-word-requires c κs = search needs
+store-edge-requires : tie.Need-store-edge-requires
+store-edge-requires c κs = search needs
 
 vertex-area-requires : tie.Need-vertex-area-requires
 vertex-area-requires c κs = search needs
@@ -40,7 +30,7 @@ same-length : tie.Need-same-length
 same-length c = search needs
 
 returns : tie.Need-returns
-unfolding edgeGrown endsTable
+unfolding edgeGrown
 returns c =
     let at-condense = c .before .before in
     let at-if1 = at-condense .before .before in
@@ -48,11 +38,7 @@ returns c =
     let at-vertex-area2 = at-word2 .before in
     let at-word = at-vertex-area2 .before .before in
     let at-vertex-area = at-word .before in
-    let at-set-word = at-vertex-area .before .before .before .before in
-    let at-edge-area = at-set-word .before in
-    let args = at-edge-area .before .before .before .before .before .args in
-    let ends : at-set-word .set-word .last .0 ≡ endsTable (args .t .now) (args .limits) (args .e .0) (args .a .0) (args .b .0) =
-    rw (at-set-word .set-word .ensures, at-edge-area .edge-area .ensures) in
+    let at-store-edge = at-vertex-area .before .before .before .before in
     let test =
     rw (
       at-word .word .ensures,
@@ -60,13 +46,13 @@ returns c =
       at-vertex-area .vertex-area .ensures,
       at-vertex-area2 .vertex-area2 .ensures,
     ) at (eq-eqb (at-word .word .result) (at-word2 .word2 .result) (at-if1 .if1 .taken)) in
-    rw (← ends, test) (at-condense .condense .ensures)
+    rw (← at-store-edge .store-edge .ensures, test) (at-condense .condense .ensures)
 
 same-length-2 : tie.Need-same-length-2
 same-length-2 c = search needs
 
 returns-2 : tie.Need-returns-2
-unfolding edgeGrown endsTable
+unfolding edgeGrown
 returns-2 c =
     let at-link = c .before .before in
     let at-if1 = at-link .before .before in
@@ -74,11 +60,7 @@ returns-2 c =
     let at-vertex-area2 = at-word2 .before in
     let at-word = at-vertex-area2 .before .before in
     let at-vertex-area = at-word .before in
-    let at-set-word = at-vertex-area .before .before .before .before in
-    let at-edge-area = at-set-word .before in
-    let args = at-edge-area .before .before .before .before .before .args in
-    let ends : at-set-word .set-word .last .0 ≡ endsTable (args .t .now) (args .limits) (args .e .0) (args .a .0) (args .b .0) =
-    rw (at-set-word .set-word .ensures, at-edge-area .edge-area .ensures) in
+    let at-store-edge = at-vertex-area .before .before .before .before in
     let test =
     rw (
       at-word .word .ensures,
@@ -86,16 +68,13 @@ returns-2 c =
       at-vertex-area .vertex-area .ensures,
       at-vertex-area2 .vertex-area2 .ensures,
     ) at (ne-eqb (at-word .word .result) (at-word2 .word2 .result) (at-if1 .if1 .left)) in
-    rw (← ends, test) (at-link .link .ensures)
+    rw (← at-store-edge .store-edge .ensures, test) (at-link .link .ensures)
 
 pub grow-edge-spec : {M : Type 1} → statement M
 grow-edge-spec =
     tie.close
     (tie.spec
-    mul-ends
-    add-ends
-    edge-area-requires
-    set-word-requires
+    store-edge-requires
     vertex-area-requires
     word-requires
     vertex-area-requires-2

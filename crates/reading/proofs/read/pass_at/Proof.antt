@@ -1,6 +1,6 @@
 -- `read::pass_at` reads what stands at a place of the journal, and passes over the operands.
 use mathlib.Core.Logic.{inl, inr}
-use mathlib.Core.Path.{refl, sym, ap}
+use mathlib.Core.Path.{refl, sym, ap, _∙_}
 use Prim.Native.Nat.{_+_}
 use native.Mathlib.Omega.{arith}
 use lib.ListN.{getD, drop}
@@ -21,19 +21,18 @@ pass-over-requires : tie.Need-pass-over-requires
 unfolding form forms formWidth entryWidth
 pass-over-requires c κs = (rw (c .match .keys2) refl, omega arith)
 
-cast-i : tie.Need-cast-i
-cast-i c = search needs
-
 add-pass-over-2 : tie.Need-add-pass-over-2
 add-pass-over-2 c = search needs
 
-array-read-pass-over : tie.Need-array-read-pass-over
-array-read-pass-over c = search needs
+entry-of-requires : tie.Need-entry-of-requires
+entry-of-requires c κs = search needs
 
 pass-over-requires-2 : tie.Need-pass-over-requires-2
 pass-over-requires-2 c κs =
-    let s = c .before .before .before .before .before in
-    (widths-are (getD (s .args .journal .now) (s .args .at) 0) (omega arith), omega arith)
+    let at-entry = c .before in
+    let s = at-entry .before .before .before .before .before in
+    let byte = getD (s .args .journal .now) (s .args .at) 0 in
+    (widths-are byte (omega arith) ∙ ap entryWidth (sym (c .entry-of .ensures)), omega arith)
 
 returns : tie.Need-returns
 unfolding form forms formWidth passingOf
@@ -69,9 +68,8 @@ pass-at-spec =
     shared-slice-read-byte
     add-pass-over
     pass-over-requires
-    cast-i
     add-pass-over-2
-    array-read-pass-over
+    entry-of-requires
     pass-over-requires-2
     returns
     returns-2

@@ -7,12 +7,18 @@ use borrow.Author.Needs.{needs}
 use lib.ListN.{getD, drop}
 use Rattle.commands.specs.Command.{addCabinet, exchangeShare, forms, form}
 use Rattle.reading.specs.Inside.Reads.{meaning, readingOf, made}
-use Rattle.reading.proofs.ReadSteps.{one-of-two, one-of-three, read-operands, read-unknown}
+use Rattle.reading.proofs.ReadSteps.{above, one-of-two, one-of-three, read-operands, read-unknown}
 use Rattle.reading.proofs.read.take_at.Statement.{statement}
 use Rattle.reading.proofs.read.take_at.Tie as tie
 
 shared-slice-read-byte : tie.Need-shared-slice-read-byte
 shared-slice-read-byte c = search needs
+
+add-take-three : tie.Need-add-take-three
+add-take-three c = search needs
+
+take-three-requires : tie.Need-take-three-requires
+take-three-requires c κs = omega arith
 
 add-take-one : tie.Need-add-take-one
 add-take-one c = search needs
@@ -23,7 +29,7 @@ take-one-requires c κs =
     let a = c .before .before .before .before .before .args in
     let byte = getD (a .journal .now) (a .at) 0 in (
       ⊎-elim
-          (λ w. ⊎-elim inl (λ e. inr (inl e)) (one-of-two 3 byte (omega (arith, c .before .if1 .left, rest .0 .0 .1, rest .0 .1)) (omega (arith, w .taken))))
+          (λ w. ⊎-elim inl (λ e. inr (inl e)) (one-of-two 3 byte (above 2 byte (above 1 byte (c .before .if1 .left) (rest .0 .0 .0 .1)) (rest .0 .0 .1)) (omega (arith, w .taken))))
           (λ w. inr (inr (one-of-three 8 byte (omega (arith, w .1 .left)) (omega (arith, w .2 .taken)))))
           (c .if2 .came),
       omega arith,
@@ -44,41 +50,46 @@ returns c =
     (read-operands (getD (a .journal .now) (a .at) 0) (drop (a .at + 1) (a .journal .now)) 0 addCabinet (rw (c .match .keys1) refl) (omega arith))
 
 returns-2 : tie.Need-returns-2
-unfolding forms form made readingOf meaning
-returns-2 c =
-    let a = c .before .before .before .args in
-    sym
-    (read-operands (getD (a .journal .now) (a .at) 0) (drop (a .at + 1) (a .journal .now)) 0 exchangeShare (rw (c .match .keys3) refl) (omega arith))
+returns-2 c = rw (c .before .match .keys3) (c .«take-three» .ensures)
 
 returns-3 : tie.Need-returns-3
-returns-3 c = search needs
+unfolding forms form made readingOf meaning
+returns-3 c =
+    let a = c .before .before .before .args in
+    sym
+    (read-operands (getD (a .journal .now) (a .at) 0) (drop (a .at + 1) (a .journal .now)) 0 exchangeShare (rw (c .match .keys4) refl) (omega arith))
 
 returns-4 : tie.Need-returns-4
+returns-4 c = search needs
+
+returns-5 : tie.Need-returns-5
 unfolding readingOf
-returns-4 c =
+returns-5 c =
     let rest = c .before in
     let a = rest .before .before .before .args in
     sym
     (read-unknown (getD (a .journal .now) (a .at) 0) (drop (a .at + 1) (a .journal .now)) (inl (c .if1 .taken)) (rest .match .rest .1))
 
-returns-5 : tie.Need-returns-5
+returns-6 : tie.Need-returns-6
 unfolding readingOf
-returns-5 c =
+returns-6 c =
     let rest = c .before .before .before .before in
     let a = rest .before .before .before .args in
     sym
     (read-unknown (getD (a .journal .now) (a .at) 0) (drop (a .at + 1) (a .journal .now))
-    (inr (omega (arith, c .if4 .left)))
+    (inr (above 11 _ (c .if4 .left) (rest .match .rest .0 .1)))
     (rest .match .rest .1))
 
-returns-6 : tie.Need-returns-6
-returns-6 c = search needs
+returns-7 : tie.Need-returns-7
+returns-7 c = search needs
 
 pub take-at-spec : {M : Type 1} → statement M
 take-at-spec =
     tie.close
     (tie.spec
     shared-slice-read-byte
+    add-take-three
+    take-three-requires
     add-take-one
     take-one-requires
     add-take-two
@@ -88,4 +99,5 @@ take-at-spec =
     returns-3
     returns-4
     returns-5
-    returns-6)
+    returns-6
+    returns-7)

@@ -3,24 +3,24 @@ use mathlib.Core.Logic.{⊎-elim}
 use mathlib.Core.Option.{some}
 use mathlib.Core.Path.{ap₂}
 use Rattle.commands.specs.Command.{cutCabinets, forms, form}
-use Rattle.reading.specs.Inside.Reads.{meaning, made}
+use Rattle.reading.specs.Inside.Reads.{spanCommand, meaning, made}
 use Rattle.reading.proofs.read.two_operands.Statement.{statement}
 use Rattle.reading.proofs.read.two_operands.Tie as tie
 
 returns : tie.Need-returns
-unfolding forms form made meaning
+unfolding forms form made meaning spanCommand
 returns c x d e = rw (c .match .keys1, d, e)
 
 returns-2 : tie.Need-returns-2
-unfolding forms form made meaning
+unfolding forms form made meaning spanCommand
 returns-2 c x d e = rw (c .match .keys2, d, e)
 
 returns-3 : tie.Need-returns-3
-unfolding forms form made meaning
+unfolding forms form made meaning spanCommand
 returns-3 c x d e = rw (c .match .keys3, d, e)
 
 returns-4 : tie.Need-returns-4
-unfolding forms form made meaning
+unfolding forms form made meaning spanCommand
 returns-4 c x d e =
     ⊎-elim
     (λ k. absurd (c .match .rest .0 .0 .1 k))

@@ -24,7 +24,7 @@ unfolding judgement
 add-span-requires c κs =
     let s = c .before .before .before .before .before in
     let passed = rw (c .before .before .order .given .1) at (s .pre .1) in
-    let both = new-span-passes (s .args .shape) _ _ passed in
+    let both = new-span-passes (s .args .shape) _ _ _ passed in
     let apart = different-passes (s .args .shape) _ _ (both .0) in
     let known = pair-passes (s .args .shape) _ _ (apart .0) in
     (s .pre .0, both .1, known .0, known .1, apart .1)

@@ -1,0 +1,209 @@
+-- A journal without 0B is run as document 01 has it: whether a span is lost with the spans of its duct or no span with another, everything
+-- that is returned and left is the same.
+use mathlib.Core.Bool.{Bool, true, not, _||_, false≢true}
+use mathlib.Core.List.{List, [], _∷_, map}
+use mathlib.Core.Option.{Option, none, some}
+use mathlib.Core.Path.{_≡_, refl, sym, _∙_, ap, ap₂}
+use Prim.Native.Nat.{ℕ}
+use native.Mathlib.Nat.{not-suc-le-zero}
+use lib.Dec.{eqb}
+use Rattle.graph.specs.Lists.{allIn}
+use Rattle.graph.specs.Network.{Edge, Rule, MateRule, never, sameDuct, parallel, edgeBetween, edge, edgeCount, addVertex, addEdge}
+use Rattle.graph.specs.Cycle.{joins}
+use Rattle.graph.proofs.Truth.{and-left, and-right}
+use Rattle.graph.proofs.Walks.{joins-ends}
+use Rattle.graph.proofs.Never.{never-mates, no-mate-never}
+use Rattle.graph.proofs.Ducts.{same-duct-mates, no-duct-no-mate}
+use Rattle.naming.specs.Book.{Book, emptyBook, enterVertex, enterEdge, feed, feedAll}
+use Rattle.naming.specs.State.{State, emptyState, afterAddition, Recording, recordsNothing, recordsMark, marksAfter, afterRecording}
+use Rattle.naming.proofs.AlikeBooks.{AlikeBooks, alike-vertex, alike-edge}
+use Rattle.commands.specs.Command.{Command, addCabinet, addSpan, districtName, ringName, sharedMesh, soleSpans, cutCabinets, isSole, markExchange, holdsExchange, addDuctSpan, exchangeShare, commandByte}
+use Rattle.commands.specs.Facts.{Facts, addsCabinet, addsSpan, addsNothing, facts, asks, additionOf, addition, recording, after}
+use Rattle.commands.specs.Refusal.{Refusal, Capacities, refusalOf}
+use Rattle.commands.specs.Text.{Read, Text, followedBy, textOf}
+use Rattle.commands.specs.Run.{andThen, acceptedIn, runOver, runText, runWithin}
+use Rattle.commands.specs.Entry.{Whole, refusedAtStart, ran, Buffers, wholeRun, bookAfter, outcome, entryUnder}
+use Rattle.commands.specs.NameList.{namesOf}
+use Rattle.commands.specs.Register.{registerRule, register}
+use Rattle.commands.specs.Ducts.{ductless, ductlessJournal}
+use Rattle.commands.proofs.Steps.{run-refuses, run-accepts}
+use Rattle.commands.proofs.AlikeStates.{AlikeStates, refusal-alike, answer-alike}
+use Rattle.commands.proofs.RunBooks.{Sound, empty-sound, sound-after}
+use Rattle.commands.proofs.Report.{report-is}
+
+-- what is added lies in no duct
+abbrev InNoDuct : Facts → Type 0
+InNoDuct addsCabinet = Unit
+InNoDuct (addsSpan e operands demands) = e .duct ≡ 0
+InNoDuct (addsNothing q) = Unit
+
+-- so it is with every command but 0B
+in-no-duct : (c : Command) → not (eqb (commandByte c) 0x0B) ≡ true → InNoDuct (facts c)
+unfolding facts asks edgeBetween commandByte
+in-no-duct addCabinet other = tt
+in-no-duct (addSpan x y) other = refl
+in-no-duct (districtName x) other = tt
+in-no-duct (ringName x) other = tt
+in-no-duct (sharedMesh x y) other = tt
+in-no-duct (soleSpans x y) other = tt
+in-no-duct (cutCabinets x y) other = tt
+in-no-duct (isSole x) other = tt
+in-no-duct (markExchange x) other = tt
+in-no-duct (holdsExchange x) other = tt
+in-no-duct (addDuctSpan x y d) other = absurd (false≢true other)
+in-no-duct exchangeShare other = tt
+
+-- Two books alike, the first of which loses each span alone and the second with those of its duct.
+record Paired (b b′ : Book) : Type 0 where
+  alike : AlikeBooks b b′
+  alone : b .network .rule ≡ never
+  by-duct : b′ .network .rule ≡ sameDuct
+
+-- a span in no duct has no mate in either
+paired-edge : {b b′ : Book} → Paired b b′ → (e : Edge) → e .duct ≡ 0 → Paired (enterEdge b e) (enterEdge b′ e)
+unfolding parallel joins
+paired-edge {b} {b′} p e k =
+    record {
+      alike =
+          alike-edge (p .alike) (rw (p .alone) never-mates) (rw (p .by-duct) same-duct-mates) e e (joins-ends e)
+          (λ s l.
+          ap (λ (rule : Rule). rule (edge (b′ .network) s) e) (p .by-duct)
+          ∙ no-duct-no-mate (edge (b′ .network) s) e k
+          ∙ sym (no-mate-never (b .network) (p .alone) e s l));
+      alone = unfold enterEdge addEdge in p .alone;
+      by-duct = unfold enterEdge addEdge in p .by-duct;
+    }
+
+-- so what a command other than 0B adds keeps them a pair
+paired-fed : {b b′ : Book} → Paired b b′ → (f : Facts) → InNoDuct f → Paired (feed b (additionOf f)) (feed b′ (additionOf f))
+unfolding additionOf feed
+paired-fed p addsCabinet k =
+    record {
+      alike = alike-vertex (p .alike);
+      alone = unfold enterVertex addVertex in p .alone;
+      by-duct = unfold enterVertex addVertex in p .by-duct;
+    }
+paired-fed p (addsSpan e operands demands) k = paired-edge p e k
+paired-fed p (addsNothing q) k = p
+
+-- after any commands without 0B the two books are a pair
+paired-after : {b b′ : Book} → Paired b b′ → (cs : List Command) → ductless cs ≡ true
+    → Paired (feedAll b (map addition cs)) (feedAll b′ (map addition cs))
+unfolding ductless allIn feedAll addition
+paired-after p [] free = p
+paired-after p (c ∷ later) free =
+    let this = not (eqb (commandByte c) 0x0B) in
+    paired-after (paired-fed p (facts c) (in-no-duct c (and-left this _ free))) later (and-right this _ free)
+
+-- and before the first command
+paired-empty : Paired (emptyBook never) (emptyBook sameDuct)
+unfolding emptyBook edgeCount
+paired-empty =
+    record {
+      alike =
+          record {
+            networks =
+                record {
+                  as-many-vertices = refl;
+                  as-many-edges = refl;
+                  same-ends = λ s k. absurd (not-suc-le-zero k);
+                  same-mates = λ s t k. absurd (not-suc-le-zero k);
+                };
+            same-components = refl;
+            same-bridge-blocks = refl;
+            same-blocks = refl;
+          };
+      alone = refl;
+      by-duct = refl;
+    }
+
+-- the books after commands without 0B hold the same names
+pub names-without-ducts : (cs : List Command) → ductless cs ≡ true → namesOf (bookAfter registerRule cs) ≡ namesOf (bookAfter never cs)
+unfolding registerRule bookAfter namesOf
+names-without-ducts cs free =
+    let a = paired-after paired-empty cs free .alike in
+    rw (a .networks .as-many-vertices, a .networks .as-many-edges, a .same-components, a .same-bridge-blocks, a .same-blocks)
+
+-- the marks after what a command records are the same where they were
+marks-same : (r : Recording) {marked marked′ : ℕ → Bool} → ((x : ℕ) → marked′ x ≡ marked x) → (x : ℕ) → marksAfter marked′ r x ≡ marksAfter marked r x
+unfolding marksAfter
+marks-same recordsNothing same x = same x
+marks-same (recordsMark y) same x = ap (λ is. eqb x y || is) (same x)
+
+-- Two states, of which the books are a pair and the marks the same.
+record PairedStates (s s′ : State) : Type 0 where
+  books : Paired (s .book) (s′ .book)
+  same-marks : (x : ℕ) → s′ .marked x ≡ s .marked x
+
+-- a command other than 0B keeps them so
+paired-states-after : {s s′ : State} → PairedStates s s′ → (c : Command) → not (eqb (commandByte c) 0x0B) ≡ true
+    → PairedStates (after s c) (after s′ c)
+unfolding after afterAddition afterRecording addition
+paired-states-after p c other =
+    record {
+      books = paired-fed (p .books) (facts c) (in-no-duct c other);
+      same-marks = marks-same (recording c) (p .same-marks);
+    }
+
+-- so texts without 0B run alike from both
+run-without-ducts : (caps : Capacities) (s s′ : State) → PairedStates s s′ → Sound caps s → (rs : List Read) (end : Option Refusal)
+    → ductless (map (λ r. r .command) rs) ≡ true
+    → runText caps s′ (record { commands = rs; refusal = end }) ≡ runText caps s (record { commands = rs; refusal = end })
+unfolding ductless allIn followedBy
+run-without-ducts caps s s′ p sound [] end free = unfold runText runOver in refl
+run-without-ducts caps s s′ p sound (r ∷ later) end free =
+    go (λ q k. run-without-ducts caps (after s c) (after s′ c) q k later end (and-right (not (eqb (commandByte c) 0x0B)) _ free)) (refusalOf caps s c) refl
+  where
+    c : Command
+    c = r .command
+
+    t : Text
+    t = record { commands = later; refusal = end }
+
+    other : not (eqb (commandByte c) 0x0B) ≡ true
+    other = and-left _ _ free
+
+    alike : AlikeStates s s′
+    alike = record { books = p .books .alike; same-marks = p .same-marks }
+
+    rule : MateRule (s .book .network .rule)
+    rule = rw (p .books .alone) never-mates
+
+    rule′ : MateRule (s′ .book .network .rule)
+    rule′ = rw (p .books .by-duct) same-duct-mates
+
+    same-refusal : refusalOf caps s′ c ≡ refusalOf caps s c
+    same-refusal = refusal-alike alike rule rule′ caps c
+
+    same-accepted : refusalOf caps s c ≡ none → acceptedIn s′ r ≡ acceptedIn s r
+    same-accepted e =
+        unfold acceptedIn addition in
+        rw (answer-alike alike rule rule′ caps (sound .laws .proper) c e (paired-fed (p .books) (facts c) (in-no-duct c other) .alike))
+
+    go : (PairedStates (after s c) (after s′ c) → Sound caps (after s c) → runText caps (after s′ c) t ≡ runText caps (after s c) t)
+        → (o : Option Refusal) → refusalOf caps s c ≡ o
+        → runText caps s′ (followedBy r t) ≡ runText caps s (followedBy r t)
+    go rest (some cause) e = run-refuses caps s′ r t (same-refusal ∙ e) ∙ sym (run-refuses caps s r t e)
+    go rest none e =
+        run-accepts caps s′ r t (same-refusal ∙ e)
+        ∙ ap₂ andThen (same-accepted e) (rest (paired-states-after p c other) (sound-after caps s c sound e))
+        ∙ sym (run-accepts caps s r t e)
+
+-- A journal without 0B: the whole run is that where no span is lost with another,
+pub whole-run-without-ducts : (caps : Capacities) (journal : List ℕ) (workLength answersLength reportLength : ℕ) → ductlessJournal journal ≡ true
+    → wholeRun registerRule caps journal workLength answersLength reportLength ≡ wholeRun never caps journal workLength answersLength reportLength
+unfolding registerRule wholeRun ductlessJournal runWithin emptyState
+whole-run-without-ducts caps journal workLength answersLength reportLength free =
+    rw
+    (run-without-ducts caps (emptyState never) (emptyState sameDuct) (record { books = paired-empty; same-marks = λ x. refl })
+    (empty-sound caps never never-mates) (textOf journal .commands) (textOf journal .refusal) free)
+
+-- and so whatever the capacities and the buffers, the register returns and leaves the same.
+pub without-ducts : (caps : Capacities) (journal : List ℕ) (lent : Buffers) → ductlessJournal journal ≡ true
+    → register caps journal lent ≡ entryUnder never caps journal lent
+unfolding register entryUnder
+without-ducts caps journal lent free = rw (whole-run-without-ducts caps journal _ _ _ free) (same-outcome _)
+  where
+    same-outcome : (w : Whole) → outcome registerRule caps lent w ≡ outcome never caps lent w
+    same-outcome (refusedAtStart r) = unfold outcome in refl
+    same-outcome (ran run) = unfold outcome in rw (report-is registerRule run, report-is never run)
