@@ -48,15 +48,16 @@ enum {
     REGISTER_SHORT_BUFFER = 2, /* working table or report too short */
     REGISTER_LONG_JOURNAL = 3, /* journal longer than 65,536 bytes */
     /* Stopped at a command. From a run: the report is filled, the answers before it stand. */
-    REGISTER_BAD_COMMAND = 4,       /* a byte that is no command's: not 01 to 0B, nor 0F */
+    REGISTER_BAD_COMMAND = 4,       /* a byte that is no command's: not 01 to 0C, nor 0F */
     REGISTER_CUT_OFF = 5,           /* operands cut off by the journal's end */
     REGISTER_UNKNOWN_CABINET = 6,   /* a cabinet number not yet given */
     REGISTER_UNKNOWN_SPAN = 7,      /* a span number not yet given */
-    REGISTER_EQUAL_CABINETS = 8,    /* 02, 05 or 0B with equal cabinets */
+    REGISTER_EQUAL_CABINETS = 8,    /* 02, 05, 0B or 0C with equal cabinets */
     REGISTER_ALREADY_EXCHANGE = 12, /* 09 with a cabinet that is already an exchange */
     REGISTER_NO_DUCT = 13,          /* 0B with duct 0 */
     REGISTER_FULL = 9,              /* 01 with c cabinets present, or 02 or 0B with s spans */
     REGISTER_ACROSS_DISTRICTS = 10, /* 06 or 07 across districts */
+    REGISTER_NO_SHARED_RING = 14,   /* 0C with cabinets that share no ring, in one district or two */
     REGISTER_NO_ROOM = 11           /* the answer is longer than what is left of the answers */
 };
 
@@ -79,6 +80,23 @@ enum {
  */
 
 /*
+ * Two routes. Command 0C a b, with operands of two bytes each, asks for a working route and a standby
+ * route from a to b, which must share a ring. It is answered by 8C, a count and the spans of one
+ * route, a second count and the spans of the other; each count and each span has two bytes.
+ *
+ * Both routes lead from a to b, in travelling order and without a repeated cabinet. No span of one is
+ * a span or a mate of a span of the other. They may pass through the same cabinets.
+ *
+ * That much may be relied on, whatever pair is given. Which of the pairs it is, is not settled, and
+ * neither is which of its routes comes first, nor how long they are: another version of the register
+ * may give another pair, and a span or a cabinet more may change it. It never depends on the room:
+ * the same journal gives the same pair whatever the length of the answer buffer, and a 0C is refused
+ * with REGISTER_NO_ROOM exactly if this pair does not fit, though a shorter one might. All else that a
+ * run returns and leaves in its buffers is settled by its input and by these pairs: their lengths
+ * decide where later answers stand, what the report counts, and whether there is room.
+ */
+
+/*
  * Runs a journal.
  *
  * c, s      The capacities: at most c cabinets and s spans. Any numbers may be given; those outside
@@ -98,7 +116,7 @@ enum {
  *
  * REGISTER_STACK bytes of stack must be there.
  *
- * Returns 0 if the whole journal was accepted, else the number of the refusal, 1 to 13.
+ * Returns 0 if the whole journal was accepted, else the number of the refusal, 1 to 14.
  */
 uint32_t register_run(uint32_t c, uint32_t s,
                       const uint8_t *journal, size_t journal_len,
@@ -131,8 +149,8 @@ uint32_t register_run(uint32_t c, uint32_t s,
  *     }
  *
  * The length is generous: it goes by how many commands there are of each kind, and a run mostly takes
- * far less. It always fits 32 bits; for a long journal with many questions 06 or 07 it can be some
- * hundred million bytes.
+ * far less. It always fits 32 bits; for a long journal with many questions 07 it can be some hundred
+ * million bytes, with many 06 or 0C some ten million.
  *
  * The journal is read and not run. The first command with an unknown byte or with cut-off operands is
  * refused, even where a run would stop earlier for another cause. A journal that is accepted here may

@@ -45,6 +45,10 @@ static uint64_t random_state;
 static unsigned linked_to[SMALL_CABINETS + 2];
 static unsigned linked;
 
+/* Two cabinets of the tree that were joined by a span from 02 besides, and so share a ring; equal while
+   there are none. */
+static unsigned ringed[2];
+
 /* The journal's place among all, and whether its buffers lie between fences. */
 static unsigned journal_number;
 static int fences;
@@ -85,6 +89,7 @@ static void start_journal(unsigned seed)
     journal_length = 0;
     cabinets = spans = 0;
     memset(exchange, 0, sizeof exchange);
+    ringed[0] = ringed[1] = 0;
 }
 
 /* Marks a cabinet; one that is an exchange already, only now and then. */
@@ -102,13 +107,33 @@ static void add_beside_link(void)
     add_in_duct(linked_to[cabinet], cabinet, below(4) == 0 ? 2 : 1);
 }
 
+static void add_any(unsigned a, unsigned b)
+{
+    command(0x02, 2, a, b);
+    if (a < linked && b < linked) {
+        ringed[0] = a;
+        ringed[1] = b;
+    }
+}
+
+/* Two routes between cabinets that share a ring, either way; between any two, only now and then. */
+static void ask_routes(unsigned a, unsigned b)
+{
+    if (ringed[0] != ringed[1] && below(20) != 0) {
+        unsigned way = below(2);
+        a = ringed[way];
+        b = ringed[1 - way];
+    }
+    command(0x0C, 2, a, b);
+}
+
 /* A command whose operands are known, but for one in a hundred. */
 static void any_command(void)
 {
     unsigned a = below(cabinets), b = (a + 1 + below(cabinets - 1)) % cabinets;
     if (below(100) == 0)
         b = below(2) == 0 ? a : cabinets;
-    switch (below(45)) {
+    switch (below(48)) {
     case 0: command(0x01, 0, 0, 0); break;
     case 1: command(0x08, 1, below(spans), 0); break;
     case 2: command(0x03, 1, a, 0); break;
@@ -121,7 +146,8 @@ static void any_command(void)
     case 14: command(0x0F, 0, 0, 0); break;
     case 15: case 16: add_in_duct(a, b, below(20) == 0 ? 0 : 0xFFFF); break;
     case 17: case 18: case 19: case 20: case 21: case 22: case 23: case 24: add_beside_link(); break;
-    default: command(0x02, 2, a, b);
+    case 25: case 26: case 27: ask_routes(a, b); break;
+    default: add_any(a, b);
     }
 }
 
@@ -155,9 +181,17 @@ static void ask_exchanges(void)
         command(0x0F, 0, 0, 0);
 }
 
+/* Questions about routes, in a ring of all cabinets. */
+static void ask_far_routes(void)
+{
+    unsigned most = REGISTER_MOST_CABINETS;
+    for (unsigned i = 0; i < 5; i++)
+        command(0x0C, 2, i, most / 2 + i);
+}
+
 /* All cabinets in a chain, the first links of it in ducts and with mates; exchanges in it, its lists,
    the span that closes it, spans until there are no more, and questions until the journal is as long
-   as it may be. */
+   as it may be; routes round the loop, and in the whole network. */
 static void large_journal(void)
 {
     unsigned most = REGISTER_MOST_CABINETS;
@@ -176,11 +210,13 @@ static void large_journal(void)
     command(0x06, 2, 0, most - 1);
     command(0x07, 2, most - 1, 0);
     command(0x02, 2, most - 1, 0);
+    ask_far_routes();
     while (spans < REGISTER_MOST_SPANS) {
         unsigned a = below(most);
         command(0x02, 2, a, (a + 1 + below(most - 1)) % most);
     }
     ask_exchanges();
+    ask_far_routes();
     while (journal_length < LONGEST)
         command(0x05, 2, 0, 1);
 }
@@ -506,6 +542,7 @@ static int forecast_longest(void)
     const struct forecast shares = {REGISTER_ACCEPTED, LONGEST, 196608};
     const struct forecast in_ducts = {REGISTER_ACCEPTED, LONGEST - 2, 674064};
     const struct forecast cut_in_duct = {REGISTER_CUT_OFF, LONGEST - 2, 0};
+    const struct forecast routes = {REGISTER_ACCEPTED, LONGEST - 1, 65535};
     const struct forecast cut_off = {REGISTER_CUT_OFF, LONGEST - 1, 0};
     const struct forecast unknown = {REGISTER_BAD_COMMAND, LONGEST - 1, 0};
     const struct forecast too_long = {REGISTER_LONG_JOURNAL, 0, 0};
@@ -514,6 +551,9 @@ static int forecast_longest(void)
         return 0;
     memset(journal, 0x0B, sizeof journal);
     if (!forecasts(LONGEST - 2, in_ducts) || !forecasts(LONGEST, cut_in_duct))
+        return 0;
+    memset(journal, 0x0C, sizeof journal);
+    if (!forecasts(LONGEST - 1, routes) || !forecasts(LONGEST, cut_off))
         return 0;
     memset(journal, 0x01, sizeof journal);
     if (!forecasts(LONGEST, all) || !forecasts(TOO_LONG, too_long)

@@ -4,9 +4,10 @@
  * answers. It keeps a name for each cabinet and span from the notices alone, a mark for each exchange
  * that it entered (09), and the spans that it entered (02 and 0B). It holds each name that it asked
  * for (03, 04 and 05) against its own, each new number against the next one, what is answered about
- * exchanges (0A and 0F) against its own marks and ring names, and what is answered about sole spans
- * (06 and 08) against its own spans and ring names. It prints the names, and exits with 1 if any two
- * differ.
+ * exchanges (0A and 0F) against its own marks and ring names, what is answered about sole spans (06
+ * and 08) against its own spans and ring names, and follows each two routes that it asked for (0C)
+ * over its own spans. It prints the names and the last two routes, and exits with 1 if any two differ
+ * or a route does not serve.
  */
 #include "register.h"
 
@@ -23,7 +24,7 @@ static uint8_t *answers;
 static uint32_t answers_length;
 static uint32_t report[REGISTER_REPORT];
 
-/* The spans as entered, for reading the answers to 05, 06 and 08. Those from 02 have duct 0. */
+/* The spans as entered, for reading the answers to 05, 06, 08 and 0C. Those from 02 have duct 0. */
 static unsigned ends[SPANS][2], duct[SPANS];
 static size_t spans_entered;
 
@@ -110,9 +111,25 @@ static void ask_exchange(unsigned cabinet)
     put_operand(cabinet);
 }
 
+static void ask_routes(unsigned a, unsigned b)
+{
+    put_byte(0x0C);
+    put_operand(a);
+    put_operand(b);
+}
+
 static void ask_share(void)
 {
     put_byte(0x0F);
+}
+
+/* Asks for two routes between every two of some cabinets, which share a ring. */
+static void ask_all_routes(unsigned first, unsigned count)
+{
+    for (unsigned a = first; a < first + count; a++)
+        for (unsigned b = first; b < first + count; b++)
+            if (a != b)
+                ask_routes(a, b);
 }
 
 /* Asks for every name there is, which spans are sole, which rings hold an exchange, and the share. */
@@ -133,7 +150,8 @@ static void ask_all(unsigned cabinets)
 /* Villages of three cabinets, each closed to a ring, every other one with an exchange; then the
    villages one after the other in a great loop. Each link of it is two spans in one duct, which
    protect nothing; the last makes all the rings one: a join of equal sizes. The last cabinet stays by
-   itself, so that a share can need rounding. The first question is about an empty network. */
+   itself, so that a share can need rounding. The first question is about an empty network. Two routes
+   are asked for in each village once it is a ring, and between all of the villages in the end. */
 static void write_journal(unsigned villages)
 {
     unsigned cabinets = 3 * villages + 1;
@@ -148,6 +166,7 @@ static void write_journal(unsigned villages)
         add_span(first + 1, first + 2);
         add_span(first + 2, first);
         ask_all(cabinets);
+        ask_all_routes(first, 3);
     }
     for (unsigned village = 0; village < villages; village++) {
         unsigned here = 3 * village + 1, there = 3 * ((village + 1) % villages);
@@ -156,6 +175,7 @@ static void write_journal(unsigned villages)
         add_in_duct(there, here, 5);
         ask_all(cabinets);
     }
+    ask_all_routes(0, 3 * villages);
 }
 
 /* ---- Having it run ---- */
@@ -205,7 +225,10 @@ static size_t asked_at, answered_at;
 
 /* What was asked for and what the list had, for the last answer about each item. */
 static unsigned asked_district[CABINETS], asked_ring[CABINETS], asked_mesh[SPANS];
-static unsigned asked_share, notices_read, compared, differences;
+static unsigned asked_share, notices_read, routes_read, compared, differences;
+
+/* Where the answer about the last two routes begins. */
+static const uint8_t *last_routes;
 
 static unsigned two_bytes(const uint8_t *at)
 {
@@ -361,6 +384,57 @@ static void read_exchange(void)
     answered_at += 2;
 }
 
+/* Follows a route of so many spans from a. Gives the cabinet where it ends, or NO_NAME if it leaves
+   the spans that are known, does not go on from where it is, or comes to a cabinet twice. */
+static unsigned follow(const uint8_t *route, unsigned count, unsigned a)
+{
+    int met[CABINETS] = {0};
+    unsigned here = a;
+    met[a] = 1;
+    for (unsigned i = 0; i < count; i++) {
+        size_t span = two_bytes(route + 2 * i);
+        if (span >= spans_known || (ends[span][0] != here && ends[span][1] != here))
+            return NO_NAME;
+        here = ends[span][0] == here ? ends[span][1] : ends[span][0];
+        if (met[here])
+            return NO_NAME;
+        met[here] = 1;
+    }
+    return here;
+}
+
+/* How many spans of a route are spans of another, or mates of such. */
+static unsigned shared(const uint8_t *one, unsigned one_count, const uint8_t *other,
+                       unsigned other_count)
+{
+    unsigned count = 0;
+    for (unsigned i = 0; i < one_count; i++)
+        for (unsigned j = 0; j < other_count; j++)
+            count += least_mate(two_bytes(one + 2 * i)) == least_mate(two_bytes(other + 2 * j));
+    return count;
+}
+
+/* The answer to 0C: whatever pair is given, it must serve. */
+static void read_routes(void)
+{
+    unsigned a = two_bytes(journal + asked_at + 1), b = two_bytes(journal + asked_at + 3);
+    const uint8_t *one = answers + answered_at + 3;
+    unsigned one_count = two_bytes(one - 2);
+    const uint8_t *other = one + 2 * one_count + 2;
+    unsigned other_count = two_bytes(other - 2);
+    last_routes = answers + answered_at;
+    hold("rings at the ends of the routes from", a, ring[a], ring[b]);
+    unsigned one_end = follow(one, one_count, a), other_end = follow(other, other_count, a);
+    hold("end of a route from", a, one_end, b);
+    hold("end of the other route from", a, other_end, b);
+    if (one_end == b && other_end == b)
+        hold("spans shared by the routes from", a,
+             shared(one, one_count, other, other_count), 0);
+    routes_read++;
+    asked_at += 5;
+    answered_at += 5 + 2 * ((size_t)one_count + other_count);
+}
+
 /* The share in thousandths, rounded down; 0 for an empty network. */
 static void read_share(void)
 {
@@ -395,6 +469,7 @@ static int read_answer(void)
     case 0x88: read_sole(); return 1;
     case 0x89: read_mark(); return 1;
     case 0x8A: read_exchange(); return 1;
+    case 0x8C: read_routes(); return 1;
     case 0x8F: read_share(); return 1;
     default: return 0;
     }
@@ -424,19 +499,35 @@ static void print_names(void)
     printf("share of cabinets whose ring holds an exchange: %u thousandths\n", asked_share);
 }
 
+static void print_routes(void)
+{
+    const uint8_t *list = last_routes + 1;
+    for (int route = 0; route < 2; route++) {
+        unsigned count = two_bytes(list);
+        printf("%s route:", route == 0 ? "working" : "standby");
+        for (unsigned i = 0; i < count; i++)
+            printf(" %u", two_bytes(list + 2 + 2 * i));
+        printf("\n");
+        list += 2 + 2 * count;
+    }
+}
+
 int main(void)
 {
     write_journal(5);
-    int all_read = make_room() && run_journal() && read_answers();
-    free(answers);
-    if (!all_read)
+    if (!make_room() || !run_journal() || !read_answers()) {
+        free(answers);
         return 1;
+    }
     print_names();
+    print_routes();
+    free(answers);
     printf("%u bytes of room were forecast for the answers, %u were taken\n",
            (unsigned)answers_length, (unsigned)report[REGISTER_REPORT_ANSWERS]);
-    printf("%u commands, %u notices read, %u names, numbers, exchanges and sole spans compared, "
-           "%u differ\n",
-           (unsigned)report[REGISTER_REPORT_COMMANDS], notices_read, compared, differences);
+    printf("%u commands, %u notices and %u pairs of routes read, %u names, numbers, exchanges, sole "
+           "spans and routes compared, %u differ\n",
+           (unsigned)report[REGISTER_REPORT_COMMANDS], notices_read, routes_read, compared,
+           differences);
     return differences != 0 || asked_at != journal_length
         || answered_at != report[REGISTER_REPORT_ANSWERS];
 }

@@ -65,7 +65,7 @@ static void add_cabinets(void)
 }
 
 /* An exchange at one end, both lists from end to end, in both directions; then the span that closes
-   the chain, and the questions about exchanges. */
+   the chain, the two ways round it, in both directions, and the questions about exchanges. */
 static void ask_and_close(unsigned first, unsigned last)
 {
     put(3, 0x09, last, 0);
@@ -76,6 +76,8 @@ static void ask_and_close(unsigned first, unsigned last)
     command(0x05, first, last);
     command(0x02, last, first);
     command(0x06, first, last);
+    command(0x0C, first, last);
+    command(0x0C, last, first);
     put(3, 0x0A, first, 0);
     put(1, 0x0F, 0, 0);
 }
@@ -120,6 +122,26 @@ static void chain_of_mates(void)
     for (unsigned i = 1; i < cabinets; i++)
         add_in_duct(i, i - 1);
     ask_and_close(0, cabinets - 1);
+}
+
+/* Two chains beside each other with a rung between each two of their cabinets, and two routes from end
+   to end, along a chain and across; then a span from end to end, and the routes again. */
+static void ladder(void)
+{
+    unsigned half = cabinets / 2;
+    add_cabinets();
+    for (unsigned i = 1; i < half; i++)
+        command(0x02, i - 1, i);
+    for (unsigned i = 1; i < half; i++)
+        command(0x02, half + i - 1, half + i);
+    for (unsigned i = 0; i < half; i++)
+        add_in_duct(i, half + i);
+    command(0x0C, 0, half - 1);
+    command(0x0C, half - 1, 0);
+    command(0x0C, 0, 2 * half - 1);
+    command(0x02, 0, 2 * half - 1);
+    command(0x0C, 0, 2 * half - 1);
+    command(0x0C, half / 2, half + half / 2);
 }
 
 /* ---- The calls ---- */
@@ -177,7 +199,9 @@ static void forecast_all(void)
     size_t longest = REGISTER_LONGEST_JOURNAL;
     forecast_one(0x01, longest, REGISTER_ACCEPTED);
     forecast_one(0x0F, longest, REGISTER_ACCEPTED);
-    for (unsigned byte = 0x02; byte <= 0x0A; byte++) {
+    for (unsigned byte = 0x02; byte <= 0x0C; byte++) {
+        if (byte == 0x0B)
+            continue;
         forecast_one(byte, longest - 1, REGISTER_ACCEPTED);
         forecast_one(byte, longest, REGISTER_CUT_OFF);
     }
@@ -195,6 +219,7 @@ static void *call_all(void *unused)
     run_one("chain from the last", chain_from_the_last, cabinets);
     run_one("two chains", two_chains, cabinets);
     run_one("chain of mates", chain_of_mates, 2 * cabinets - 1);
+    run_one("ladder", ladder, 3 * (cabinets / 2) - 1);
     return unused;
 }
 

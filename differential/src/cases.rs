@@ -1,7 +1,39 @@
 //! A case: one call of the register, with its capacities, journal and lengths of buffers.
 
 use crate::engine::{work_needed, Forecast, REPORT_NUMBERS};
-use crate::second::Second;
+
+/// The length of the answer buffer. What all answers take is the engine's to say where it gives the
+/// routes of a 0C.
+#[derive(Clone, Copy, Debug)]
+pub enum Room {
+    Bytes(usize),
+    /// So many bytes more than all answers take.
+    Over(usize),
+    /// So many bytes fewer than they take, or none.
+    Under(usize),
+    /// Some part of what they take, none or all of it too, by this number.
+    Part(u64),
+}
+
+impl Room {
+    /// How many bytes these are where all answers take so many.
+    pub fn bytes(self, needed: usize) -> usize {
+        match self {
+            Room::Bytes(bytes) => bytes,
+            Room::Over(more) => needed + more,
+            Room::Under(fewer) => needed.saturating_sub(fewer),
+            Room::Part(number) => (number % (needed as u64 + 1)) as usize,
+        }
+    }
+}
+
+/// Bytes of which one must be left; all of them are of one length.
+pub type OneOf = Vec<Vec<u8>>;
+
+/// From hexadecimal digits, with `|` between them.
+pub fn one_of(text: &str) -> OneOf {
+    text.split('|').map(unhex).collect()
+}
 
 #[derive(Clone, Debug)]
 pub struct Case {
@@ -10,22 +42,21 @@ pub struct Case {
     pub s: u32,
     pub journal: Vec<u8>,
     pub work: usize,
-    pub answers: usize,
+    pub answers: Room,
     pub report: usize,
     /// The number that must be returned, where it is known beforehand.
     pub returned: Option<u32>,
-    /// The bytes that the answer buffer must begin with and the report, where they are known
+    /// What the answer buffer must begin with, part by part, and the report, where they are known
     /// beforehand.
-    pub left: Option<(Vec<u8>, [u32; REPORT_NUMBERS])>,
+    pub left: Option<(Vec<OneOf>, [u32; REPORT_NUMBERS])>,
     /// The journal's forecast, where it is known beforehand.
     pub forecast: Option<Forecast>,
 }
 
 impl Case {
-    /// A case whose buffers are as long as they must be, the answer buffer with ample room.
+    /// A case whose buffers are as long as they must be, the answer buffer with room to the byte.
     pub fn new(label: &str, c: u32, s: u32, journal: Vec<u8>) -> Case {
-        let answers = Second::new().answer_bytes(c, s, &journal);
-        Case::with_room(label, c, s, journal, answers)
+        Case { answers: Room::Over(0), ..Case::with_room(label, c, s, journal, 0) }
     }
 
     pub fn with_room(label: &str, c: u32, s: u32, journal: Vec<u8>, answers: usize) -> Case {
@@ -35,7 +66,7 @@ impl Case {
             s,
             journal,
             work: work_needed(c.min(1 << 20), s.min(1 << 20)).min(200_000),
-            answers,
+            answers: Room::Bytes(answers),
             report: REPORT_NUMBERS,
             returned: None,
             left: None,
@@ -49,10 +80,21 @@ impl Case {
     }
 
     /// These answers, which fit to the byte, and this report must be left.
-    pub fn leaves(mut self, answers: Vec<u8>, report: [u32; REPORT_NUMBERS]) -> Case {
-        self.answers = answers.len();
+    pub fn leaves(self, answers: Vec<u8>, report: [u32; REPORT_NUMBERS]) -> Case {
+        self.leaves_one_of(vec![vec![answers]], report)
+    }
+
+    /// The same with answers in parts, of each of which one must be left.
+    pub fn leaves_one_of(mut self, parts: Vec<OneOf>, report: [u32; REPORT_NUMBERS]) -> Case {
+        self.answers = Room::Bytes(parts.iter().map(length).sum());
         self.returned = Some(report[0]);
-        self.left = Some((answers, report));
+        self.left = Some((parts, report));
+        self
+    }
+
+    /// The same with so many bytes of room more.
+    pub fn with_more(mut self, bytes: usize) -> Case {
+        self.answers = Room::Bytes(self.answers.bytes(0) + bytes);
         self
     }
 
@@ -64,7 +106,7 @@ impl Case {
 
     pub fn describe(&self) -> String {
         format!(
-            "case: {}\nC {} S {} work {} answers {} report {}\njournal ({} bytes): {}",
+            "case: {}\nC {} S {} work {} answers {:?} report {}\njournal ({} bytes): {}",
             self.label,
             self.c,
             self.s,
@@ -75,6 +117,22 @@ impl Case {
             hex(&self.journal)
         )
     }
+}
+
+/// The length that all of these have.
+fn length(one_of: &OneOf) -> usize {
+    let length = one_of[0].len();
+    assert!(one_of.iter().all(|bytes| bytes.len() == length), "one length for all");
+    length
+}
+
+/// Do these bytes begin with one of the first part, then one of the second, and so on?
+pub fn begin_with(mut bytes: &[u8], parts: &[OneOf]) -> bool {
+    parts.iter().all(|part| {
+        let (front, rest) = bytes.split_at(length(part).min(bytes.len()));
+        bytes = rest;
+        part.iter().any(|one| one == front)
+    })
 }
 
 pub fn hex(bytes: &[u8]) -> String {

@@ -1,12 +1,19 @@
 //! One case run and forecast by an engine and by the second implementation, and every byte compared.
+//!
+//! First comes the forecast, then a run with exactly the room that is forecast, which is ample. Its
+//! answers tell which pairs of routes the engine gives; each must serve. With these pairs the second
+//! implementation tells every byte of that run, and of the run with the room of the case.
 
+mod ample;
 mod forecast;
 
-use crate::cases::{hex, Case};
+use crate::cases::{begin_with, hex, Case};
 use crate::engine::{Call, Engine};
 use crate::names::{Planner, Read};
 use crate::random::Random;
+use crate::second::routes::Asked;
 use crate::second::{Accepted, Second};
+use ample::Ample;
 
 /// Entries before and after each buffer that no engine may touch.
 const GUARD: usize = 64;
@@ -15,10 +22,12 @@ const GUARD: usize = 64;
 #[derive(Clone, Copy, Default)]
 pub struct Tally {
     pub journals: usize,
-    /// How often each number from 0 to 13 was returned.
-    pub returned: [usize; 14],
+    /// How often each number from 0 to 14 was returned.
+    pub returned: [usize; 15],
     pub commands: usize,
     pub notices: usize,
+    /// Pairs of routes that were given with ample room.
+    pub pairs: usize,
     /// How often each number from 0 to 5 was returned by a forecast.
     pub forecast: [usize; 6],
     /// Runs with exactly the room that was forecast, by the number that the journal's forecast
@@ -36,11 +45,12 @@ struct Lent {
 }
 
 impl Lent {
-    fn new(case: &Case, random: &mut Random) -> Lent {
+    /// With so many bytes of room for the answers.
+    fn new(case: &Case, room: usize, random: &mut Random) -> Lent {
         Lent {
             journal: guarded(&case.journal, random),
             work: table(case.work, random),
-            answers: bytes(case.answers, random),
+            answers: bytes(room, random),
             report: words(case.report, random),
         }
     }
@@ -93,22 +103,30 @@ fn inner<T>(guarded: &mut [T]) -> &mut [T] {
     &mut guarded[GUARD..end]
 }
 
-/// Compares engine and second implementation on one case; the error says what differs.
+/// Compares engine and second implementation on one case. Gives the bytes that all answers take, as
+/// far as they were counted; the error says what differs.
 pub fn compare(
     engine: &dyn Engine,
     second: &Second,
     case: &Case,
     seed: u64,
     tally: &mut Tally,
-) -> Result<(), String> {
+) -> Result<usize, String> {
     let random = &mut Random::new(seed);
-    let lent = Lent::new(case, random);
+    let forecast = forecast::compare(engine, second, case, random, tally)?;
+    let ample = match forecast {
+        Some(forecast) => ample::run(engine, second, case, forecast, random, tally)?,
+        None => Ample::default(),
+    };
+    let lent = Lent::new(case, case.answers.bytes(ample.needed), random);
     let mut got = lent.clone();
     let number = engine.run(got.call(case));
     let mut planner = Planner::new(inner(&mut got.answers));
     let mut wanted = lent;
+    let mut pairs = ample.pairs.into_iter();
+    let choose = &mut |asked: &Asked| pairs.next().unwrap_or_else(|| second.own_pair(asked));
     let watch = &mut |accepted: Accepted| planner.watch(&accepted);
-    let wanted_number = second.run_watched(wanted.call(case), watch);
+    let wanted_number = second.run_watched(wanted.call(case), choose, watch);
     let planned = planner.result();
     known_beforehand(case, wanted_number, &wanted)?;
     same_number(number, wanted_number)?;
@@ -119,7 +137,7 @@ pub fn compare(
     tally.returned[number as usize] += 1;
     tally.commands += read.commands;
     tally.notices += read.notices;
-    forecast::compare(engine, second, case, random, tally)
+    Ok(ample.needed)
 }
 
 /// The planner has read as many commands and bytes as the report counts; none, if the start
@@ -141,14 +159,12 @@ fn known_beforehand(case: &Case, number: u32, wanted: &Lent) -> Result<(), Strin
     if case.returned.is_some_and(|known| known != number) {
         return Err(format!("second returns {number}, {:?} was known beforehand", case.returned));
     }
-    if let Some((answers, report)) = &case.left {
-        let left = &wanted.answers[GUARD..][..answers.len()];
-        if left != answers {
-            return Err(format!(
-                "second answers {}, known beforehand is {}",
-                hex(left),
-                hex(answers)
-            ));
+    if let Some((parts, report)) = &case.left {
+        let answers = &wanted.answers[GUARD..wanted.answers.len() - GUARD];
+        if !begin_with(answers, parts) {
+            let known = parts.iter().map(|part| part.iter().map(|one| hex(one)).collect());
+            let known: Vec<Vec<String>> = known.collect();
+            return Err(format!("second answers {}, known beforehand is {known:?}", hex(answers)));
         }
         let left = &wanted.report[GUARD..][..case.report];
         if left != report {

@@ -7,6 +7,7 @@ use crate::kinds::KINDS;
 use crate::second::book::Fault;
 use crate::second::exchanges::Misfeed;
 use crate::second::mates::Misduct;
+use crate::second::routes::Misroute;
 use crate::second::Second;
 use std::ops::BitXor;
 
@@ -68,10 +69,11 @@ fn change<T: Copy + From<u8> + BitXor<Output = T>>(at: Option<usize>, buffer: &m
 /// What is wrong, and how it is made so.
 type Spoil = (&'static str, fn(&mut Left));
 
-const SPOILS: [Spoil; 19] = [
+const SPOILS: [Spoil; 20] = [
     ("another number returned", |left| left.number += 1),
     ("11 before 12", |left| left.room_before(12)),
     ("11 before 13", |left| left.room_before(13)),
+    ("11 before 14", |left| left.room_before(14)),
     ("another refusal reported", |left| change(left.ran(0), left.call.report)),
     ("another place reported", |left| change(left.ran(1), left.call.report)),
     ("another count of commands", |left| change(left.ran(2), left.call.report)),
@@ -126,6 +128,9 @@ pub fn engines() -> Vec<Named> {
     }
     for fault in IN_DUCTS {
         engines.push((format!("{fault:?}"), Box::new(Second::with_misduct(fault))));
+    }
+    for (fault, _) in IN_REFUSALS_OF_ROUTES {
+        engines.push((format!("{fault:?}"), Box::new(Second::with_misroute(fault))));
     }
     for spoil in SPOILS {
         engines.push((spoil.0.to_string(), Box::new(Spoiled(spoil))));
@@ -191,6 +196,37 @@ pub const IN_DUCTS_BY_PLANNER: [(Misduct, &str); 10] = [
     (Misduct::MeasuredInSets, "does not double"),
     (Misduct::TakenWithoutMates, "are in two meshes"),
     (Misduct::AnsweredByItsOwn, "begins no answer"),
+];
+
+/// Faults in what refuses 0C that the histories worked out by hand must find where the second
+/// implementation has them too, and what is said then: no pair serves where there is none.
+pub const IN_REFUSALS_OF_ROUTES: [(Misroute, &str); 5] = [
+    (Misroute::Always14, "known beforehand"),
+    (Misroute::Never14, "is answered by no pair"),
+    (Misroute::ByDistrict, "is answered by no pair"),
+    (Misroute::TenAcross, "known beforehand"),
+    (Misroute::EqualAnswered, "known beforehand"),
+];
+
+/// Faults in the routes, and what is said then. Which pair is given is the engine's to say, so that
+/// the second implementation has no part in finding them.
+pub const IN_ROUTES: [(Misroute, &str); 16] = [
+    (Misroute::SpanInBoth, "is in both routes"),
+    (Misroute::MateInOther, "are in the two routes"),
+    (Misroute::Loop, "is met twice"),
+    (Misroute::ThereAndBack, "is met twice"),
+    (Misroute::FromTheEnd, "does not go on from"),
+    (Misroute::OutOfOrder, "does not go on from"),
+    (Misroute::SecondTwice, "is in both routes"),
+    (Misroute::OneRoute, "a route ends at"),
+    (Misroute::EndsEarly, "a route ends at"),
+    (Misroute::OtherWay, "does not go on from"),
+    (Misroute::CountTooGreat, "is answered by no pair"),
+    (Misroute::CountTooSmall, "is answered by no pair"),
+    (Misroute::CountOfBoth, "is answered by no pair"),
+    (Misroute::ByRoom, "answers differs at"),
+    (Misroute::ThatFits, ", second returns 11"),
+    (Misroute::ByHistory, "was before"),
 ];
 
 /// Faults that demand 3 must find where the second implementation has them too, and what is said

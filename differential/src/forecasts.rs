@@ -1,6 +1,7 @@
 //! Journals whose forecast is known beforehand, worked out by hand from document 02's first request
 //! and from what its second request has 09, 0A and 0F answer: 1, 2 and 3 bytes. Command 0B of its
-//! third request counts as a span command, so it lengthens what 02 lengthens.
+//! third request counts as a span command, so it lengthens what 02 lengthens. Command 0C of its fifth
+//! counts 5 and 2 for each span command.
 
 use crate::cases::{unhex, Case};
 use crate::engine::LONGEST_JOURNAL;
@@ -10,7 +11,7 @@ use crate::journals::{operand_count, unknown_bytes, Writer, COMMANDS};
 /// What a journal is, its bytes, and its forecast: number, place and length.
 type Known = (&'static str, &'static str, [u32; 3]);
 
-const SMALL: [Known; 28] = [
+const SMALL: [Known; 33] = [
     ("empty journal", "", [0, 0, 0]),
     ("01 alone", "01", [0, 1, 3]),
     ("02 alone", "02 0000 0001", [0, 5, 7]),
@@ -23,6 +24,7 @@ const SMALL: [Known; 28] = [
     ("09 alone", "09 0000", [0, 3, 1]),
     ("0A alone", "0A 0000", [0, 3, 2]),
     ("0B alone", "0B 0000 0001 0005", [0, 7, 7]),
+    ("0C alone", "0C 0000 0001", [0, 5, 5]),
     ("0F alone", "0F", [0, 1, 3]),
     ("an exchange and the questions about it", "01 09 0000 0A 0000 0F", [0, 8, 9]),
     ("triangle", TRIANGLE, [0, 18, 75]),
@@ -31,19 +33,19 @@ const SMALL: [Known; 28] = [
     (
         "every command, all accepted",
         "01 01 02 0000 0001 0B 0001 0000 0005 03 0000 04 0001 05 0000 0001 06 0000 0001 \
-         07 0000 0001 08 0000 09 0000 0A 0001 0F",
-        [0, 45, 82],
+         07 0000 0001 08 0000 09 0000 0A 0001 0C 0000 0001 0F",
+        [0, 50, 91],
     ),
     ("06 before the spans that it counts", "06 0000 0001 02 0000 0001 02 0000 0001", [0, 15, 31]),
     ("07 before the cabinets that it counts", "07 0000 0001 01 01 01", [0, 8, 48]),
     (
         "every command, the questions first",
-        "0F 0A 0000 09 0000 08 0000 07 0000 0001 06 0000 0001 05 0000 0001 04 0000 03 0000 \
-         02 0000 0001 02 0000 0001 0B 0000 0001 0005 01 01 01 01 01",
-        [0, 53, 191],
+        "0F 0C 0000 0001 0A 0000 09 0000 08 0000 07 0000 0001 06 0000 0001 05 0000 0001 04 0000 \
+         03 0000 02 0000 0001 02 0000 0001 0B 0000 0001 0005 01 01 01 01 01",
+        [0, 58, 202],
     ),
     ("an exchange lengthens no list", "09 0000 09 0001 06 0000 0001 07 0000 0001", [0, 16, 8]),
-    ("unknown bytes for operands", "03 FFFF 05 0C0D 0000 09 0D0E 0A 1000 0F 01", [0, 16, 16]),
+    ("unknown bytes for operands", "03 FFFF 05 0D0D 0000 09 0D0E 0A 1000 0F 01", [0, 16, 16]),
     // s is 2: 14, and 5 × 2 × L(2).
     ("02 and 0B are both span commands", "02 0000 0001 0B 0000 0001 0005", [0, 12, 24]),
     // s is 4, of which three are mates: 28, 5 × 4 × L(4), and 3 + 2 × 4 for 06.
@@ -56,12 +58,23 @@ const SMALL: [Known; 28] = [
     ("0B is no cabinet", "0B 0000 0001 0005 06 0000 0001 07 0000 0001", [0, 17, 15]),
     // A forecast knows nothing of 6, 8 and 13.
     ("0B that a run refuses", "0B 0007 0007 0000", [0, 7, 7]),
+    // s is 3, of which two are mates: 21, 5 × 3 × L(3), and 5 + 2 × 3 for 0C.
+    (
+        "0C counts every span, and every mate",
+        "0C 0000 0001 02 0000 0001 0B 0000 0001 0005 0B 0000 0001 0005",
+        [0, 24, 47],
+    ),
+    // c is 3 and s is 0: 9, 5 × 2 × 3 × L(3), and 5 for 0C.
+    ("a cabinet is no span: 0C with three cabinets", "01 01 01 0C 0000 0001", [0, 8, 44]),
+    // A forecast knows nothing of 6, 8 and 14.
+    ("0C that a run refuses", "0C 0007 0007 01 01 0C 0000 0001", [0, 12, 36]),
+    ("commands for operands of 0C", "0C 0102 0B0C 01", [0, 6, 8]),
     // 0B with the bytes of other commands as operands, then 01.
     ("commands for operands of 0B", "0B 0102 0B0F 0101 01", [0, 8, 10]),
 ];
 
 /// Journals of one command alone: its byte, how often it stands there, the place and the length.
-const ALIKE: [(u8, usize, u32, u32); 44] = [
+const ALIKE: [(u8, usize, u32, u32); 46] = [
     (0x01, 2, 2, 26),
     (0x01, 3, 3, 39),
     (0x01, 4, 4, 92),
@@ -104,6 +117,8 @@ const ALIKE: [(u8, usize, u32, u32); 44] = [
     (0x0B, 8_191, 57_337, 548_797),
     (0x0B, 8_192, 57_344, 589_824),
     (0x0B, 9_362, 65_534, 674_064),
+    (0x0C, 4, 20, 20),
+    (0x0C, 13_107, 65_535, 65_535),
     (0x0F, 4, 4, 12),
     (0x0F, 65_536, 65_536, 196_608),
 ];
@@ -112,7 +127,7 @@ const ALIKE: [(u8, usize, u32, u32); 44] = [
 /// answers and the report of its run.
 type Damaged = (&'static str, &'static str, [u32; 2], &'static str, [u32; 6]);
 
-const DAMAGED: [Damaged; 13] = [
+const DAMAGED: [Damaged; 16] = [
     ("02 00 00 alone", "02 00 00", [5, 0], "", [5, 0, 0, 0, 0, 0]),
     (
         "02 00 00 behind accepted commands",
@@ -152,7 +167,7 @@ const DAMAGED: [Damaged; 13] = [
         "81 0000 89",
         [12, 4, 2, 4, 1, 0],
     ),
-    ("unknown byte behind a full register", "01 01 0C", [4, 2], "81 0000", [9, 1, 1, 3, 1, 0]),
+    ("unknown byte behind a full register", "01 01 0D", [4, 2], "81 0000", [9, 1, 1, 3, 1, 0]),
     (
         "unknown byte behind duct 0",
         "01 01 0B 0000 0001 0000 8B",
@@ -168,6 +183,21 @@ const DAMAGED: [Damaged; 13] = [
         [13, 2, 2, 6, 2, 0],
     ),
     ("a duct of one byte", "01 0B 0000 0000 00", [5, 1], "81 0000", [5, 1, 1, 3, 1, 0]),
+    (
+        "unknown byte behind two rings",
+        "01 01 0C 0000 0001 8C",
+        [4, 7],
+        "81 0000 81 0001",
+        [14, 2, 2, 6, 2, 0],
+    ),
+    (
+        "cut off behind two rings",
+        "01 01 0C 0000 0001 0C 0000 00",
+        [5, 7],
+        "81 0000 81 0001",
+        [14, 2, 2, 6, 2, 0],
+    ),
+    ("0E is none yet", "01 0E 0000", [4, 1], "81 0000", [4, 1, 1, 3, 1, 0]),
 ];
 
 /// What stands before a damaged place, and how many bytes that is: nothing, commands that a run
@@ -216,12 +246,15 @@ fn longest() -> Vec<Case> {
     let shares = [repeated(0x01, 1), repeated(0x0F, 65_535)].concat();
     let lists = [repeated(0x01, 32_771), repeated(0x07, 6_553)].concat();
     let sole = [repeated(0x0B, 4_681), repeated(0x06, 6_553), repeated(0x01, 4)].concat();
+    let routes = [repeated(0x02, 6_553), repeated(0x0C, 6_554), repeated(0x01, 1)].concat();
     vec![
         Case::new("65,536 bytes", 1, 1, names).returns(0).forecasts([0, 65_536, 65_538]),
         Case::new("65,536 bytes, 0A", 1, 1, fed).returns(0).forecasts([0, 65_536, 43_692]),
         Case::new("65,536 bytes, 0F", 1, 1, shares).returns(0).forecasts([0, 65_536, 196_608]),
         without_capacities("65,536 bytes, long lists", lists).forecasts([0, 65_536, 434_530_348]),
         without_capacities("65,536 bytes, 0B and 06", sole).forecasts([0, 65_536, 61_682_564]),
+        // 3, 7 × 6,553, 5 × 6,553 × 12, and 6,554 × (5 + 2 × 6,553).
+        without_capacities("65,536 bytes, 02 and 0C", routes).forecasts([0, 65_536, 86_368_548]),
     ]
 }
 

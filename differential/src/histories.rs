@@ -1,7 +1,7 @@
 //! The histories of document 01: the marked ones with the answers that it gives for them, and the
 //! unmarked ones.
 
-use crate::cases::{unhex, Case};
+use crate::cases::{one_of, unhex, Case, OneOf};
 use crate::engine::{LONGEST_JOURNAL, MOST_CABINETS, MOST_SPANS};
 use crate::journals::{large, Writer};
 use crate::layouts::{self, Layout};
@@ -12,7 +12,8 @@ use crate::spans::Span;
 /// one returned.
 type History = (&'static str, &'static str, &'static str, [u32; 6]);
 
-/// Commands, and their answers; none where the command is refused.
+/// Commands, and their answers; none where the command is refused. Where several answers serve, they
+/// stand one behind the other with `|` between them.
 pub type Line = (&'static str, &'static str);
 
 /// A history in lines: what it is, its lines, and the report, whose first number is the one returned.
@@ -23,10 +24,10 @@ pub fn worked_out(known: &[Known]) -> Vec<Case> {
     let mut cases = Vec::new();
     for &(label, lines, report) in known {
         let journal: Vec<u8> = lines.iter().flat_map(|line| unhex(line.0)).collect();
-        let answers: Vec<u8> = lines.iter().flat_map(|line| unhex(line.1)).collect();
+        let answers: Vec<OneOf> = lines.iter().map(|line| one_of(line.1)).collect();
         let case = |room| Case::with_room(label, 256, 512, journal.clone(), room);
-        let less = answers.len().checked_sub(1);
-        cases.push(case(0).leaves(answers, report));
+        let less = answers.iter().map(|part| part[0].len()).sum::<usize>().checked_sub(1);
+        cases.push(case(0).leaves_one_of(answers, report));
         cases.extend(less.map(|room| case(room).returns(11)));
     }
     cases

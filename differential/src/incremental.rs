@@ -1,13 +1,16 @@
 //! The register by the method of the proved one, written by hand over ordinary arrays: names with
-//! sizes and ranges, one block forest, and a count of exchanges for each ring. Not proved.
+//! sizes and ranges, one block forest, a count of exchanges for each ring, and searches for two routes
+//! over lists of the spans at each cabinet. Not proved.
 
 mod forecast;
 mod forest;
 mod naming;
+mod routes;
 
 use crate::engine::{Call, Engine, REPORT_NUMBERS};
 use forecast::forecast;
 use forest::Forest;
+use routes::Routes;
 
 pub struct Incremental;
 
@@ -54,6 +57,7 @@ struct Run<'a> {
     place: usize,
     out: Out<'a>,
     forest: Forest,
+    routes: Routes,
 }
 
 impl Run<'_> {
@@ -100,7 +104,7 @@ impl Run<'_> {
         let length = match byte {
             0x01 | 0x0F => 1,
             0x03 | 0x04 | 0x08..=0x0A => 3,
-            0x02 | 0x05..=0x07 => 5,
+            0x02 | 0x05..=0x07 | 0x0C => 5,
             0x0B => 7,
             _ => return Err(4),
         };
@@ -128,6 +132,7 @@ impl Run<'_> {
                 self.flag_answer(0x8A, is_fed)?;
             }
             0x0B => self.add_span(Some(self.operand(2)))?,
+            0x0C => self.two_routes()?,
             _ => {
                 let share = thousandths(self.forest.fed(), self.forest.cabinets());
                 self.field_answer(0x8F, share)?;
@@ -202,6 +207,24 @@ impl Run<'_> {
         self.out.list(0x87, self.forest.cut_cabinets().iter().copied())
     }
 
+    fn two_routes(&mut self) -> Result<(), u32> {
+        let (a, b) = self.two_different()?;
+        if self.forest.ring(a) != self.forest.ring(b) {
+            return Err(14);
+        }
+        let (ends, duct) = self.forest.edges();
+        self.routes.catch_up(self.forest.cabinets() as usize, ends, duct);
+        let two = self.routes.between(a, b);
+        let counts = two.each_ref().map(|route| route.clone().count());
+        self.out.need(5 + 2 * (counts[0] + counts[1]))?;
+        self.out.byte(0x8C);
+        for (count, route) in counts.into_iter().zip(two) {
+            self.out.field(count as u32);
+            route.for_each(|span| self.out.field(span));
+        }
+        Ok(())
+    }
+
     fn is_sole(&mut self) -> Result<(), u32> {
         let span = self.operand(0);
         if span >= self.forest.spans() {
@@ -270,6 +293,7 @@ impl Engine for Incremental {
             place: 0,
             out: Out { bytes: call.answers, written: 0 },
             forest: Forest::with_room(call.c as usize, call.s as usize),
+            routes: Routes::default(),
         };
         let report = run.all();
         call.ends(report)

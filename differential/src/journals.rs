@@ -1,15 +1,15 @@
 //! Journals by seed: layouts entered with questions between, damaged journals, and bare bytes.
 
-use crate::cases::Case;
+use crate::cases::{Case, Room};
 use crate::engine::{work_needed, MOST_CABINETS, MOST_SPANS, REPORT_NUMBERS};
 use crate::layouts::{self, random_spans, Layout, DUCTS, MEDIUM, STYLES};
-use crate::literal::of_one_duct;
+use crate::literal::{of_one_duct, share_ring, Plant};
 use crate::random::Random;
-use crate::second::Second;
+use crate::second::groups::{groups, Labels, Network};
 use crate::spans::Span;
 
 /// The command bytes, each with the number of its operands.
-pub const COMMANDS: [(u8, usize); 12] = [
+pub const COMMANDS: [(u8, usize); 13] = [
     (0x01, 0),
     (0x02, 2),
     (0x03, 1),
@@ -21,6 +21,7 @@ pub const COMMANDS: [(u8, usize); 12] = [
     (0x09, 1),
     (0x0A, 1),
     (0x0B, 3),
+    (0x0C, 2),
     (0x0F, 0),
 ];
 
@@ -30,7 +31,7 @@ pub fn operand_count(byte: u8) -> usize {
     known.expect("the byte is a command's").1
 }
 
-/// The bytes that are no command's: 00, 0C to 0E, and 10 to FF.
+/// The bytes that are no command's: 00, 0D and 0E, and 10 to FF.
 pub fn unknown_bytes() -> impl Iterator<Item = u8> {
     (0x00..=0xFF).filter(|&byte| COMMANDS.iter().all(|command| command.0 != byte))
 }
@@ -41,10 +42,12 @@ pub fn unknown_bytes() -> impl Iterator<Item = u8> {
 pub struct Writer {
     pub bytes: Vec<u8>,
     pub cabinets: usize,
-    pub spans: usize,
+    pub spans: Vec<Span>,
     exchanges: Vec<usize>,
     /// The next cabinet on the way to the one that stands for the district.
     toward: Vec<usize>,
+    /// A label for each cabinet's ring, once it is asked for and until the next cabinet or span.
+    rings: Option<Labels>,
 }
 
 impl Writer {
@@ -64,6 +67,7 @@ impl Writer {
         self.command(0x01, &[]);
         self.toward.push(self.cabinets);
         self.cabinets += 1;
+        self.rings = None;
     }
 
     /// A span by 02.
@@ -80,7 +84,8 @@ impl Writer {
         }
         let (one, other) = (self.stands_for(a), self.stands_for(b));
         self.toward[one] = other;
-        self.spans += 1;
+        self.spans.push(span);
+        self.rings = None;
     }
 
     /// Marks a cabinet, unless it is an exchange already.
@@ -112,6 +117,23 @@ impl Writer {
         self.stands_for(a) == self.stands_for(b)
     }
 
+    /// The other cabinets of a cabinet's ring.
+    pub fn others_of_ring(&mut self, cabinet: usize) -> Vec<usize> {
+        let Writer { cabinets, ref spans, .. } = *self;
+        let network = || Network { cabinets, spans: spans.clone(), fault: None };
+        let rings = self.rings.get_or_insert_with(|| groups(&network()).ring);
+        let shares = |&other: &usize| other != cabinet && rings[other] == rings[cabinet];
+        (0..cabinets).filter(shares).collect()
+    }
+
+    /// Asks for two routes from a cabinet to another of its ring; nothing if it has no other.
+    pub fn ask_routes(&mut self, random: &mut Random, cabinet: usize) {
+        let others = self.others_of_ring(cabinet);
+        if !others.is_empty() {
+            self.command(0x0C, &[cabinet, *random.pick(&others)]);
+        }
+    }
+
     /// Enters all cabinets, then all spans.
     pub fn enter(&mut self, layout: &Layout) {
         self.enter_marked(layout, &[]);
@@ -126,7 +148,7 @@ impl Writer {
 
     /// A question that is accepted; nothing if the cabinets or spans for it are missing.
     pub fn question(&mut self, random: &mut Random) {
-        let byte = *random.pick(&[0x03, 0x04, 0x05, 0x06, 0x07, 0x08, 0x0A, 0x0F]);
+        let byte = *random.pick(&[0x03, 0x04, 0x05, 0x06, 0x07, 0x08, 0x0A, 0x0C, 0x0F]);
         if byte == 0x0F {
             return self.command(byte, &[]);
         }
@@ -138,17 +160,21 @@ impl Writer {
             0x05 if a == b => {}
             0x06 | 0x07 if !self.joined(a, b) => {}
             0x05..=0x07 => self.command(byte, &[a, b]),
-            0x08 if self.spans == 0 => {}
-            0x08 => self.command(byte, &[random.below(self.spans)]),
+            0x08 if self.spans.is_empty() => {}
+            0x08 => self.command(byte, &[random.below(self.spans.len())]),
+            0x0C => self.ask_routes(random, a),
             _ => self.command(byte, &[a]),
         }
     }
 
-    /// A command or question whose operands may be unknown, equal, in two districts, an exchange
-    /// already, or duct 0.
+    /// A command or question whose operands may be unknown, equal, in two districts or rings, an
+    /// exchange already, or duct 0.
     fn any(&mut self, random: &mut Random) {
         if random.chance(20) && !self.exchanges.is_empty() {
             return self.command(0x09, &[*random.pick(&self.exchanges)]);
+        }
+        if random.chance(30) && self.cabinets > 0 {
+            return self.command(0x0C, &[(); 2].map(|_| random.below(self.cabinets)));
         }
         let mut operands = [(); 3].map(|_| random.below(self.cabinets + 2));
         if random.chance(20) {
@@ -181,8 +207,11 @@ impl Writer {
                     self.command(0x07, &[a, b]);
                 }
             }
+            for b in self.others_of_ring(a) {
+                self.command(0x0C, &[a, b]);
+            }
         }
-        for span in 0..self.spans {
+        for span in 0..self.spans.len() {
             self.command(0x08, &[span]);
         }
         self.exchange_questions();
@@ -282,14 +311,14 @@ pub fn random_case(seed: u64) -> Case {
         }
         _ => {}
     }
-    let (c, s) = capacities(&mut random, writer.cabinets, writer.spans);
-    let needed = Second::new().answer_bytes(c, s, &journal);
-    let room = match random.below(10) {
-        0..=1 => random.below(needed + 1),
-        2..=4 => needed,
-        _ => needed + random.below(40),
+    let (c, s) = capacities(&mut random, writer.cabinets, writer.spans.len());
+    let mut case = Case::new(&format!("{label}, seed {seed}"), c, s, journal);
+    case.answers = match random.below(10) {
+        0..=1 => Room::Part(random.number()),
+        2 => Room::Under(1),
+        3..=4 => Room::Over(0),
+        _ => Room::Over(random.below(40)),
     };
-    let mut case = Case::with_room(&format!("{label}, seed {seed}"), c, s, journal, room);
     case.work += random.below(5);
     case.report += random.below(4);
     match random.below(100) {
@@ -407,8 +436,36 @@ pub fn every_mark(cabinets: usize, spans: usize, each: &mut dyn FnMut(Case)) {
     });
 }
 
-/// A small journal with every length of the answer buffer, from 0 to one more than it takes.
-pub fn every_room(seed: u64, each: &mut dyn FnMut(Case)) {
+/// Every list of so many spans between so many cabinets, each by 02 or in one of two ducts, with
+/// directions by turns; behind each of them 0C of every two cabinets, which is answered exactly if
+/// these share a ring by the definition word for word.
+pub fn every_two_routes(cabinets: usize, spans: usize, each: &mut dyn FnMut(Case)) {
+    let mut number = 0;
+    layouts::every_list_by_turns(cabinets, 2, spans, &mut |spans| {
+        let layout = Layout { cabinets, spans };
+        for (a, b) in (0..cabinets).flat_map(|a| (0..cabinets).map(move |b| (a, b))) {
+            if a != b {
+                each(with_routes(number, &layout, a, b));
+            }
+        }
+        number += 1;
+    });
+}
+
+fn with_routes(number: usize, layout: &Layout, a: usize, b: usize) -> Case {
+    let Layout { cabinets, ref spans } = *layout;
+    let mut writer = Writer::new();
+    writer.enter(layout);
+    writer.command(0x0C, &[a, b]);
+    let network = Network { cabinets, spans: spans.clone(), fault: None };
+    let answered = share_ring(Plant::of(&network), a, b);
+    let label = format!("0C {a} {b} behind list {number} of {} spans", spans.len());
+    let case = Case::new(&label, cabinets as u32, spans.len().max(1) as u32, writer.bytes);
+    case.returns(if answered { 0 } else { 14 })
+}
+
+/// A small journal, to be run with every length of the answer buffer.
+pub fn small(seed: u64) -> Case {
     let mut random = Random::new(seed);
     let cabinets = random.between(2, 5);
     let count = random.between(0, 7);
@@ -424,15 +481,10 @@ pub fn every_room(seed: u64, each: &mut dyn FnMut(Case)) {
         (0..random.below(3)).for_each(|_| writer.question(&mut random));
     }
     if random.chance(20) {
-        writer.command(0x08, &[writer.spans]);
+        writer.command(0x08, &[writer.spans.len()]);
     }
-    let (c, s) = (cabinets as u32, count.max(1) as u32);
-    let needed = Second::new().answer_bytes(c, s, &writer.bytes);
-    for room in 0..=needed + 1 {
-        let label = format!("room {room} of {needed}, seed {seed}");
-        let case = Case::with_room(&label, c, s, writer.bytes.clone(), room);
-        each(if room < needed { case.returns(11) } else { case });
-    }
+    let label = format!("small, seed {seed}");
+    Case::new(&label, cabinets as u32, count.max(1) as u32, writer.bytes)
 }
 
 /// Networks of the greatest size, each with some exchanges, and with questions at the end.

@@ -27,6 +27,17 @@ impl Layout {
         }
     }
 
+    /// A way from one cabinet to another over so many new ones.
+    fn way(&mut self, from: usize, to: usize, between: usize) {
+        let mut last = from;
+        for _ in 0..between {
+            self.cabinets += 1;
+            self.add(last, self.cabinets - 1);
+            last = self.cabinets - 1;
+        }
+        self.add(last, to);
+    }
+
     /// Enters the spans in another order in `percent` of a hundred cases, adds spans between any
     /// two cabinets, from `least` to `most` of them, and gives the cabinets other numbers.
     fn mixed(mut self, random: &mut Random, percent: usize, least: usize, most: usize) -> Layout {
@@ -69,7 +80,7 @@ pub const DUCTS: [&[usize]; 6] =
 /// A style's name, and how a layout of it is made.
 pub type Style = (&'static str, fn(&mut Random) -> Layout);
 
-pub const STYLES: [Style; 12] = [
+pub const STYLES: [Style; 14] = [
     ("dense", dense),
     ("sparse", sparse),
     ("tree-like", tree_like),
@@ -82,6 +93,8 @@ pub const STYLES: [Style; 12] = [
     ("ladder of equal loops", equal_loops),
     ("sets of mates", sets_of_mates),
     ("loops of mates", loops_of_mates),
+    ("ladders", ladders),
+    ("short cuts", short_cuts),
 ];
 
 /// Some hundred cabinets: a chain then loops, random spans, or pairwise doubling.
@@ -324,6 +337,63 @@ fn loops_of_mates(random: &mut Random) -> Layout {
         }
     }
     layout.mixed(random, 70, 0, 2)
+}
+
+/// Two chains of so many cabinets each, and a rung between each two of them.
+pub fn ladder(rungs: usize) -> Layout {
+    let mut layout = Layout::of(2 * rungs);
+    layout.chain(0, rungs);
+    layout.chain(rungs, rungs);
+    for rung in 0..rungs {
+        layout.add(rung, rungs + rung);
+    }
+    layout
+}
+
+/// Ladders that lack some of their spans, one behind the other, some joined by a cabinet, others by a
+/// span; few spans beside, most of these mates.
+fn ladders(random: &mut Random) -> Layout {
+    let mut layout = Layout::of(1);
+    let lacking = *random.pick(&[0, 10, 30]);
+    for _ in 0..random.between(1, 3) {
+        let first = layout.cabinets - usize::from(random.chance(70));
+        let next = ladder(random.between(1, 6));
+        if first == layout.cabinets {
+            layout.add(random.below(first), first);
+        }
+        layout.cabinets = first + next.cabinets;
+        for Span { a, b, .. } in next.spans {
+            if !random.chance(lacking) {
+                layout.add(first + a, first + b);
+            }
+        }
+    }
+    layout.lay(random, 40, &[1, 2]);
+    for _ in 0..random.below(4) {
+        if let Some(&span) = layout.spans.get(random.below(layout.spans.len().max(1))) {
+            layout.spans.push(span);
+        }
+    }
+    layout.mixed(random, 50, 0, 2)
+}
+
+/// Two long ways from end to end, and several short ones from the first cabinet of one to the last of
+/// the other. The shortest way takes one of these; two routes that are apart take none, or one there
+/// and another back.
+fn short_cuts(random: &mut Random) -> Layout {
+    let mut layout = Layout::of(4);
+    let [start, end, one, other] = [0, 1, 2, 3];
+    layout.way(start, one, random.below(2));
+    layout.way(other, end, random.below(2));
+    let short = random.below(3);
+    for _ in 0..random.between(1, 3) {
+        layout.way(one, other, short);
+    }
+    for (from, to) in [(one, end), (start, other)] {
+        let between = random.between(1, 5);
+        layout.way(from, to, between);
+    }
+    layout.mixed(random, 80, 0, 1)
 }
 
 /// Every list of `count` of these.

@@ -1,7 +1,8 @@
-//! The definitions of document 01, with the exchanges and the ducts of document 02's second and third
-//! requests, word for word, for small networks: every loss is tried, every simple cycle is searched
-//! for. Slow on purpose.
+//! The definitions of document 01, with the exchanges, the ducts and the routes of document 02's
+//! requests 2, 3 and 5, word for word, for small networks: every loss is tried, every simple cycle and
+//! every route is searched for. Slow on purpose.
 
+use crate::pairs::Pair;
 use crate::second::groups::Network;
 use crate::spans::Span;
 
@@ -209,6 +210,52 @@ fn in_order(items: Vec<usize>, before: impl Fn(usize, usize) -> bool) -> Vec<usi
     let places: Vec<usize> = ordered.iter().map(|&item| place(item)).collect();
     assert!(places.iter().copied().eq(0..items.len()), "the order is strict and total");
     ordered
+}
+
+/// Every route from a to b, a way without a repeated cabinet, as its spans in travelling order.
+pub fn routes(plant: Plant, a: usize, b: usize) -> Vec<Vec<usize>> {
+    let mut found = Vec::new();
+    go_on(plant, b, &mut vec![a], &mut Vec::new(), &mut found);
+    found
+}
+
+/// Goes on to b in every way from the last of the cabinets met, over these spans so far.
+fn go_on(
+    plant: Plant,
+    b: usize,
+    met: &mut Vec<usize>,
+    taken: &mut Vec<usize>,
+    found: &mut Vec<Vec<usize>>,
+) {
+    let here = met[met.len() - 1];
+    if here == b {
+        return found.push(taken.clone());
+    }
+    for number in plant.spans() {
+        let span = plant.network.spans[number];
+        for (from, there) in [(span.a, span.b), (span.b, span.a)] {
+            if from == here && !met.contains(&there) {
+                met.push(there);
+                taken.push(number);
+                go_on(plant, b, met, taken, found);
+                taken.pop();
+                met.pop();
+            }
+        }
+    }
+}
+
+/// Every two routes from a to b such that no span of one is a span or a mate of a span of the other.
+pub fn pairs(plant: Plant, a: usize, b: usize) -> Vec<Pair> {
+    let routes = routes(plant, a, b);
+    let meet = |one: &[usize], other: &[usize]| {
+        one.iter().any(|&s| other.iter().any(|&t| plant.in_one_set(s, t)))
+    };
+    let beside = |one: &Vec<usize>| {
+        let apart = routes.iter().filter(|other| !meet(one, other));
+        apart.map(|other| [one.clone(), other.clone()]).collect::<Vec<Pair>>()
+    };
+    routes.iter().flat_map(beside).collect()
 }
 
 /// The names after a span, of the items numbered from 0: `without` and `with` say whether two

@@ -5,12 +5,15 @@
 //!     differential --program PATH               the program at PATH
 //!     differential --seeded-bug                 faults put in on purpose must be found
 
-use differential::cases::Case;
+use differential::cases::{Case, Room};
 use differential::compare::{compare, Tally};
 use differential::engine::Engine;
 use differential::incremental::Incremental;
+use differential::second::routes::OTHER_CHOICES;
 use differential::second::Second;
-use differential::{ducts, exchanges, faults, forecasts, histories, journals, program, refusals};
+use differential::{
+    ducts, exchanges, faults, forecasts, histories, journals, program, refusals, routes,
+};
 use std::process::ExitCode;
 use std::time::{Duration, Instant};
 
@@ -74,14 +77,18 @@ impl Test {
         Test { engine, second: Second::new(), tally: Tally::default(), fault: None }
     }
 
-    fn case(&mut self, case: &Case, seed: u64) {
+    /// Compares a case. Gives the bytes that all its answers take, as far as they were counted.
+    fn case(&mut self, case: &Case, seed: u64) -> usize {
         if self.fault.is_some() {
-            return;
+            return 0;
         }
         let compared = compare(self.engine.as_ref(), &self.second, case, seed, &mut self.tally);
-        self.fault = compared.err().map(|fault| {
-            format!("{} differs: {fault}\n{}\nseed {seed}", self.engine.name(), case.describe())
-        });
+        compared.unwrap_or_else(|fault| {
+            let name = self.engine.name();
+            let case = case.describe();
+            self.fault = Some(format!("{name} differs: {fault}\n{case}\nseed {seed}"));
+            0
+        })
     }
 
     /// A case that does not come from a seed: each has other contents in its buffers.
@@ -109,6 +116,7 @@ impl Test {
         self.cases(&histories::unmarked(), seed);
         self.cases(&exchanges::known(), seed);
         self.cases(&ducts::known(), seed);
+        self.cases(&routes::known(), seed);
         self.cases(&refusals::all(), seed);
         self.cases(&refusals::empty_buffers(), seed);
         self.cases(&forecasts::known(), seed);
@@ -119,13 +127,29 @@ impl Test {
             journals::every_mark(cabinets, spans, &mut |case| self.given(&case, seed));
         }
         self.every_list_in_ducts(seed);
-        for small in seed..seed + SMALL_JOURNALS {
-            journals::every_room(small, &mut |case| self.given(&case, small));
+        for (cabinets, spans) in [(2, 2), (2, 3), (2, 4), (3, 3), (3, 4), (4, 3)] {
+            journals::every_two_routes(cabinets, spans, &mut |case| self.given(&case, seed));
         }
+        self.every_room(seed, SMALL_JOURNALS);
         self.random(seed, RANDOM_JOURNALS);
         self.cases(&histories::largest(), seed);
         self.cases(&ducts::chain_of_mates(), seed);
+        self.cases(&routes::long_ladder(), seed);
         self.every_number();
+    }
+
+    /// Small journals with the seeds from `first` on, each with every length of the answer buffer
+    /// from 0 to one more than it takes.
+    fn every_room(&mut self, first: u64, count: u64) {
+        for seed in first..first + count {
+            let mut case = journals::small(seed);
+            let needed = self.case(&case, seed);
+            for room in 0..=needed + 1 {
+                case.answers = Room::Bytes(room);
+                case.returned = (room < needed).then_some(11);
+                self.given(&case, seed);
+            }
+        }
     }
 
     /// Every list of a few spans between a few cabinets, some of the spans in ducts.
@@ -155,7 +179,7 @@ impl Test {
     /// the forecast knows by some forecast, with runs in the room forecast unless it is 3.
     fn every_number(&mut self) {
         let Tally { returned, forecast, exact, .. } = &self.tally;
-        let runs = (0..=13).map(|number| ("run", number, returned[number]));
+        let runs = (0..=14).map(|number| ("run", number, returned[number]));
         let forecasts = [0, 3, 4, 5].map(|number| ("forecast", number, forecast[number]));
         let exact = [0, 4, 5].map(|number| ("run in the room forecast", number, exact[number]));
         let mut all = runs.chain(forecasts).chain(exact);
@@ -168,12 +192,12 @@ impl Test {
         if let Some(fault) = &self.fault {
             return Err(fault.clone());
         }
-        let Tally { journals, returned, commands, notices, forecast, exact } = self.tally;
+        let Tally { journals, returned, commands, notices, pairs, forecast, exact } = self.tally;
         Ok(format!(
             "{} equals second, every byte: {journals} journals ({} accepted to the end, refused by \
-             1 to 13: {:?}), {commands} commands, {notices} notices; {} forecasts ({} accepted, \
-             refused by 3 to 5: {:?}), {} runs with exactly the room forecast, {} of them of \
-             damaged journals",
+             1 to 14: {:?}), {commands} commands, {notices} notices; {pairs} pairs of routes, all \
+             of which serve; {} forecasts ({} accepted, refused by 3 to 5: {:?}), {} runs with \
+             exactly the room forecast, {} of them of damaged journals",
             self.engine.name(),
             returned[0],
             &returned[1..],
@@ -202,10 +226,11 @@ fn null_pointers(_: u64) -> Result<String, String> {
 
 /// Every fault put in on purpose must be found: an engine's by the comparison with the second
 /// implementation, and one that both have by the planner beside the run, by the histories that are
-/// known beforehand, or by a run with exactly the room forecast.
+/// known beforehand, or by a run with exactly the room forecast. A choice of routes that serve is no
+/// fault, and must be accepted.
 fn seeded_bugs(seed: u64) -> Result<String, String> {
     let mut found = 0;
-    let known = [ducts::known(), refusals::all()].concat();
+    let known = [ducts::known(), routes::known(), refusals::all()].concat();
     let runs = faults::engines().into_iter().map(|named| (", second ", named));
     let forecasts = faults::forecasts().into_iter().map(|named| ("the forecast is", named));
     for (said, (name, engine)) in runs.chain(forecasts) {
@@ -222,12 +247,12 @@ fn seeded_bugs(seed: u64) -> Result<String, String> {
     for (fault, said) in faults::IN_EXCHANGES {
         let test = || in_both(|| Second::with_misfeed(fault));
         found_by(said, &format!("{fault:?} in both"), test(), seed)?;
-        found_in(&exchanges::known(), &format!("{fault:?} in both"), test(), seed)?;
+        found_in(&exchanges::known(), KNOWN, &format!("{fault:?} in both"), test(), seed)?;
         found += 2;
     }
     for fault in faults::IN_DUCTS {
         let test = in_both(|| Second::with_misduct(fault));
-        found_in(&known, &format!("{fault:?} in both"), test, seed)?;
+        found_in(&known, KNOWN, &format!("{fault:?} in both"), test, seed)?;
         found += 1;
     }
     for (fault, said) in faults::IN_DUCTS_BY_PLANNER {
@@ -235,13 +260,42 @@ fn seeded_bugs(seed: u64) -> Result<String, String> {
         found_by(said, &format!("{fault:?} in both"), test, seed)?;
         found += 1;
     }
+    for (fault, said) in faults::IN_ROUTES {
+        let test = Test::new(Box::new(Second::with_misroute(fault)));
+        found_by(said, &format!("{fault:?}"), test, seed)?;
+        found += 1;
+    }
+    for (fault, said) in faults::IN_REFUSALS_OF_ROUTES {
+        let test = in_both(|| Second::with_misroute(fault));
+        found_in(&known, said, &format!("{fault:?} in both"), test, seed)?;
+        found += 1;
+    }
     for (name, misforecast) in faults::TOO_SMALL {
         let mut test = in_both(|| Second::with_misforecast(misforecast));
-        test.cases(&[histories::marked(), exchanges::known(), ducts::known()].concat(), seed);
+        let known = [histories::marked(), exchanges::known(), ducts::known(), routes::known()];
+        test.cases(&known.concat(), seed);
         found_by("bytes of room that are forecast", &format!("{name} in both"), test, seed)?;
         found += 1;
     }
-    Ok(format!("{found} faults put in on purpose, ties broken the other way among them, are found"))
+    let accepted = other_choices(seed)?;
+    Ok(format!(
+        "{found} faults put in on purpose, ties broken the other way among them, are found; \
+         {accepted} pairs of routes by other choices are accepted"
+    ))
+}
+
+/// Routes by every other choice must be accepted. Gives the number of pairs.
+fn other_choices(seed: u64) -> Result<usize, String> {
+    let mut pairs = 0;
+    for choice in OTHER_CHOICES {
+        let mut test = Test::new(Box::new(Second::with_choice(choice)));
+        test.cases(&routes::known(), seed);
+        test.every_room(seed, 20);
+        test.random(seed, 1000);
+        test.result().map_err(|fault| format!("{choice:?} is not accepted: {fault}"))?;
+        pairs += test.tally.pairs;
+    }
+    Ok(pairs)
 }
 
 /// The engine and the second implementation with the same fault.
@@ -262,11 +316,20 @@ fn found_by(said: &str, name: &str, mut test: Test, seed: u64) -> Result<(), Str
     Err(format!("not found: {name}"))
 }
 
-/// Some of these cases must go against what is known beforehand.
-fn found_in(cases: &[Case], name: &str, mut test: Test, seed: u64) -> Result<(), String> {
+/// What is said of a case that goes against what is known beforehand.
+const KNOWN: &str = "known beforehand";
+
+/// One of these cases must be the first with a fault, and these words must be said of it.
+fn found_in(
+    cases: &[Case],
+    said: &str,
+    name: &str,
+    mut test: Test,
+    seed: u64,
+) -> Result<(), String> {
     test.cases(cases, seed);
     match test.fault {
-        Some(fault) if fault.contains("known beforehand") => Ok(()),
+        Some(fault) if fault.contains(said) => Ok(()),
         _ => Err(format!("not known to be wrong: {name}")),
     }
 }

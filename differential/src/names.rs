@@ -1,11 +1,12 @@
 //! The planner's name list, fed the answers as bytes, and the whole of demand 3 checked beside a
-//! run of the second implementation; the answers about exchanges, and those about sole spans, against
-//! what the planner knows.
+//! run of the second implementation; the answers about exchanges, those about sole spans and the
+//! routes, against what the planner knows.
 
 mod marks;
 mod mates;
 
 use crate::kinds::{ByKind, Kind, KINDS};
+use crate::pairs::Pair;
 use crate::second::book::{sizes, Book};
 use crate::second::command::Command;
 use crate::second::Accepted;
@@ -40,6 +41,7 @@ pub enum Answer {
     Marked,
     /// The byte is 1 if the ring holds an exchange.
     Fed(u8),
+    Routes(Pair),
     /// In thousandths.
     Share(usize),
     Other,
@@ -52,6 +54,9 @@ pub fn decode(bytes: &[u8]) -> Option<(Answer, usize)> {
         let two = bytes.get(at..at + 2)?;
         Some(256 * two[0] as usize + two[1] as usize)
     };
+    let list = |at: usize| -> Option<Vec<usize>> {
+        (0..field(at)?).map(|i| field(at + 2 + 2 * i)).collect()
+    };
     let other = |length: usize| bytes.get(..length).map(|_| (Answer::Other, length));
     match *bytes.first()? {
         0x81 => Some((Answer::Cabinet(field(1)?), 3)),
@@ -62,15 +67,17 @@ pub fn decode(bytes: &[u8]) -> Option<(Answer, usize)> {
         }
         0x83 | 0x84 => other(3),
         0x85 => other(4),
-        0x86 => {
-            let places = (0..field(1)?).map(|i| 3 + 2 * i);
-            let spans: Option<Vec<usize>> = places.map(field).collect();
-            Some((Answer::SoleSpans(spans?), 3 + 2 * field(1)?))
-        }
+        0x86 => Some((Answer::SoleSpans(list(1)?), 3 + 2 * field(1)?)),
         0x87 => other(3 + 2 * field(1)?),
         0x88 => Some((Answer::IsSole(*bytes.get(1)?), 2)),
         0x89 => Some((Answer::Marked, 1)),
         0x8A => Some((Answer::Fed(*bytes.get(1)?), 2)),
+        0x8C => {
+            let one = list(1)?;
+            let other = list(3 + 2 * one.len())?;
+            let length = 5 + 2 * (one.len() + other.len());
+            Some((Answer::Routes([one, other]), length))
+        }
         0x8F => Some((Answer::Share(field(1)?), 3)),
         _ => None,
     }
@@ -90,6 +97,7 @@ fn answering(command: Command) -> u8 {
         Command::IsSole(_) => 0x88,
         Command::Mark(_) => 0x89,
         Command::IsFed(_) => 0x8A,
+        Command::Routes(..) => 0x8C,
         Command::Share => 0x8F,
     }
 }
@@ -167,8 +175,8 @@ impl<'a> Planner<'a> {
         }
     }
 
-    /// Reads the answer to one more accepted command and checks demand 3, the exchanges and the mates
-    /// up to here.
+    /// Reads the answer to one more accepted command and checks demand 3, the exchanges, the mates and
+    /// the routes up to here.
     pub fn watch(&mut self, accepted: &Accepted) {
         if self.fault.is_some() {
             return;
@@ -179,7 +187,7 @@ impl<'a> Planner<'a> {
         }
     }
 
-    /// What was read, or what demand 3, the exchanges or the mates do not bear.
+    /// What was read, or what demand 3, the exchanges, the mates or the routes do not bear.
     pub fn result(self) -> Result<Read, String> {
         if let Some(fault) = self.fault {
             return Err(fault);

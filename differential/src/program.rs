@@ -5,7 +5,10 @@ use crate::ducts;
 use crate::exchanges;
 use crate::histories::{marked, TRIANGLE, TRIANGLE_ANSWERS};
 use crate::journals::{random_case, Writer};
+use crate::pairs::Pairs;
+use crate::routes;
 use crate::second::command::Capacities;
+use crate::second::routes::Asked;
 use crate::second::Second;
 use crate::spans::Span;
 use std::fs::File;
@@ -17,13 +20,22 @@ const SPANS: usize = 512;
 const ANSWERS: usize = 65_536;
 const LONGEST: usize = 65_536;
 
-/// What the program must write for an input.
-pub fn wanted(input: &[u8]) -> Vec<u8> {
+/// What the program must write for an input, given what it has written: the pairs of routes are
+/// taken from that, and must serve. Where it has no 8C, as at a refusal for want of room, the second
+/// implementation takes a pair of its own.
+fn wanted(input: &[u8], written: &[u8]) -> Result<Vec<u8>, String> {
     if input.len() > LONGEST {
-        return vec![0xFF, 3, 0, 0, 0, 0];
+        return Ok(vec![0xFF, 3, 0, 0, 0, 0]);
     }
     let capacities = Capacities { cabinets: CABINETS, spans: SPANS };
-    let run = Second::new().walk(capacities, input, ANSWERS, &mut |_| ());
+    let second = Second::new();
+    let mut pairs = Pairs::of(written);
+    let choose = &mut |asked: &Asked| match written.get(asked.written) {
+        Some(0x8C) => pairs.next(asked),
+        _ => second.own_pair(asked),
+    };
+    let run = second.walk(capacities, input, ANSWERS, choose, &mut |_| ());
+    pairs.result()?;
     let mut output = run.answers;
     if run.refusal == 0 {
         output.push(0x80);
@@ -31,7 +43,7 @@ pub fn wanted(input: &[u8]) -> Vec<u8> {
         output.extend([0xFF, run.refusal as u8]);
         output.extend((run.place as u32).to_be_bytes());
     }
-    output
+    Ok(output)
 }
 
 /// What the program at `path` writes, its input fed in pieces of so many bytes.
@@ -77,7 +89,7 @@ fn nothing_without_input(path: &str) -> Result<(), String> {
 /// Drives the program on some hundred inputs; gives their number, or the first difference.
 pub fn drive(path: &str, seed: u64) -> Result<usize, String> {
     let triangle = [unhex(TRIANGLE_ANSWERS), vec![0x80]].concat();
-    if wanted(&unhex(TRIANGLE)) != triangle {
+    if wanted(&unhex(TRIANGLE), &triangle)? != triangle {
         return Err("second does not write the triangle as document 01 has it".to_string());
     }
     nothing_without_input(path)?;
@@ -85,7 +97,8 @@ pub fn drive(path: &str, seed: u64) -> Result<usize, String> {
     for (number, input) in inputs.iter().enumerate() {
         let piece = if number % 2 == 0 { 4096 } else { 1 + number % 7 };
         let output = written(path, input, piece)?;
-        let wanted = wanted(input);
+        let wanted =
+            wanted(input, &output).map_err(|fault| format!("input {}\n{fault}", hex(input)))?;
         if output != wanted {
             return Err(format!(
                 "input {}\nwritten {}\nwanted  {}",
@@ -99,7 +112,7 @@ pub fn drive(path: &str, seed: u64) -> Result<usize, String> {
 }
 
 fn inputs(seed: u64) -> Vec<Vec<u8>> {
-    let known = [marked(), exchanges::known(), ducts::known()].concat();
+    let known = [marked(), exchanges::known(), ducts::known(), routes::known()].concat();
     let mut inputs: Vec<Vec<u8>> = known.into_iter().map(|case: Case| case.journal).collect();
     inputs.extend((seed..seed + 300).map(|seed| random_case(seed).journal));
     inputs.extend([CABINETS, CABINETS + 1].map(|count| vec![0x01; count]));
@@ -108,6 +121,7 @@ fn inputs(seed: u64) -> Vec<Vec<u8>> {
     }
     inputs.extend([LONGEST, LONGEST + 1, LONGEST + 2, 200_000].map(questions));
     inputs.push(too_many_answers());
+    inputs.push(too_many_routes());
     inputs
 }
 
@@ -137,5 +151,15 @@ fn too_many_answers() -> Vec<u8> {
     (0..CABINETS).for_each(|_| writer.cabinet());
     (1..CABINETS).for_each(|cabinet| writer.span(cabinet - 1, cabinet));
     (0..200).for_each(|_| writer.command(0x06, &[0, CABINETS - 1]));
+    writer.bytes
+}
+
+/// A loop, and the two ways round it again and again, until the answer buffer is full. Every pair has
+/// the same length.
+fn too_many_routes() -> Vec<u8> {
+    let mut writer = Writer::new();
+    (0..CABINETS).for_each(|_| writer.cabinet());
+    (0..CABINETS).for_each(|cabinet| writer.span(cabinet, (cabinet + 1) % CABINETS));
+    (0..200).for_each(|_| writer.command(0x0C, &[0, CABINETS / 2]));
     writer.bytes
 }

@@ -1,6 +1,6 @@
-//! Every refusal from 1 to 13, by every way to it, and the order of the lines where two apply.
+//! Every refusal from 1 to 14, by every way to it, and the order of the lines where two apply.
 
-use crate::cases::{unhex, Case};
+use crate::cases::{one_of, unhex, Case, OneOf, Room};
 use crate::engine::{work_needed, LONGEST_JOURNAL};
 use crate::journals::{unknown_bytes, Writer, COMMANDS};
 
@@ -19,6 +19,7 @@ pub fn all() -> Vec<Case> {
         no_duct(),
         no_capacity(),
         across_districts(),
+        no_shared_ring(),
         no_room(),
     ];
     parts.into_iter().flatten().collect()
@@ -95,6 +96,18 @@ const MATES: Beginning = Beginning {
 /// The same with a cabinet and a span to spare.
 const MATES_TO_SPARE: Beginning = Beginning { c: 4, s: 3, ..MATES };
 
+/// Three cabinets in a chain.
+const CHAIN: Beginning = Beginning {
+    c: 3,
+    s: 2,
+    journal: "01 01 01 02 0000 0001 02 0001 0002",
+    answers: "81 0000 81 0001 81 0002 82 0000 0000 0001 01 0001 0000 \
+              82 0001 0001 0001 01 0002 0000",
+    commands: 5,
+    cabinets: 3,
+    spans: 2,
+};
+
 impl Beginning {
     /// With these bytes behind it, whose first command is refused with this number. No room is
     /// left for an answer, so each number comes before 11.
@@ -114,17 +127,18 @@ impl Beginning {
         self.stopped(label, &writer.bytes, number)
     }
 
-    /// With a command behind it that is accepted with this answer, which fits to the byte.
-    fn goes_on(&self, label: &str, byte: u8, operands: &[usize], answer: Vec<u8>) -> Case {
+    /// With a command behind it that is accepted with one of these answers, which fits to the byte.
+    fn goes_on(&self, label: &str, byte: u8, operands: &[usize], answer: OneOf) -> Case {
         let mut writer = Writer::new();
         writer.command(byte, operands);
         let journal = [unhex(self.journal), writer.bytes].concat();
-        let answers = [unhex(self.answers), answer].concat();
-        let (place, written) = (journal.len() as u32, answers.len() as u32);
+        let before = unhex(self.answers);
+        let (place, written) = (journal.len() as u32, (before.len() + answer[0].len()) as u32);
         let cabinets = self.cabinets + u32::from(byte == 1);
         let spans = self.spans + u32::from(byte == 0x02 || byte == 0x0B);
         let report = [0, place, self.commands + 1, written, cabinets, spans];
-        Case::with_room(label, self.c, self.s, journal, 0).leaves(answers, report)
+        let case = Case::with_room(label, self.c, self.s, journal, 0);
+        case.leaves_one_of(vec![vec![before], answer], report)
     }
 }
 
@@ -165,7 +179,7 @@ fn short_buffers() -> Vec<Case> {
             case.report = report;
             cases.push(case.clone());
             case.journal = Vec::new();
-            case.answers = 0;
+            case.answers = Room::Bytes(0);
             cases.push(case);
         }
     }
@@ -219,7 +233,7 @@ fn unknown_cabinets() -> Vec<Case> {
             cases.push(SMALL.stopped_at("cabinet unknown", byte, &[unknown], 6));
             cases.push(MARKED.stopped_at("cabinet unknown, with exchanges", byte, &[unknown], 6));
         }
-        for byte in [2, 5, 6, 7] {
+        for byte in [0x02, 0x05, 0x06, 0x07, 0x0C] {
             cases.push(SMALL.stopped_at("first unknown", byte, &[unknown, 0], 6));
             cases.push(SMALL.stopped_at("second unknown", byte, &[1, unknown], 6));
             cases.push(SMALL.stopped_at("equal and unknown", byte, &[unknown, unknown], 6));
@@ -233,8 +247,9 @@ fn unknown_cabinets() -> Vec<Case> {
             }
         }
     }
-    for byte in [2, 5, 6, 7] {
+    for byte in [0x02, 0x05, 0x06, 0x07, 0x0C] {
         cases.push(NOTHING.stopped_at("none at all", byte, &[0, 0], 6));
+        cases.push(ONE_CABINET.stopped_at("one cabinet alone", byte, &[0, 1], 6));
     }
     for duct in [0, 1] {
         cases.push(NOTHING.stopped_at("none at all, 0B", 0x0B, &[0, 0, duct], 6));
@@ -260,10 +275,12 @@ fn unknown_spans() -> Vec<Case> {
 
 fn equal_cabinets() -> Vec<Case> {
     let mut cases = Vec::new();
-    for byte in [2, 5] {
+    for byte in [0x02, 0x05, 0x0C] {
         for cabinet in 0..3 {
             cases.push(SMALL.stopped_at("equal, 8 before 9", byte, &[cabinet, cabinet], 8));
             cases.push(SMALL_TO_SPARE.stopped_at("equal", byte, &[cabinet, cabinet], 8));
+            cases.push(MARKED.stopped_at("equal in a ring", byte, &[cabinet, cabinet], 8));
+            cases.push(MATES.stopped_at("equal beside mates", byte, &[cabinet, cabinet], 8));
         }
         cases.push(ONE_CABINET.stopped_at("one cabinet", byte, &[0, 0], 8));
     }
@@ -286,14 +303,13 @@ fn already_exchange() -> Vec<Case> {
     for beginning in [MARKED, MARKED_TO_SPARE] {
         for exchange in [1, 2] {
             cases.push(beginning.stopped_at("12, before 11", 0x09, &[exchange], 12));
-            let mut roomy = beginning.stopped_at("12 with room", 0x09, &[exchange], 12);
-            roomy.answers += 1;
-            cases.push(roomy);
+            let roomy = beginning.stopped_at("12 with room", 0x09, &[exchange], 12);
+            cases.push(roomy.with_more(1));
         }
-        cases.push(beginning.goes_on("another of its ring", 0x09, &[0], unhex("89")));
+        cases.push(beginning.goes_on("another of its ring", 0x09, &[0], one_of("89")));
     }
     for cabinet in 0..3 {
-        cases.push(SMALL.goes_on("09 with C and S full", 0x09, &[cabinet], unhex("89")));
+        cases.push(SMALL.goes_on("09 with C and S full", 0x09, &[cabinet], one_of("89")));
     }
     cases
 }
@@ -305,12 +321,11 @@ fn no_duct() -> Vec<Case> {
     for beginning in [SMALL, SMALL_TO_SPARE, MARKED, MARKED_TO_SPARE, MATES, MATES_TO_SPARE] {
         for [a, b] in [[0, 1], [1, 0], [0, 2], [2, 1]] {
             cases.push(beginning.stopped_at("13, before 11", 0x0B, &[a, b, 0], 13));
-            let mut roomy = beginning.stopped_at("13 with room", 0x0B, &[a, b, 0], 13);
-            roomy.answers += 12;
-            cases.push(roomy);
+            let roomy = beginning.stopped_at("13 with room", 0x0B, &[a, b, 0], 13);
+            cases.push(roomy.with_more(12));
         }
     }
-    let answer = unhex("82 0001 0001 0001 01 0002 0000");
+    let answer = one_of("82 0001 0001 0001 01 0002 0000");
     for duct in [1, 255, 256, 0xFF00, 0xFFFF] {
         let operands = [2, 1, duct];
         cases.push(SMALL_TO_SPARE.goes_on("no 13", 0x0B, &operands, answer.clone()));
@@ -342,10 +357,38 @@ fn across_districts() -> Vec<Case> {
     cases
 }
 
-/// A beginning, a command behind it, and its answer.
+/// 14 is for two cabinets that share no ring, whether they share a district or not, and comes before
+/// 11. 10 is not for 0C.
+fn no_shared_ring() -> Vec<Case> {
+    let two_rings = [
+        (TWO_CABINETS, [0, 1], "14, no span"),
+        (SMALL, [0, 1], "14, one span"),
+        (SMALL, [0, 2], "14, across districts"),
+        (SMALL, [1, 2], "14, across districts"),
+        (SMALL_TO_SPARE, [0, 1], "14, one span"),
+        (MARKED, [0, 2], "14, a ring in another district"),
+        (MARKED, [1, 2], "14, a ring in another district"),
+        (MATES, [0, 1], "14, mates protect nothing"),
+        (MATES, [0, 2], "14, across districts"),
+        (MATES_TO_SPARE, [0, 1], "14, mates protect nothing"),
+        (CHAIN, [0, 1], "14, a chain"),
+        (CHAIN, [0, 2], "14, from end to end of a chain"),
+    ];
+    let mut cases = Vec::new();
+    for (beginning, [a, b], label) in two_rings {
+        for pair in [[a, b], [b, a]] {
+            cases.push(beginning.stopped_at(label, 0x0C, &pair, 14));
+            cases.push(beginning.stopped_at(label, 0x0C, &pair, 14).with_more(5));
+            cases.push(beginning.stopped_at(label, 0x0C, &pair, 14).with_more(100));
+        }
+    }
+    cases
+}
+
+/// A beginning, a command behind it, and its answer, or one of several.
 type Answered = (Beginning, u8, &'static [usize], &'static str);
 
-const ANSWERED: [Answered; 27] = [
+const ANSWERED: [Answered; 31] = [
     (SMALL_TO_SPARE, 0x01, &[], "81 0003"),
     (SMALL_TO_SPARE, 0x02, &[0, 2], "82 0001 0001 0001 01 0002 0000"),
     (SMALL_TO_SPARE, 0x02, &[0, 1], "82 0001 0000 0001 02 0001 0000"),
@@ -373,18 +416,20 @@ const ANSWERED: [Answered; 27] = [
     (MATES_TO_SPARE, 0x02, &[0, 1], "82 0002 0000 0001 02 0001 0000"),
     (MATES_TO_SPARE, 0x06, &[1, 0], "86 0001 0000"),
     (MATES_TO_SPARE, 0x08, &[1], "88 01"),
+    (MARKED, 0x0C, &[0, 1], "8C 0001 0000 0001 0001 | 8C 0001 0001 0001 0000"),
+    (MARKED, 0x0C, &[1, 0], "8C 0001 0000 0001 0001 | 8C 0001 0001 0001 0000"),
+    (MARKED_TO_SPARE, 0x0C, &[0, 1], "8C 0001 0000 0001 0001 | 8C 0001 0001 0001 0000"),
+    (MARKED_TO_SPARE, 0x0C, &[1, 0], "8C 0001 0000 0001 0001 | 8C 0001 0001 0001 0000"),
 ];
 
 /// Each command with every room that is too small for its answer, and with just enough.
 fn no_room() -> Vec<Case> {
     let mut cases = Vec::new();
     for (beginning, byte, operands, answer) in ANSWERED {
-        let answer = unhex(answer);
-        for room in 0..answer.len() {
+        let answer = one_of(answer);
+        for room in 0..answer[0].len() {
             let label = format!("command {byte:02x} {operands:?} with room {room}");
-            let mut case = beginning.stopped_at(&label, byte, operands, 11);
-            case.answers += room;
-            cases.push(case);
+            cases.push(beginning.stopped_at(&label, byte, operands, 11).with_more(room));
         }
         let label = format!("command {byte:02x} {operands:?} with just enough room");
         cases.push(beginning.goes_on(&label, byte, operands, answer));

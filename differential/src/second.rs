@@ -1,6 +1,7 @@
-//! A second implementation of document 01 and of document 02's first three requests, to compare
+//! A second implementation of document 01 and of document 02's requests 1, 2, 3 and 5, to compare
 //! others with. After each command everything is computed anew from the list of spans; nothing is
-//! kept but the naming book and the list of exchanges.
+//! kept but the naming book and the list of exchanges. Which pair of routes 0C is answered with is not
+//! settled: a run takes the pairs from whoever asks for it, or makes its own choice.
 
 pub mod book;
 pub mod command;
@@ -8,13 +9,16 @@ pub mod exchanges;
 pub mod forecast;
 pub mod groups;
 pub mod mates;
+pub mod routes;
 
 use crate::engine::{Call, Engine, Forecast, REPORT_NUMBERS};
+use crate::pairs::Pair;
 use book::{Book, Fault};
 use command::{answer, read, refusal, Capacities, Command};
 use exchanges::{Exchanges, Misfeed};
 use forecast::forecast;
 use mates::Misduct;
+use routes::{Asked, Choice, Misroute};
 use std::rc::Rc;
 
 #[derive(Default)]
@@ -22,11 +26,16 @@ pub struct Second {
     fault: Option<Fault>,
     misfeed: Option<Misfeed>,
     misduct: Option<Misduct>,
+    choice: Choice,
+    misroute: Option<Misroute>,
     misforecast: Option<Misforecast>,
 }
 
 /// A fault put in on purpose: what is forecast for a journal in place of its right forecast.
 pub type Misforecast = fn(&[u8], Forecast) -> Forecast;
+
+/// Gives the pair that a 0C is answered with.
+pub type Choose<'a> = dyn FnMut(&Asked) -> Pair + 'a;
 
 /// The state of a run: the naming book, and the exchanges beside it.
 pub struct State {
@@ -92,9 +101,28 @@ impl Second {
         Second { misduct: Some(misduct), ..Second::default() }
     }
 
+    /// The same with another choice of the pairs that serve.
+    pub fn with_choice(choice: Choice) -> Second {
+        Second { choice, ..Second::default() }
+    }
+
+    /// The same with a fault in the routes.
+    pub fn with_misroute(misroute: Misroute) -> Second {
+        Second { misroute: Some(misroute), ..Second::default() }
+    }
+
     /// The same with a fault in the forecast.
     pub fn with_misforecast(misforecast: Misforecast) -> Second {
         Second { misforecast: Some(misforecast), ..Second::default() }
+    }
+
+    /// Its own choice of a pair.
+    pub fn own_pair(&self, asked: &Asked) -> Pair {
+        let right = self.choice.pair(asked.network, asked.a, asked.b).unwrap_or_default();
+        match self.misroute {
+            Some(fault) => fault.pair(asked, right),
+            None => right,
+        }
     }
 
     /// Runs a journal from an empty network. Each accepted command is shown to `watch`.
@@ -103,6 +131,7 @@ impl Second {
         capacities: Capacities,
         journal: &[u8],
         room: usize,
+        choose: &mut Choose,
         watch: &mut dyn FnMut(Accepted),
     ) -> Run {
         let mut state = State {
@@ -111,8 +140,12 @@ impl Second {
         };
         let mut run = Run::default();
         while run.place < journal.len() {
-            let left = room - run.answers.len();
-            let step = match step(&state, capacities, &journal[run.place..], left) {
+            let front = Front {
+                bytes: &journal[run.place..],
+                written: run.answers.len(),
+                left: room - run.answers.len(),
+            };
+            let step = match self.step(&state, capacities, front, choose) {
                 Ok(step) => step,
                 Err(number) => {
                     run.refusal = number;
@@ -133,22 +166,57 @@ impl Second {
         run
     }
 
-    /// The bytes that the answers of this journal take with ample room.
-    pub fn answer_bytes(&self, c: u32, s: u32, journal: &[u8]) -> usize {
-        self.walk(Capacities::new(c, s), journal, usize::MAX, &mut |_| ()).answers.len()
-    }
-
     /// The run with all its buffers; each accepted command is shown to `watch`.
-    pub fn run_watched(&self, call: Call, watch: &mut dyn FnMut(Accepted)) -> u32 {
+    pub fn run_watched(
+        &self,
+        call: Call,
+        choose: &mut Choose,
+        watch: &mut dyn FnMut(Accepted),
+    ) -> u32 {
         let number = call.start_refusal();
         if number != 0 {
             return number;
         }
         let capacities = Capacities::new(call.c, call.s);
-        let run = self.walk(capacities, call.journal, call.answers.len(), watch);
+        let run = self.walk(capacities, call.journal, call.answers.len(), choose, watch);
         call.answers[..run.answers.len()].copy_from_slice(&run.answers);
         call.ends(report_of(&run))
     }
+
+    /// Takes the command at the front, or gives the number that refuses it.
+    fn step(
+        &self,
+        state: &State,
+        capacities: Capacities,
+        front: Front,
+        choose: &mut Choose,
+    ) -> Result<Taken, u32> {
+        let (command, length) = read(front.bytes)?;
+        let right = refusal(command, state, capacities);
+        let refused = self.misroute.map_or(right, |f| f.refusal(command, &state.book, right));
+        if let Some(number) = refused {
+            return Err(number);
+        }
+        let next = state.after(command);
+        let network = &state.book.network;
+        let Front { written, left, .. } = front;
+        let mut pair = |a, b| choose(&Asked { network, a, b, written, left });
+        let mut answer = answer(command, state, next.as_ref().unwrap_or(state), &mut pair);
+        if let Some(fault) = self.misroute {
+            fault.spoil(&mut answer);
+        }
+        if answer.len() > left {
+            return Err(11);
+        }
+        Ok(Taken { command, length, answer, state: next })
+    }
+}
+
+/// The journal from the command on that is to be taken, and the answer bytes written and left.
+struct Front<'a> {
+    bytes: &'a [u8],
+    written: usize,
+    left: usize,
 }
 
 /// An accepted command, its length in the journal, its answer, and the state after it where it
@@ -158,20 +226,6 @@ struct Taken {
     length: usize,
     answer: Vec<u8>,
     state: Option<State>,
-}
-
-/// Takes the command at the front of `bytes`, or gives the number that refuses it.
-fn step(state: &State, capacities: Capacities, bytes: &[u8], left: usize) -> Result<Taken, u32> {
-    let (command, length) = read(bytes)?;
-    if let Some(number) = refusal(command, state, capacities) {
-        return Err(number);
-    }
-    let next = state.after(command);
-    let answer = answer(command, state, next.as_ref().unwrap_or(state));
-    if answer.len() > left {
-        return Err(11);
-    }
-    Ok(Taken { command, length, answer, state: next })
 }
 
 fn report_of(run: &Run) -> [u32; REPORT_NUMBERS] {
@@ -189,7 +243,7 @@ impl Engine for Second {
     }
 
     fn run(&self, call: Call) -> u32 {
-        self.run_watched(call, &mut |_| ())
+        self.run_watched(call, &mut |asked| self.own_pair(asked), &mut |_| ())
     }
 
     fn forecast(&self, journal: &[u8], place: &mut u32, length: &mut u32) -> u32 {

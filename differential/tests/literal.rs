@@ -3,12 +3,14 @@
 
 use differential::layouts::{self, DUCTS};
 use differential::literal::{self, Plant};
+use differential::pairs::{serve, Pair};
 use differential::random::Random;
 use differential::second::book::Book;
 use differential::second::exchanges::{counts, Exchanges};
 use differential::second::groups::{
     cut_cabinets, groups, is_sole, route, shared_mesh, sole_spans, Network,
 };
+use differential::second::routes::{Choice, OTHER_CHOICES};
 use differential::spans::Span;
 
 fn check_groups(network: &Network) {
@@ -137,6 +139,49 @@ fn check_marked(network: &Network, marked: &[usize]) {
     assert_eq!(share, literal::fed_share(plant, marked), "{network:?} {marked:?}");
 }
 
+/// Two different cabinets share a ring exactly if there is a pair of routes; then every choice is one
+/// of these pairs, and all of them serve.
+fn check_routes(network: &Network) {
+    let plant = Plant::of(network);
+    for a in 0..network.cabinets {
+        for b in (0..network.cabinets).filter(|&b| b != a) {
+            let all = literal::pairs(plant, a, b);
+            let ring = literal::share_ring(plant, a, b);
+            assert_eq!(ring, !all.is_empty(), "{network:?} {a} {b}");
+            for choice in [Choice::Own].into_iter().chain(OTHER_CHOICES) {
+                let chosen = choice.pair(network, a, b);
+                assert_eq!(ring, chosen.is_some(), "{network:?} {a} {b} {choice:?}");
+                let is_one = chosen.is_none_or(|pair| all.contains(&pair));
+                assert!(is_one, "{network:?} {a} {b} {choice:?}");
+            }
+            for pair in &all {
+                assert_eq!(serve(&network.spans, a, b, pair), Ok(()), "{network:?} {a} {b}");
+            }
+        }
+    }
+}
+
+/// Of all pairs of lists of up to three numbers, that of a span which is not there among them, those
+/// serve that are pairs of routes.
+fn check_lists(network: &Network) {
+    let plant = Plant::of(network);
+    let numbers: Vec<usize> = (0..=network.spans.len()).collect();
+    let mut lists = Vec::new();
+    (0..=3).for_each(|length| layouts::every_list(&numbers, length, &mut |list| lists.push(list)));
+    for a in 0..network.cabinets {
+        for b in (0..network.cabinets).filter(|&b| b != a) {
+            let all = literal::pairs(plant, a, b);
+            let mut served: Vec<Pair> = Vec::new();
+            for one in &lists {
+                let pairs = lists.iter().map(|other| [one.clone(), other.clone()]);
+                served.extend(pairs.filter(|pair| serve(&network.spans, a, b, pair).is_ok()));
+            }
+            assert_eq!(served.len(), all.len(), "{network:?} {a} {b}");
+            assert!(served.iter().all(|pair| all.contains(pair)), "{network:?} {a} {b}");
+        }
+    }
+}
+
 /// The groups by losses are those of document 01 for the network in which each set of mates is one
 /// span, and so are the lists of 06 and 07.
 fn check_reduced(network: &Network) {
@@ -193,6 +238,7 @@ fn check(network: &Network) {
     check_questions(network);
     check_names(network);
     check_exchanges(network);
+    check_routes(network);
 }
 
 /// Every list of `count` spans from 02 between `cabinets` cabinets, each from less to greater.
@@ -240,6 +286,20 @@ fn every_small_network_reduced() {
     for (cabinets, most) in REDUCED {
         (0..=most).for_each(|count| every_list_in_ducts(cabinets, count, &mut check_reduced));
     }
+}
+
+/// Routes between up to four cabinets have at most three spans. The networks of four spans have them in
+/// one order.
+#[test]
+fn every_pair_of_lists() {
+    for (cabinets, most) in [(2, 3), (3, 3), (4, 2)] {
+        (0..=most).for_each(|count| every_list_in_ducts(cabinets, count, &mut check_lists));
+    }
+    every_list(4, 4, &mut |network| {
+        if network.spans.is_sorted_by_key(|span| (span.a, span.b)) {
+            check_lists(network);
+        }
+    });
 }
 
 /// So many random networks; of these every other one has spans in ducts.

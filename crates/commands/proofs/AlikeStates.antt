@@ -1,4 +1,5 @@
--- States that are alike: their networks are, and names and marks are the same. Every command is refused in both alike, and answered alike.
+-- States that are alike: their networks are, and names and marks are the same. Every command is refused in both alike, and answered alike
+-- under a choice that gives networks alike the same routes.
 use mathlib.Core.Bool.{true, not, _&&_, _||_}
 use mathlib.Core.Option.{Option, none, some}
 use mathlib.Core.Path.{_≡_, refl, _∙_, ap, ap₂, fun-ext}
@@ -6,8 +7,9 @@ use Prim.Native.Nat.{ℕ}
 use lib.Dec.{eqb, leb, ltb}
 use Rattle.graph.specs.Lists.{allIn}
 use Rattle.graph.specs.Below.{anyBelow, count}
-use Rattle.graph.specs.Network.{MateRule, Proper}
+use Rattle.graph.specs.Network.{Network, MateRule, Proper}
 use Rattle.graph.specs.Block.{sharedBlock}
+use Rattle.graph.specs.Route.{Choice}
 use Rattle.graph.proofs.Truth.{and-left, ltb-lt}
 use Rattle.graph.proofs.Alike.{Alike, component-alike, bridge-alike, bridge-block-alike, shared-block-alike, bridges-between-alike, cuts-between-alike}
 use Rattle.naming.specs.Rename.{nameOf}
@@ -15,12 +17,16 @@ use Rattle.naming.specs.Book.{Book, Addition, vertex, edge, neither, feed}
 use Rattle.naming.specs.State.{State}
 use Rattle.naming.proofs.AlikeBooks.{AlikeBooks}
 use Rattle.commands.specs.Field.{Field, cabinet, span, name, number, byte}
-use Rattle.commands.specs.Command.{Command, addCabinet, addSpan, districtName, ringName, sharedMesh, soleSpans, cutCabinets, isSole, markExchange, holdsExchange, addDuctSpan, exchangeShare}
+use Rattle.commands.specs.Command.{Command, addCabinet, addSpan, districtName, ringName, sharedMesh, soleSpans, cutCabinets, isSole, markExchange, holdsExchange, addDuctSpan, routesBetween, exchangeShare}
 use Rattle.commands.specs.Answer.{plain, districtNamed, ringNamed, soleSpansAre, cutCabinetsAre, soleIs, exchangeHeld, shareIs, cabinetAdded, notices}
 use Rattle.commands.specs.Exchange.{ringHoldsExchange, withExchange, thousandths, shareWithExchange}
-use Rattle.commands.specs.Facts.{Demand, differ, noExchange, someDuct, shareDistrict, Facts, addsCabinet, addsSpan, addsNothing, facts, asks, meshAnswer, operandsOf, demandsOf, additionOf, addition, spanAnswer, answerTo, answer}
-use Rattle.commands.specs.Refusal.{Refusal, equalCabinets, alreadyExchange, noDuct, twoDistricts, refusalNumber, Capacities, cabinetKnown, spanKnown, cabinetsKnown, spansKnown, met, cause, meets, fullFor, isFull, lines, refusalOf}
+use Rattle.commands.specs.Facts.{Demand, differ, noExchange, someDuct, shareDistrict, shareRing, Facts, addsCabinet, addsSpan, addsNothing, facts, asks, meshAnswer, routesAnswer, operandsOf, demandsOf, additionOf, addition, spanAnswer, answerTo, answer}
+use Rattle.commands.specs.Refusal.{Refusal, equalCabinets, alreadyExchange, noDuct, twoDistricts, noSharedRing, refusalNumber, Capacities, cabinetKnown, spanKnown, cabinetsKnown, spansKnown, met, cause, meets, fullFor, isFull, lines, refusalOf}
 use Rattle.commands.proofs.Causes.{not-refused-exactly}
+
+-- the choice gives networks alike the same routes
+abbrev pub SameRoutes : Choice → Type 0
+SameRoutes choice = (g h : Network) → Alike g h → (a b : ℕ) → choice h a b ≡ choice g a b
 
 -- Two states with the same names and marks, over networks that are alike.
 pub record AlikeStates (s s′ : State) : Type 0 where
@@ -55,6 +61,7 @@ module _ {s s′ : State} (a : AlikeStates s s′) (rule : MateRule (s .book .ne
   met-alike (noExchange x) = ap not (a .same-marks x)
   met-alike (someDuct d) = refl
   met-alike (shareDistrict x y) = component-alike networks rule′ x y
+  met-alike (shareRing x y) = bridge-block-alike networks rule rule′ x y
 
   meets-alike : (r : Refusal) (c : Command) → meets r s′ c ≡ meets r s c
   unfolding meets
@@ -81,6 +88,7 @@ module _ {s s′ : State} (a : AlikeStates s s′) (rule : MateRule (s .book .ne
         meets-alike noDuct c,
         full-alike caps _,
         meets-alike twoDistricts c,
+        meets-alike noSharedRing c,
       )
 
   -- the same rings hold an exchange
@@ -100,29 +108,6 @@ module _ {s s′ : State} (a : AlikeStates s s′) (rule : MateRule (s .book .ne
   mesh-alike none = refl
   mesh-alike (some t) = rw (a .books .same-blocks)
 
-  -- the answer to a question is the same in both
-  abbrev AnsweredAlike : Facts → Type 0
-  AnsweredAlike addsCabinet = Unit
-  AnsweredAlike (addsSpan e operands demands) = Unit
-  AnsweredAlike (addsNothing q) = q .told s′ ≡ q .told s
-
-  -- so it is with every question about known spans
-  question-alike : Proper (s .book .network) → (c : Command) → spansKnown s c ≡ true → AnsweredAlike (facts c)
-  unfolding facts asks spansKnown operandsOf allIn spanKnown
-  question-alike proper addCabinet known = tt
-  question-alike proper (addSpan x y) known = tt
-  question-alike proper (districtName x) known = ap (λ names. districtNamed (nameOf names x)) (a .books .same-components)
-  question-alike proper (ringName x) known = ap (λ names. ringNamed (nameOf names x)) (a .books .same-bridge-blocks)
-  question-alike proper (sharedMesh x y) known =
-      ap (meshAnswer (s′ .book)) (shared-block-alike networks rule rule′ x y) ∙ mesh-alike (sharedBlock (s .book .network) x y)
-  question-alike proper (soleSpans x y) known = ap soleSpansAre (bridges-between-alike networks rule rule′ x y)
-  question-alike proper (cutCabinets x y) known = ap cutCabinetsAre (cuts-between-alike networks rule′ proper x y)
-  question-alike proper (isSole x) known = ap soleIs (bridge-alike networks rule′ x (ltb-lt _ _ (and-left _ true known)))
-  question-alike proper (markExchange x) known = refl
-  question-alike proper (holdsExchange x) known = ap exchangeHeld (ring-holds-alike x)
-  question-alike proper (addDuctSpan x y d) known = tt
-  question-alike proper exchangeShare known = ap shareIs share-alike
-
   -- an added span is answered with its number, its mesh name and the notices, which are the same where the books after it are alike too
   span-alike : (b b′ : Book) → AlikeBooks b b′ → spanAnswer (s′ .book) b′ ≡ spanAnswer (s .book) b
   unfolding spanAnswer notices
@@ -137,14 +122,39 @@ module _ {s s′ : State} (a : AlikeStates s s′) (rule : MateRule (s .book .ne
         a .books .same-blocks,
       )
 
-  -- so a command that is not refused is answered in one state as it is in the other, where the books after it are alike
-  pub answer-alike : (caps : Capacities) → Proper (s .book .network) → (c : Command) → refusalOf caps s c ≡ none
-      → AlikeBooks (feed (s .book) (addition c)) (feed (s′ .book) (addition c)) → answer s′ c ≡ answer s c
-  unfolding answer addition
-  answer-alike caps proper c accepted after = go (facts c) (question-alike proper c (not-refused-exactly caps s c .0 accepted .spans-known)) after
-    where
-      go : (f : Facts) → AnsweredAlike f → AlikeBooks (feed (s .book) (additionOf f)) (feed (s′ .book) (additionOf f))
-          → answerTo s′ f ≡ answerTo s f
-      go addsCabinet q after = unfold answerTo in ap cabinetAdded (networks .as-many-vertices)
-      go (addsSpan e operands demands) q after = unfold answerTo additionOf in span-alike _ _ after
-      go (addsNothing question) q after = unfold answerTo in ap plain q
+  module _ (choice : Choice) (same-routes : SameRoutes choice) where
+    -- the answer to a question is the same in both
+    abbrev AnsweredAlike : Facts → Type 0
+    AnsweredAlike addsCabinet = Unit
+    AnsweredAlike (addsSpan e operands demands) = Unit
+    AnsweredAlike (addsNothing q) = q .told choice s′ ≡ q .told choice s
+
+    -- so it is with every question about known spans
+    question-alike : Proper (s .book .network) → (c : Command) → spansKnown s c ≡ true → AnsweredAlike (facts c)
+    unfolding facts asks spansKnown operandsOf allIn spanKnown
+    question-alike proper addCabinet known = tt
+    question-alike proper (addSpan x y) known = tt
+    question-alike proper (districtName x) known = ap (λ names. districtNamed (nameOf names x)) (a .books .same-components)
+    question-alike proper (ringName x) known = ap (λ names. ringNamed (nameOf names x)) (a .books .same-bridge-blocks)
+    question-alike proper (sharedMesh x y) known =
+        ap (meshAnswer (s′ .book)) (shared-block-alike networks rule rule′ x y) ∙ mesh-alike (sharedBlock (s .book .network) x y)
+    question-alike proper (soleSpans x y) known = ap soleSpansAre (bridges-between-alike networks rule rule′ x y)
+    question-alike proper (cutCabinets x y) known = ap cutCabinetsAre (cuts-between-alike networks rule′ proper x y)
+    question-alike proper (isSole x) known = ap soleIs (bridge-alike networks rule′ x (ltb-lt _ _ (and-left _ true known)))
+    question-alike proper (markExchange x) known = refl
+    question-alike proper (holdsExchange x) known = ap exchangeHeld (ring-holds-alike x)
+    question-alike proper (addDuctSpan x y d) known = tt
+    question-alike proper (routesBetween x y) known = ap routesAnswer (same-routes _ _ networks x y)
+    question-alike proper exchangeShare known = ap shareIs share-alike
+
+    -- so a command that is not refused is answered in one state as it is in the other, where the books after it are alike
+    pub answer-alike : (caps : Capacities) → Proper (s .book .network) → (c : Command) → refusalOf caps s c ≡ none
+        → AlikeBooks (feed (s .book) (addition c)) (feed (s′ .book) (addition c)) → answer choice s′ c ≡ answer choice s c
+    unfolding answer addition
+    answer-alike caps proper c accepted after = go (facts c) (question-alike proper c (not-refused-exactly caps s c .0 accepted .spans-known)) after
+      where
+        go : (f : Facts) → AnsweredAlike f → AlikeBooks (feed (s .book) (additionOf f)) (feed (s′ .book) (additionOf f))
+            → answerTo choice s′ f ≡ answerTo choice s f
+        go addsCabinet q after = unfold answerTo in ap cabinetAdded (networks .as-many-vertices)
+        go (addsSpan e operands demands) q after = unfold answerTo additionOf in span-alike _ _ after
+        go (addsNothing question) q after = unfold answerTo in ap plain q

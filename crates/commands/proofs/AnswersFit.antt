@@ -11,6 +11,7 @@ use Rattle.graph.specs.Lists.{isIn, allIn}
 use Rattle.graph.specs.Network.{Edge, edgeCount}
 use Rattle.graph.specs.Block.{sharedBlock}
 use Rattle.graph.specs.Between.{isBridgeBetween, bridgesBetween, isCutBetween, cutsBetween}
+use Rattle.graph.specs.Route.{Choice, Serves}
 use Rattle.graph.proofs.Truth.{and-left, ltb-lt}
 use Rattle.graph.proofs.Joined.{edge-count-more}
 use Rattle.graph.proofs.Members.{is-in-head, is-in-tail}
@@ -22,14 +23,14 @@ use Rattle.naming.specs.Rename.{nameOf}
 use Rattle.naming.specs.Book.{Book, edge, enterEdge, feed}
 use Rattle.naming.specs.State.{State, afterAddition, afterRecording}
 use Rattle.commands.specs.Field.{Kind, district, ring, mesh, Field, cabinet, span}
-use Rattle.commands.specs.Command.{Command, addCabinet, addSpan, districtName, ringName, sharedMesh, soleSpans, cutCabinets, isSole, markExchange, holdsExchange, addDuctSpan, exchangeShare}
+use Rattle.commands.specs.Command.{Command, addCabinet, addSpan, districtName, ringName, sharedMesh, soleSpans, cutCabinets, isSole, markExchange, holdsExchange, addDuctSpan, routesBetween, exchangeShare}
 use Rattle.commands.specs.Answer.{Notice, noticeFields, noticesFields, notices, plain, plainFields, answerFields}
-use Rattle.commands.specs.Facts.{Facts, addsCabinet, addsSpan, addsNothing, asks, meshAnswer, facts, operandsOf, additionOf, addition, after, spanAnswer, answerTo, answer}
+use Rattle.commands.specs.Facts.{Facts, addsCabinet, addsSpan, addsNothing, asks, meshAnswer, routesAnswer, facts, operandsOf, additionOf, addition, after, spanAnswer, answerTo, answer}
 use Rattle.commands.specs.Refusal.{Capacities, cabinetKnown, cabinetsKnown, refusalOf}
 use Rattle.commands.specs.Run.{Accepted}
 use Rattle.commands.specs.WholeRun.{EachNotice, itemsOf}
 use Rattle.commands.proofs.Exchange.{share-at-most}
-use Rattle.commands.proofs.Bytes.{Small, FieldsFit, InTwoBytes, cabinets-in-two-bytes, spans-in-two-bytes, items-in-two-bytes}
+use Rattle.commands.proofs.Bytes.{Small, FieldsFit, InTwoBytes, cabinets-in-two-bytes, spans-in-two-bytes, items-in-two-bytes, both-fit}
 use Rattle.commands.proofs.Decode.{NoticeFits, Fits, AllFit}
 use Rattle.commands.proofs.Causes.{not-refused-exactly}
 use Rattle.commands.proofs.Start.{InRange}
@@ -38,6 +39,7 @@ use Rattle.commands.proofs.Notices.{each-notice}
 use Rattle.commands.proofs.NoticeOrder.{few-notices}
 use Rattle.commands.proofs.EachKind.{kind-named, kind-advances, sized-by-laws}
 use Rattle.commands.proofs.RunBooks.{Sound, command-advances, sound-after, Answered}
+use Rattle.commands.proofs.Routes.{routes-asked, serves-after, given-served}
 
 -- a list fits if each of its members does
 each-fits : (f : ℕ → Field) → InTwoBytes f → (l : List ℕ) → ((x : ℕ) → isIn x l ≡ true → Small x) → FieldsFit (map f l)
@@ -50,7 +52,7 @@ unfolding noticesFields noticeFields
 each-notice-fits [] fit = tt
 each-notice-fits (t ∷ ts) fit = (fit .0 .0, (fit .0 .1 .0, (fit .0 .1 .1 .0, each-notice-fits ts (fit .1))))
 
-module _ (caps : Capacities) (range : InRange caps) where
+module _ (choice : Choice) (caps : Capacities) (range : InRange caps) where
   -- within the capacities there are few items of each kind
   few-items : (s : State) → Sound caps s → (kind : Kind) → itemsOf kind (s .book .network) ≤ 8192
   unfolding itemsOf
@@ -127,20 +129,26 @@ module _ (caps : Capacities) (range : InRange caps) where
         small : (x : ℕ) → ltb x (itemsOf kind (s .book .network)) ≡ true → Small x
         small x h = omega (arith, ltb-lt x (itemsOf kind (s .book .network)) h, few-items s sound kind)
 
+    -- so does one of known spans
+    spans-fit : (l : List ℕ) → ((x : ℕ) → isIn x l ≡ true → x < edgeCount (s .book .network)) → FieldsFit (map span l)
+    unfolding itemsOf
+    spans-fit l known = each-fits span spans-in-two-bytes l (λ x m. omega (arith, known x m, few-items s sound mesh))
+
     -- the answer to a command that adds nothing fits
     abbrev PlainFits : Facts → Type 0
     PlainFits addsCabinet = Unit
     PlainFits (addsSpan e operands demands) = Unit
-    PlainFits (addsNothing q) = Fits (plain (q .told s))
+    PlainFits (addsNothing q) = Fits (plain (q .told choice s))
 
-    plain-fits : (c : Command) → cabinetsKnown s c ≡ true → PlainFits (facts c)
-    unfolding facts asks answerFields plainFields cabinetsKnown operandsOf allIn cabinetKnown namesIn itemsOf
-    plain-fits addCabinet known = tt
-    plain-fits (addSpan x y) known = tt
-    plain-fits (districtName x) known = (tt, (small-name s sound district x (ltb-lt _ _ (and-left _ true known)), tt))
-    plain-fits (ringName x) known = (tt, (small-name s sound ring x (ltb-lt _ _ (and-left _ true known)), tt))
-    plain-fits (sharedMesh x y) known = mesh-fits x y (sharedBlock (s .book .network) x y) refl
-    plain-fits (soleSpans x y) known = (
+    plain-fits : Serves (s .book .network .rule) choice → (c : Command) → refusalOf caps s c ≡ none → cabinetsKnown s c ≡ true
+        → PlainFits (facts c)
+    unfolding facts asks routesAnswer answerFields plainFields cabinetsKnown operandsOf allIn cabinetKnown namesIn itemsOf
+    plain-fits serves addCabinet n known = tt
+    plain-fits serves (addSpan x y) n known = tt
+    plain-fits serves (districtName x) n known = (tt, (small-name s sound district x (ltb-lt _ _ (and-left _ true known)), tt))
+    plain-fits serves (ringName x) n known = (tt, (small-name s sound ring x (ltb-lt _ _ (and-left _ true known)), tt))
+    plain-fits serves (sharedMesh x y) n known = mesh-fits x y (sharedBlock (s .book .network) x y) refl
+    plain-fits serves (soleSpans x y) n known = (
       tt,
       (
         omega (arith, few-bridges-between (s .book .network) x y, few-items s sound mesh),
@@ -148,7 +156,7 @@ module _ (caps : Capacities) (range : InRange caps) where
             (bridges-between-exactly (s .book .network) x y),
       ),
     )
-    plain-fits (cutCabinets x y) known = (
+    plain-fits serves (cutCabinets x y) n known = (
       tt,
       (
         omega (arith, few-cuts-between (s .book .network) x y, few-items s sound district),
@@ -156,30 +164,52 @@ module _ (caps : Capacities) (range : InRange caps) where
             (cuts-between-exactly (s .book .network) x y),
       ),
     )
-    plain-fits (isSole x) known = (tt, (tt, tt))
-    plain-fits (markExchange x) known = (tt, tt)
-    plain-fits (holdsExchange x) known = (tt, (tt, tt))
-    plain-fits (addDuctSpan x y d) known = tt
-    plain-fits exchangeShare known = (tt, (omega (arith, share-at-most s), tt))
+    plain-fits serves (isSole x) n known = (tt, (tt, tt))
+    plain-fits serves (markExchange x) n known = (tt, tt)
+    plain-fits serves (holdsExchange x) n known = (tt, (tt, tt))
+    plain-fits serves (addDuctSpan x y d) n known = tt
+    plain-fits serves (routesBetween x y) n known =
+        let g = s .book .network in
+        let given = choice g x y in
+        let they = given-served choice g (sound .laws .proper) serves x y (routes-asked caps s x y n) in (
+          tt,
+          (
+            omega (arith, they .short, few-items s sound mesh),
+            both-fit (map span (given .first)) _ .1 (
+              spans-fit (given .first) (they .first-known),
+              (
+                omega (arith, they .short, few-items s sound mesh),
+                spans-fit (given .second) (they .second-known),
+              ),
+            ),
+          ),
+        )
+    plain-fits serves exchangeShare n known = (tt, (omega (arith, share-at-most s), tt))
 
     -- every number in the answer fits
-    pub answer-fits : (c : Command) → refusalOf caps s c ≡ none → Fits (answer s c)
+    pub answer-fits : Serves (s .book .network .rule) choice → (c : Command) → refusalOf caps s c ≡ none → Fits (answer choice s c)
     unfolding answer answerTo additionOf
-    answer-fits c n = go (facts c) refl
+    answer-fits serves c n = go (facts c) refl
       where
-        go : (f : Facts) → facts c ≡ f → Fits (answerTo s f)
+        go : (f : Facts) → facts c ≡ f → Fits (answerTo choice s f)
         go addsCabinet q = unfold answerFields itemsOf in (tt, (omega (arith, few-items s sound district), tt))
         go (addsSpan e operands demands) q =
             subst
             (λ f. Fits (spanAnswer (s .book) (feed (s .book) (additionOf f))))
             q
             (unfold after afterAddition afterRecording addition in span-fits c e (ap additionOf q) n)
-        go (addsNothing question) q = subst PlainFits q (plain-fits c (not-refused-exactly caps s c .0 n .cabinets-known))
+        go (addsNothing question) q = subst PlainFits q (plain-fits serves c n (not-refused-exactly caps s c .0 n .cabinets-known))
 
   -- so it is with every answer of a run
-  pub all-answers-fit : (s : State) (l : List Accepted) → Sound caps s → Answered caps s l → AllFit l
-  all-answers-fit s [] sound w = tt
-  all-answers-fit s (a ∷ later) sound w = (
-    rw (w .1) (answer-fits s sound (a .command) (w .0)),
-    all-answers-fit (after s (a .command)) later (sound-after caps s (a .command) sound (w .0)) (w .2),
+  pub all-answers-fit : (s : State) (l : List Accepted) → Sound caps s → Serves (s .book .network .rule) choice → Answered choice caps s l
+      → AllFit l
+  all-answers-fit s [] sound serves w = tt
+  all-answers-fit s (a ∷ later) sound serves w = (
+    rw (w .1) (answer-fits s sound serves (a .command) (w .0)),
+    all-answers-fit
+        (after s (a .command))
+        later
+        (sound-after caps s (a .command) sound (w .0))
+        (serves-after choice s (a .command) serves)
+        (w .2),
   )

@@ -1,26 +1,30 @@
--- Demand 2 of the answers, and what those about exchanges say: what each answer says of the network, in every state whose book keeps the laws of naming.
+-- Demand 2 of the answers, and what those about exchanges and routes say: what each answer says of the network, in every state whose book
+-- keeps the laws of naming, under a choice of routes that serves.
 use mathlib.Core.Bool.{true, false}
+use mathlib.Core.List.{List}
 use mathlib.Core.Logic.{_↔_}
 use mathlib.Core.Option.{Option, none, some}
-use mathlib.Core.Path.{_≡_, refl, sym, _∙_, ap}
+use mathlib.Core.Path.{_≡_, refl, sym, _∙_, ap, subst₂}
 use Prim.Native.Nat.{ℕ, suc, _*_, _≤_, _<_}
 use lib.Dec.{eqb}
 use Rattle.graph.specs.Network.{Network, edgeCount}
 use Rattle.graph.specs.Groups.{component, bridge, bridgeBlock}
 use Rattle.graph.specs.Block.{sharedBlock, onBlock}
 use Rattle.graph.specs.Between.{bridgesBetween, cutsBetween}
+use Rattle.graph.specs.Route.{Choice, Serves, serve}
 use Rattle.graph.proofs.Truth.{false-of-not, not-both}
 use Rattle.graph.proofs.SharedBlock.{shared-block-some, shared-block-none, shared-block-found, shared-block-is}
 use Rattle.naming.specs.Rename.{nameOf}
 use Rattle.naming.specs.Book.{Book}
 use Rattle.naming.specs.State.{State}
 use Rattle.naming.proofs.Book.{BookLaws}
-use Rattle.commands.specs.Command.{districtName, ringName, sharedMesh, soleSpans, cutCabinets, isSole, holdsExchange, exchangeShare}
-use Rattle.commands.specs.Answer.{Plain, plain, districtNamed, ringNamed, meshShared, noMeshShared, soleSpansAre, cutCabinetsAre, soleIs, exchangeHeld, shareIs}
+use Rattle.commands.specs.Command.{districtName, ringName, sharedMesh, soleSpans, cutCabinets, isSole, holdsExchange, routesBetween, exchangeShare}
+use Rattle.commands.specs.Answer.{Plain, plain, districtNamed, ringNamed, meshShared, noMeshShared, soleSpansAre, cutCabinetsAre, soleIs, exchangeHeld, routesAre, shareIs}
 use Rattle.commands.specs.Exchange.{ringHoldsExchange, withExchange, thousandths, shareWithExchange}
-use Rattle.commands.specs.Facts.{asks, meshAnswer, facts, answerTo, answer}
+use Rattle.commands.specs.Facts.{asks, meshAnswer, routesAnswer, facts, answerTo, answer}
 use Rattle.commands.proofs.Cases.{impossible}
 use Rattle.commands.proofs.Exchange.{ExchangeWith, holds-exchange-exactly, rounded-down}
+use Rattle.commands.proofs.Routes.{InOneRing, given-served}
 
 -- edge s is of a block that has an edge at each of the two vertices
 pub record OfSharedBlock (g : Network) (x y s : ℕ) : Type 0 where
@@ -29,35 +33,41 @@ pub record OfSharedBlock (g : Network) (x y s : ℕ) : Type 0 where
   pub at-second : onBlock g s y ≡ true
 
 -- What the answers to queries say of the state's network and its exchanges.
-pub record AnswersTell (s : State) : Type 0 where
+pub record AnswersTell (choice : Choice) (s : State) : Type 0 where
   -- two 03 answers agree exactly if the cabinets share a component
   pub districts : (x y : ℕ) → x < s .book .network .vertices → y < s .book .network .vertices
-      → (answer s (districtName x) ≡ answer s (districtName y)) ↔ (component (s .book .network) x y ≡ true)
+      → (answer choice s (districtName x) ≡ answer choice s (districtName y)) ↔ (component (s .book .network) x y ≡ true)
   -- two 04 answers agree exactly if the cabinets share a bridge-block
   pub rings : (x y : ℕ) → x < s .book .network .vertices → y < s .book .network .vertices
-      → (answer s (ringName x) ≡ answer s (ringName y)) ↔ (bridgeBlock (s .book .network) x y ≡ true)
+      → (answer choice s (ringName x) ≡ answer choice s (ringName y)) ↔ (bridgeBlock (s .book .network) x y ≡ true)
   -- the 05 answer for two different cabinets has byte 1 and a name exactly if it is the name of an edge of a block with an edge at each
   pub mesh : (x y name : ℕ) → eqb x y ≡ false
-      → (answer s (sharedMesh x y) ≡ plain (meshShared name))
+      → (answer choice s (sharedMesh x y) ≡ plain (meshShared name))
       ↔ ((t : ℕ) × OfSharedBlock (s .book .network) x y t × (nameOf (s .book .blocks) t ≡ name))
   -- and every edge of such a block has that name
   pub mesh-name : (x y t : ℕ) → eqb x y ≡ false → OfSharedBlock (s .book .network) x y t
-      → answer s (sharedMesh x y) ≡ plain (meshShared (nameOf (s .book .blocks) t))
+      → answer choice s (sharedMesh x y) ≡ plain (meshShared (nameOf (s .book .blocks) t))
   -- it has byte 0 exactly if there is no such block
   pub no-mesh : (x y : ℕ)
-      → (answer s (sharedMesh x y) ≡ plain noMeshShared) ↔ ((t : ℕ) → OfSharedBlock (s .book .network) x y t → ⊥)
+      → (answer choice s (sharedMesh x y) ≡ plain noMeshShared) ↔ ((t : ℕ) → OfSharedBlock (s .book .network) x y t → ⊥)
   -- 06, 07 and 08 are the bridges between the cabinets, the cut vertices between them, and the bridge test
-  pub sole-spans : (x y : ℕ) → answer s (soleSpans x y) ≡ plain (soleSpansAre (bridgesBetween (s .book .network) x y))
-  pub cut-cabinets : (x y : ℕ) → answer s (cutCabinets x y) ≡ plain (cutCabinetsAre (cutsBetween (s .book .network) x y))
-  pub sole : (x : ℕ) → answer s (isSole x) ≡ plain (soleIs (bridge (s .book .network) x))
+  pub sole-spans : (x y : ℕ) → answer choice s (soleSpans x y) ≡ plain (soleSpansAre (bridgesBetween (s .book .network) x y))
+  pub cut-cabinets : (x y : ℕ) → answer choice s (cutCabinets x y) ≡ plain (cutCabinetsAre (cutsBetween (s .book .network) x y))
+  pub sole : (x : ℕ) → answer choice s (isSole x) ≡ plain (soleIs (bridge (s .book .network) x))
   -- the 0A answer has byte 1 exactly if an exchange shares the cabinet's ring, and byte 0 exactly if none does
-  pub exchange : (x : ℕ) → (answer s (holdsExchange x) ≡ plain (exchangeHeld true)) ↔ ExchangeWith s x
-  pub no-exchange : (x : ℕ) → (answer s (holdsExchange x) ≡ plain (exchangeHeld false)) ↔ (ExchangeWith s x → ⊥)
+  pub exchange : (x : ℕ) → (answer choice s (holdsExchange x) ≡ plain (exchangeHeld true)) ↔ ExchangeWith s x
+  pub no-exchange : (x : ℕ) → (answer choice s (holdsExchange x) ≡ plain (exchangeHeld false)) ↔ (ExchangeWith s x → ⊥)
+  -- the 0C answer is the two routes of the choice
+  pub routes : (x y : ℕ) → answer choice s (routesBetween x y) ≡ plain (routesAnswer (choice (s .book .network) x y))
+  -- and whatever two lists it is, for two different cabinets of one ring they serve them
+  pub routes-serve : (x y : ℕ) → InOneRing (s .book .network) x y → (first second : List ℕ)
+      → answer choice s (routesBetween x y) ≡ plain (routesAre first second)
+      → serve (s .book .network) x y (record { first = first; second = second }) ≡ true
   -- the 0F answer is the greatest number of thousandths of all cabinets that is within those whose ring holds an exchange
-  pub share : (m : ℕ) → 0 < s .book .network .vertices → answer s exchangeShare ≡ plain (shareIs m)
+  pub share : (m : ℕ) → 0 < s .book .network .vertices → answer choice s exchangeShare ≡ plain (shareIs m)
       → (m * s .book .network .vertices ≤ 1000 * withExchange s) × (1000 * withExchange s < suc m * s .book .network .vertices)
   -- and 0 where there is no cabinet
-  pub share-of-none : s .book .network .vertices ≡ 0 → answer s exchangeShare ≡ plain (shareIs 0)
+  pub share-of-none : s .book .network .vertices ≡ 0 → answer choice s exchangeShare ≡ plain (shareIs 0)
 
 -- the shared block that is found has an edge at each
 found-shared : (g : Network) (x y t : ℕ) → sharedBlock g x y ≡ some t → OfSharedBlock g x y t
@@ -97,10 +107,10 @@ module _ (b : Book) (laws : BookLaws b) (x y : ℕ) where
       go none e = (λ q t o. not-both (o .at-second) (shared-block-none (b .network) x y e t (o .at-first)), λ f. refl)
       go (some t) e = (λ q. impossible (cc), λ f. absurd (f t (found-shared (b .network) x y t e)))
 
--- so it is in every state whose book keeps the laws of naming
-pub answers-tell : (s : State) → BookLaws (s .book) → AnswersTell s
-unfolding answer answerTo facts asks told shareWithExchange thousandths
-answers-tell s laws =
+-- so it is in every state whose book keeps the laws of naming, under every choice that serves
+pub answers-tell : (choice : Choice) (s : State) → BookLaws (s .book) → Serves (s .book .network .rule) choice → AnswersTell choice s
+unfolding answer answerTo facts asks routesAnswer told shareWithExchange thousandths
+answers-tell choice s laws serves =
     record {
       districts = λ x y h k. (
         λ q. laws .components-named .one-group x y h k (cc),
@@ -130,6 +140,12 @@ answers-tell s laws =
         λ q e. not-both (holds-exchange-exactly s x .1 e) (cc),
         λ f. ap (λ b. plain (exchangeHeld b)) (false-of-not (ringHoldsExchange s x) (λ h. f (holds-exchange-exactly s x .0 h))),
       );
+      routes = λ x y. refl;
+      routes-serve = λ x y asked first second q.
+          let same-first : choice (s .book .network) x y .first ≡ first = cc in
+          let same-second : choice (s .book .network) x y .second ≡ second = cc in
+          subst₂ (λ f g. serve (s .book .network) x y (record { first = f; second = g }) ≡ true) same-first same-second
+          (given-served choice (s .book .network) (laws .proper) serves x y asked .they-serve);
       share = λ m some q.
           let is : thousandths (withExchange s) (s .book .network .vertices) ≡ m = cc in
           rw is at (rounded-down (withExchange s) (s .book .network .vertices) some);

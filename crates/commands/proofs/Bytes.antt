@@ -66,6 +66,13 @@ fields-append [] gs = refl
 fields-append (f ∷ fs) gs =
     ap (λ l. fieldBytes f ++ l) (fields-append fs gs) ∙ sym (append-assoc (fieldBytes f) (fieldsBytes fs) (fieldsBytes gs))
 
+-- two lists fit, one after the other, exactly if each does
+pub both-fit : (fs gs : List Field) → FieldsFit (fs ++ gs) ↔ (FieldsFit fs × FieldsFit gs)
+both-fit [] gs = (λ h. (tt, h), λ h. h .1)
+both-fit (f ∷ fs) gs =
+    let rest = both-fit fs gs in
+    (λ h. ((h .0, rest .0 (h .1) .0), rest .0 (h .1) .1), λ h. (h .0 .0, rest .1 (h .0 .1, h .1)))
+
 -- fields of this sort have two bytes
 pub record InTwoBytes (f : ℕ → Field) : Type 0 where
   pub bytes : (n : ℕ) → fieldBytes (f n) ≡ twoBytes n
@@ -97,6 +104,12 @@ module _ (f : ℕ → Field) (two : InTwoBytes f) where
   bytes-of-one-more ns n =
       rw (map-append f ns (n ∷ []), fields-append (map f ns) (f n ∷ []))
       (ap (λ l. fieldsBytes (map f ns) ++ l) (bytes-of-first n []))
+
+  -- with a counted list behind them
+  pub bytes-then-counted : (ns ms : List ℕ)
+      → fieldsBytes (map f ns ++ number (length ms) ∷ map f ms) ≡ fieldsBytes (map f ns) ++ (twoBytes (length ms) ++ fieldsBytes (map f ms))
+  unfolding fieldsBytes fieldBytes
+  bytes-then-counted ns ms = fields-append (map f ns) (number (length ms) ∷ map f ms)
 
   pub length-two-bytes-each : (ns : List ℕ) → length (fieldsBytes (map f ns)) ≡ 2 * length ns
   unfolding fieldsBytes twoBytes

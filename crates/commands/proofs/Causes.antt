@@ -12,8 +12,8 @@ use Rattle.graph.specs.Lists.{allIn}
 use Rattle.graph.proofs.Truth.{not-of-true, not-of-false, false-of-not-true, true-of-not-false, and-left, and-right, and-both}
 use Rattle.naming.specs.State.{State}
 use Rattle.commands.specs.Command.{Command, form, Reading, unknownByte, cutOff, command, readCommand}
-use Rattle.commands.specs.Facts.{Demand, differ, noExchange, someDuct, shareDistrict, facts, demandsOf}
-use Rattle.commands.specs.Refusal.{Refusal, badByte, cutOperands, unknownCabinet, unknownSpan, equalCabinets, full, twoDistricts, alreadyExchange, noDuct, refusalNumber, Capacities, cabinetsKnown, spansKnown, met, cause, meets, isFull, lines, refusalOf}
+use Rattle.commands.specs.Facts.{Demand, differ, noExchange, someDuct, shareDistrict, shareRing, facts, demandsOf}
+use Rattle.commands.specs.Refusal.{Refusal, badByte, cutOperands, unknownCabinet, unknownSpan, equalCabinets, full, twoDistricts, alreadyExchange, noDuct, noSharedRing, refusalNumber, Capacities, cabinetsKnown, spansKnown, met, cause, meets, isFull, lines, refusalOf}
 use Rattle.commands.proofs.Reading.{isCommand, widthOf, no-command-exactly, cut-off-exactly}
 use Rattle.commands.proofs.Steps.{RefusedFor, for-byte, for-operands, for-command}
 use Rattle.commands.proofs.Table.{given-exactly, stage, Between, given-between, NoneOf, none-exactly}
@@ -30,23 +30,36 @@ not-is-false b = (true-of-not-false b, not-of-true)
 abbrev MetFor : Refusal → State → List Demand → Type 0
 MetFor r s ds = allIn (λ d. not (eqb (refusalNumber (cause d)) (refusalNumber r)) || met s d) ds ≡ true
 
--- where every demand that could give one of the four refusals is met, every demand is
-each-met : (s : State) (ds : List Demand) → MetFor equalCabinets s ds → MetFor alreadyExchange s ds → MetFor noDuct s ds → MetFor twoDistricts s ds
-    → allIn (met s) ds ≡ true
+-- where every demand that could give one of the five refusals is met, every demand is
+each-met : (s : State) (ds : List Demand) → MetFor equalCabinets s ds → MetFor alreadyExchange s ds → MetFor noDuct s ds
+    → MetFor twoDistricts s ds → MetFor noSharedRing s ds → allIn (met s) ds ≡ true
 unfolding allIn cause refusalNumber
-each-met s [] p q d r = refl
-each-met s (differ a b ∷ ds) p q d r =
+each-met s [] p q d r n = refl
+each-met s (differ a b ∷ ds) p q d r n =
     let this = met s (differ a b) in
-    and-both (and-left this _ p) (each-met s ds (and-right this _ p) (and-right true _ q) (and-right true _ d) (and-right true _ r))
-each-met s (noExchange a ∷ ds) p q d r =
+    and-both
+    (and-left this _ p)
+    (each-met s ds (and-right this _ p) (and-right true _ q) (and-right true _ d) (and-right true _ r) (and-right true _ n))
+each-met s (noExchange a ∷ ds) p q d r n =
     let this = met s (noExchange a) in
-    and-both (and-left this _ q) (each-met s ds (and-right true _ p) (and-right this _ q) (and-right true _ d) (and-right true _ r))
-each-met s (someDuct a ∷ ds) p q d r =
+    and-both
+    (and-left this _ q)
+    (each-met s ds (and-right true _ p) (and-right this _ q) (and-right true _ d) (and-right true _ r) (and-right true _ n))
+each-met s (someDuct a ∷ ds) p q d r n =
     let this = met s (someDuct a) in
-    and-both (and-left this _ d) (each-met s ds (and-right true _ p) (and-right true _ q) (and-right this _ d) (and-right true _ r))
-each-met s (shareDistrict a b ∷ ds) p q d r =
+    and-both
+    (and-left this _ d)
+    (each-met s ds (and-right true _ p) (and-right true _ q) (and-right this _ d) (and-right true _ r) (and-right true _ n))
+each-met s (shareDistrict a b ∷ ds) p q d r n =
     let this = met s (shareDistrict a b) in
-    and-both (and-left this _ r) (each-met s ds (and-right true _ p) (and-right true _ q) (and-right true _ d) (and-right this _ r))
+    and-both
+    (and-left this _ r)
+    (each-met s ds (and-right true _ p) (and-right true _ q) (and-right true _ d) (and-right this _ r) (and-right true _ n))
+each-met s (shareRing a b ∷ ds) p q d r n =
+    let this = met s (shareRing a b) in
+    and-both
+    (and-left this _ n)
+    (each-met s ds (and-right true _ p) (and-right true _ q) (and-right true _ d) (and-right true _ r) (and-right this _ n))
 
 -- the refusals of a command that was read are those of this stage
 pub table-stage : (caps : Capacities) (s : State) (c : Command) (r : Refusal) → refusalOf caps s c ≡ some r → Between 2 2 r
@@ -104,7 +117,18 @@ module _ (caps : Capacities) (s : State) (c : Command) where
   unfolding refusalOf lines refusalNumber
   two-districts-exactly = simp (not-is-true, not-is-false) at (given-exactly 6 twoDistricts (lines caps s c) refl)
 
-  -- none of the seven causes
+  -- no shared ring: none of these, and two cabinets share no ring that the command wants in one
+  pub no-shared-ring-exactly : (refusalOf caps s c ≡ some noSharedRing)
+      ↔ ((cabinetsKnown s c ≡ true)
+      × ((spansKnown s c ≡ true)
+      × ((meets equalCabinets s c ≡ true)
+      × ((meets alreadyExchange s c ≡ true)
+      × ((meets noDuct s c ≡ true)
+      × ((isFull caps s c ≡ false) × ((meets twoDistricts s c ≡ true) × (meets noSharedRing s c ≡ false))))))))
+  unfolding refusalOf lines refusalNumber
+  no-shared-ring-exactly = simp (not-is-true, not-is-false) at (given-exactly 7 noSharedRing (lines caps s c) refl)
+
+  -- none of the eight causes
   pub record NotRefused : Type 0 where
     pub cabinets-known : cabinetsKnown s c ≡ true
     pub spans-known : spansKnown s c ≡ true
@@ -113,6 +137,7 @@ module _ (caps : Capacities) (s : State) (c : Command) where
     pub some-duct : meets noDuct s c ≡ true
     pub not-full : isFull caps s c ≡ false
     pub one-district : meets twoDistricts s c ≡ true
+    pub one-ring : meets noSharedRing s c ≡ true
 
   not-refused : NoneOf (lines caps s c) → NotRefused
   unfolding lines
@@ -125,6 +150,7 @@ module _ (caps : Capacities) (s : State) (c : Command) where
         some-duct = true-of-not-false _ (f .1 .1 .1 .1 .0);
         not-full = f .1 .1 .1 .1 .1 .0;
         one-district = true-of-not-false _ (f .1 .1 .1 .1 .1 .1 .0);
+        one-ring = true-of-not-false _ (f .1 .1 .1 .1 .1 .1 .1 .0);
       }
 
   no-line : NotRefused → NoneOf (lines caps s c)
@@ -135,12 +161,12 @@ module _ (caps : Capacities) (s : State) (c : Command) where
       not-of-true (n .spans-known),
       (
         not-of-true (n .different-cabinets),
-        (not-of-true (n .no-exchange), (not-of-true (n .some-duct), (n .not-full, (not-of-true (n .one-district), tt)))),
+        (not-of-true (n .no-exchange), (not-of-true (n .some-duct), (n .not-full, (not-of-true (n .one-district), (not-of-true (n .one-ring), tt))))),
       ),
     ),
   )
 
-  -- a command is not refused exactly if none of the seven causes is there
+  -- a command is not refused exactly if none of the eight causes is there
   pub not-refused-exactly : (refusalOf caps s c ≡ none) ↔ NotRefused
   unfolding refusalOf
   not-refused-exactly = Iff·trans (none-exactly (lines caps s c)) (not-refused, no-line)
@@ -150,7 +176,7 @@ module _ (caps : Capacities) (s : State) (c : Command) where
   unfolding meets
   demands-met e =
       let n = not-refused-exactly .0 e in
-      each-met s (demandsOf (facts c)) (n .different-cabinets) (n .no-exchange) (n .some-duct) (n .one-district)
+      each-met s (demandsOf (facts c)) (n .different-cabinets) (n .no-exchange) (n .some-duct) (n .one-district) (n .one-ring)
 
 module _ (caps : Capacities) (s : State) where
   -- a command that was read is refused exactly as the table says

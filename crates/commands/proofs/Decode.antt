@@ -8,10 +8,10 @@ use native.Mathlib.Omega.{arith}
 use lib.ListN.{length, take, getD}
 use Rattle.commands.specs.Bytes.{twoBytes}
 use Rattle.commands.specs.Field.{Kind, district, ring, mesh, Field, cabinet, span, fieldBytes, fieldsBytes}
-use Rattle.commands.specs.Answer.{kindByte, boolByte, Notice, noticeFields, noticesFields, Answer, cabinetAdded, spanAdded, plain, districtNamed, ringNamed, meshShared, noMeshShared, soleSpansAre, cutCabinetsAre, soleIs, exchangeMarked, exchangeHeld, shareIs, plainFields, answerFields, answerBytes}
+use Rattle.commands.specs.Answer.{kindByte, boolByte, Notice, noticeFields, noticesFields, Answer, cabinetAdded, spanAdded, plain, districtNamed, ringNamed, meshShared, noMeshShared, soleSpansAre, cutCabinetsAre, soleIs, exchangeMarked, exchangeHeld, routesAre, shareIs, plainFields, answerFields, answerBytes}
 use Rattle.commands.specs.Run.{Accepted, bytesOfAnswers}
 use Rattle.commands.specs.Decode.{malformed, decoded, Then, byteThen, fieldThen, fieldsThen, kindOf, kindThen, noticeThen, noticesThen, flagThen, noughtThen, bodies, decodeBody, decode, decodeFirst}
-use Rattle.commands.proofs.Bytes.{number-of-two-bytes, Small, FieldsFit, InTwoBytes, cabinets-in-two-bytes, spans-in-two-bytes, items-in-two-bytes, bytes-of-first}
+use Rattle.commands.proofs.Bytes.{number-of-two-bytes, Small, FieldsFit, InTwoBytes, cabinets-in-two-bytes, spans-in-two-bytes, items-in-two-bytes, both-fit, bytes-of-first, bytes-then-counted}
 use Rattle.commands.proofs.NoticeBytes.{notice-bytes, bytes-of-first-notice}
 
 -- every number that the answer's bytes hold fits into two bytes: items, names, entries and the lengths of lists
@@ -77,6 +77,17 @@ counted-read : (f : ℕ → Field) → InTwoBytes f → (ns : List ℕ) → Smal
 counted-read f two ns h each k rest =
     field-read (length ns) h (λ n. fieldsThen n k) (fieldsBytes (map f ns) ++ rest) ∙ fields-read f two ns each k rest
 
+-- two such lists, one behind the other
+two-counted-read : (f : ℕ → Field) → InTwoBytes f → (ns ms : List ℕ) → Small (length ns) → FieldsFit (map f ns) → Small (length ms)
+    → FieldsFit (map f ms) → (k : List ℕ → Then (List ℕ)) (rest : List ℕ)
+    → fieldThen
+    (λ n. fieldsThen n (λ xs. fieldThen (λ m. fieldsThen m (k xs))))
+    (twoBytes (length ns) ++ (fieldsBytes (map f ns) ++ (twoBytes (length ms) ++ (fieldsBytes (map f ms) ++ rest))))
+    ≡ k ns ms rest
+two-counted-read f two ns ms h each h′ each′ k rest =
+    counted-read f two ns h each (λ xs. fieldThen (λ m. fieldsThen m (k xs))) (twoBytes (length ms) ++ (fieldsBytes (map f ms) ++ rest))
+    ∙ counted-read f two ms h′ each′ (k ns) rest
+
 -- an answer that fits is read back from its bytes, whatever follows them
 pub decode-answer : (a : Answer) → Fits a → (rest : List ℕ) → decode (answerBytes a ++ rest) ≡ decoded a rest
 unfolding decode byteThen bodies decodeBody flagThen noughtThen answerBytes answerFields plainFields fieldsBytes fieldBytes boolByte twoBytes
@@ -102,6 +113,23 @@ decode-answer (plain (soleIs false)) h rest = refl
 decode-answer (plain exchangeMarked) h rest = refl
 decode-answer (plain (exchangeHeld true)) h rest = refl
 decode-answer (plain (exchangeHeld false)) h rest = refl
+decode-answer (plain (routesAre ss ts)) h rest =
+    let fit = both-fit (map span ss) _ .0 (h .1 .1) in
+    rw (
+      bytes-then-counted span spans-in-two-bytes ss ts,
+      append-assoc (fieldsBytes (map span ss)) (twoBytes (length ts) ++ fieldsBytes (map span ts)) rest,
+    )
+    (two-counted-read
+    span
+    spans-in-two-bytes
+    ss
+    ts
+    (h .1 .0)
+    (fit .0)
+    (fit .1 .0)
+    (fit .1 .1)
+    (λ ns ms. decoded (plain (routesAre ns ms)))
+    rest)
 decode-answer (plain (shareIs n)) h rest = field-read n (h .1 .0) (λ x. decoded (plain (shareIs x))) rest
 
 -- the answers of all of the accepted commands fit

@@ -9,11 +9,11 @@ use native.Mathlib.Omega.{arith}
 use lib.ListN.{length, getD}
 use Rattle.commands.specs.Bytes.{number, twoBytes}
 use Rattle.commands.specs.Field.{Kind, district, ring, mesh, Field, cabinet, span, fieldBytes, fieldsBytes}
-use Rattle.commands.specs.Answer.{kindByte, boolByte, Notice, noticeFields, noticesFields, Plain, Answer, cabinetAdded, spanAdded, plain, districtNamed, ringNamed, meshShared, noMeshShared, soleSpansAre, cutCabinetsAre, soleIs, exchangeMarked, exchangeHeld, shareIs, plainFields, answerFields, answerBytes}
+use Rattle.commands.specs.Answer.{kindByte, boolByte, Notice, noticeFields, noticesFields, Plain, Answer, cabinetAdded, spanAdded, plain, districtNamed, ringNamed, meshShared, noMeshShared, soleSpansAre, cutCabinetsAre, soleIs, exchangeMarked, exchangeHeld, routesAre, shareIs, plainFields, answerFields, answerBytes}
 use Rattle.commands.specs.Decode.{Decoded, malformed, decoded, Then, byteThen, fieldThen, fieldsThen, kindOf, kindThen, noticeThen, noticesThen, flagThen, noughtThen, bodies, decodeBody, decode}
 use Rattle.commands.proofs.Cases.{le-or-gt, impossible}
 use Rattle.commands.proofs.ByPlace.{each-at, _also_}
-use Rattle.commands.proofs.Bytes.{allBytes, all-bytes-behind, first-is-byte, number-below, number-of-two-bytes, two-bytes-of-number, Small, FieldsFit, InTwoBytes, cabinets-in-two-bytes, spans-in-two-bytes, items-in-two-bytes, bytes-of-first}
+use Rattle.commands.proofs.Bytes.{allBytes, all-bytes-behind, first-is-byte, number-below, number-of-two-bytes, two-bytes-of-number, Small, FieldsFit, InTwoBytes, cabinets-in-two-bytes, spans-in-two-bytes, items-in-two-bytes, both-fit, bytes-of-first, bytes-then-counted}
 use Rattle.commands.proofs.NoticeBytes.{notice-bytes, bytes-of-first-notice}
 use Rattle.commands.proofs.Decode.{NoticeFits, Fits, decode-answer}
 
@@ -201,6 +201,28 @@ module _ (all : List ℕ) where
       (λ name rest₁ s r₂. spelled (plain (meshShared name)) rest₁ r₂ (tt, (tt, (s, tt)))))
       (λ rest r₁. then-nought all Spelled bad (decoded (plain noMeshShared)) (0x85 ∷ 0 ∷ []) rest r₁ (λ rest₁ r₂. spelled (plain noMeshShared) rest₁ r₂ (tt, (tt, (omega arith, tt)))))
 
+  routes : BodySpelled
+      0x0C
+      (fieldThen (λ n. fieldsThen n (λ ss. fieldThen (λ m. fieldsThen m (λ ts. decoded (plain (routesAre ss ts)))))))
+  unfolding answerBytes answerFields plainFields fieldsBytes fieldBytes twoBytes
+  routes more r =
+      then-field all Spelled bad _ (0x8C ∷ []) more r
+      (λ n rest s r₁.
+      then-fields all Spelled bad span spans-in-two-bytes n _ (0x8C ∷ twoBytes n) rest r₁
+      (λ ss rest₁ d small r₂.
+      then-field all Spelled bad _ (0x8C ∷ twoBytes n ++ fieldsBytes (map span ss)) rest₁ r₂
+      (λ m rest₂ s′ r₃.
+      then-fields all Spelled bad span spans-in-two-bytes m _ ((0x8C ∷ twoBytes n ++ fieldsBytes (map span ss)) ++ twoBytes m) rest₂ r₃
+      (λ ts rest₃ d′ small′ r₄.
+      spelled
+      (plain (routesAre ss ts))
+      rest₃
+      (rw (bytes-then-counted span spans-in-two-bytes ss ts)
+      (rw
+      (append-assoc (fieldsBytes (map span ss)) (twoBytes (length ts)) (fieldsBytes (map span ts)))
+      at (rw (sym d, sym d′) at r₄)))
+      (tt, (rw (sym d) at s, both-fit (map span ss) _ .1 (small, (rw (sym d′) at s′, small′))))))))
+
   yes-or-no : (byte : ℕ) (f : Bool → Plain) → ((b : Bool) → byte ∷ boolByte b ∷ [] ≡ answerBytes (plain (f b))) → ((b : Bool) → Fits (plain (f b)))
       → (more : List ℕ) → Read all (byte ∷ []) more → Spelled (flagThen (decoded (plain (f true))) (decoded (plain (f false))) more)
   unfolding boolByte
@@ -228,7 +250,7 @@ module _ (all : List ℕ) where
       also (λ more r. spelled (plain exchangeMarked) more r (tt, tt))
       also yes-or-no 0x8A exchangeHeld (λ b. refl) (λ b. (tt, (tt, tt)))
       also (λ more r. bad)
-      also (λ more r. bad)
+      also routes
       also (λ more r. bad)
       also (λ more r. bad)
       also one-field 0x8F (λ n. plain (shareIs n)) (λ n. refl) (λ n s. (tt, (s, tt)))

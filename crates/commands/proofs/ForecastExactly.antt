@@ -9,6 +9,7 @@ use native.Mathlib.Omega.{arith}
 use lib.Dec.{ltb}
 use lib.ListN.{length, take}
 use lib.Seq.{length-take-le}
+use Rattle.graph.specs.Route.{Choice}
 use Rattle.graph.proofs.Truth.{true-or-false, ltb-ge, ge-ltb}
 use Rattle.naming.specs.State.{State}
 use Rattle.commands.specs.Command.{form, Reading}
@@ -194,22 +195,22 @@ forecast-of-front journal short =
 
 -- A run that ends where no command can be read, with 4 or 5: the forecast of the journal, if that is not too long, has the same number, and
 -- its place is where the accepted commands end.
-pub forecast-of-run : (caps : Capacities) (s : State) (journal : List ℕ) (r : Refusal) → Short journal → stage r ≡ 1
-    → runText caps s (textOf journal) .refusal ≡ some r
-    → forecast journal ≡ noForecast r (placeAfter (runText caps s (textOf journal) .accepted))
-forecast-of-run caps s journal r short h e =
-    let stopped : NotOfCommand (runText caps s (textOf journal) .refusal) = rw e (omega arith) in
-    let (as-text, at-its-end) = run-ends-as-text caps s (textOf journal) stopped in
+pub forecast-of-run : (choice : Choice) (caps : Capacities) (s : State) (journal : List ℕ) (r : Refusal) → Short journal → stage r ≡ 1
+    → runText choice caps s (textOf journal) .refusal ≡ some r
+    → forecast journal ≡ noForecast r (placeAfter (runText choice caps s (textOf journal) .accepted))
+forecast-of-run choice caps s journal r short h e =
+    let stopped : NotOfCommand (runText choice caps s (textOf journal) .refusal) = rw e (omega arith) in
+    let (as-text, at-its-end) = run-ends-as-text choice caps s (textOf journal) stopped in
     rw at-its-end (forecast-of-stopped journal short (sym as-text ∙ e))
 
 -- A run with any room stops no later in the journal than the place of the forecast.
-pub run-place-in-forecast : (room : ℕ) (caps : Capacities) (s : State) (journal : List ℕ) → Short journal
-    → placeAfter (runWithin room caps s (textOf journal) .accepted) ≤ forecast journal .place
-run-place-in-forecast room caps s journal short =
+pub run-place-in-forecast : (room : ℕ) (choice : Choice) (caps : Capacities) (s : State) (journal : List ℕ) → Short journal
+    → placeAfter (runWithin room choice caps s (textOf journal) .accepted) ≤ forecast journal .place
+run-place-in-forecast room choice caps s journal short =
     rw
     (forecast-place journal short)
     (omega (
       arith,
-      place-of-prefix _ _ (within-is-prefix room caps s journal),
-      run-place-in-text caps s (textOf journal),
+      place-of-prefix _ _ (within-is-prefix room choice caps s journal),
+      run-place-in-text choice caps s (textOf journal),
     ))

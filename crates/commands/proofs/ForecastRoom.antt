@@ -9,7 +9,8 @@ use native.Mathlib.Nat.{mul-le-mul}
 use native.Mathlib.Omega.{arith}
 use lib.ListN.{length, take}
 use Rattle.graph.specs.Network.{Rule, MateRule, edgeCount}
-use Rattle.naming.specs.Book.{Addition}
+use Rattle.graph.specs.Route.{Choice, Serves}
+use Rattle.naming.specs.Book.{Addition, emptyBook}
 use Rattle.naming.specs.State.{State, emptyState}
 use Rattle.naming.specs.Log.{wholeLog2, highestBit}
 use Rattle.naming.proofs.Log.{log2-monotone, highest-bit-is-log2}
@@ -30,8 +31,9 @@ use Rattle.commands.proofs.NameList.{answersFrom}
 use Rattle.commands.proofs.Place.{whole-run-steps, within-is-prefix}
 use Rattle.commands.proofs.Returned.{unbounded, eleven-exactly}
 use Rattle.commands.proofs.TextRun.{run-accepts-first}
-use Rattle.commands.proofs.RunBooks.{Sound, empty-sound, NoneRefused, Answered, steps-answered, answered-not-refused}
+use Rattle.commands.proofs.RunBooks.{Sound, empty-sound, sound-after, NoneRefused, Answered, steps-answered, answered-not-refused}
 use Rattle.commands.proofs.NoticeBound.{few-in-all}
+use Rattle.commands.proofs.Routes.{serves-after}
 use Rattle.commands.proofs.AnswerLength.{longestOf, answer-no-longer}
 use Rattle.commands.proofs.ForecastFits.{text-fits}
 
@@ -93,14 +95,15 @@ first-adds-no-more p (suc n) (k ∷ later) = go (p (addition k)) (first-adds-no-
     go false h = h
 
 -- the answers to commands that were accepted, where they leave at most c cabinets and s spans
-answers-no-longer : (caps : Capacities) (c s : ℕ) (state : State) (l : List Accepted) → Answered caps state l
+answers-no-longer : (choice : Choice) (caps : Capacities) (c s : ℕ) (state : State) (l : List Accepted) → Sound caps state
+    → Serves (state .book .network .rule) choice → Answered choice caps state l
     → let ks = map (λ a. a .command) l in
     stateAfter state ks .book .network .vertices ≤ c
     → edgeCount (stateAfter state ks .book .network) ≤ s
-    → length (bytesOfAnswers l) ≤ longestLengths c s ks + 5 * noticesInAll (answersFrom state ks)
+    → length (bytesOfAnswers l) ≤ longestLengths c s ks + 5 * noticesInAll (answersFrom choice state ks)
 unfolding bytesOfAnswers longestLengths answersFrom countKind
-answers-no-longer caps c s state [] w few-cabinets few-spans = omega arith
-answers-no-longer caps c s state (a ∷ later) w few-cabinets few-spans =
+answers-no-longer choice caps c s state [] sound serves w few-cabinets few-spans = omega arith
+answers-no-longer choice caps c s state (a ∷ later) sound serves w few-cabinets few-spans =
     omega (
       arith,
       bytes-of-more a later,
@@ -108,26 +111,36 @@ answers-no-longer caps c s state (a ∷ later) w few-cabinets few-spans =
       answer-no-longer state c s
           (omega (arith, few-cabinets, cabinets-after state (map (λ b. b .command) (a ∷ later))))
           (omega (arith, few-spans, spans-after state (map (λ b. b .command) (a ∷ later))))
-          (a .command),
-      notices-by-kind (noticesIn (answer state (a .command))),
-      answers-no-longer caps c s (after state (a .command)) later (w .2) (unfold stateAfter in few-cabinets) (unfold stateAfter in few-spans),
+          choice
+          caps
+          sound
+          serves
+          (a .command)
+          (w .0),
+      notices-by-kind (noticesIn (answer choice state (a .command))),
+      answers-no-longer choice caps c s (after state (a .command)) later
+          (sound-after caps state (a .command) sound (w .0))
+          (serves-after choice state (a .command) serves)
+          (w .2)
+          (unfold stateAfter in few-cabinets)
+          (unfold stateAfter in few-spans),
     )
 
 -- k times L(k) grows with k
 times-log-grows : (j k : ℕ) → j ≤ k → j * wholeLog2 j ≤ k * highestBit k
 times-log-grows j k h = rw (highest-bit-is-log2 k) (mul-le-mul h (log2-monotone j k h))
 
-module _ (rule : Rule) (mates : MateRule rule) (caps : Capacities) where
+module _ (rule : Rule) (mates : MateRule rule) (choice : Choice) (serves : Serves rule choice) (caps : Capacities) where
   -- from an empty network, c commands that add a cabinet and s that add a span bring no more notices than demand 3 allows
   notices-no-more : (c s : ℕ) (ks : List Command) → NoneRefused caps (emptyState rule) ks → cabinetCommands ks ≤ c → spanCommands ks ≤ s
-      → noticesInAll (answersFrom (emptyState rule) ks) ≤ 2 * (c * highestBit c) + s * highestBit s
+      → noticesInAll (answersFrom choice (emptyState rule) ks) ≤ 2 * (c * highestBit c) + s * highestBit s
   unfolding itemsOf
   notices-no-more c s ks n few-cabinets few-spans =
       omega (
         arith,
-        few-in-all caps district start ks sound n,
-        few-in-all caps ring start ks sound n,
-        few-in-all caps mesh start ks sound n,
+        few-in-all choice caps district start ks sound n,
+        few-in-all choice caps ring start ks sound n,
+        few-in-all choice caps mesh start ks sound n,
         times-log-grows cabinets c (omega (arith, cabinets-from-none rule ks)),
         times-log-grows spans s (omega (arith, spans-from-none rule ks)),
       )
@@ -145,16 +158,16 @@ module _ (rule : Rule) (mates : MateRule rule) (caps : Capacities) where
       spans = edgeCount (stateAfter start ks .book .network)
 
   -- commands accepted from an empty network, which are the first of some commands: the length for all of these is room for their answers
-  room-for-first : (l : List Accepted) (ks : List Command) → Answered caps (emptyState rule) l → Prefix (map (λ a. a .command) l) ks
+  room-for-first : (l : List Accepted) (ks : List Command) → Answered choice caps (emptyState rule) l → Prefix (map (λ a. a .command) l) ks
       → RoomForAll (sufficient ks) l
   unfolding sufficient lengthFor
   room-for-first l ks w first =
       omega (
         arith,
-        answers-no-longer caps c s start l w
+        answers-no-longer choice caps c s start l (empty-sound caps rule mates) (unfold emptyState emptyBook in serves) w
             (omega (arith, cabinets-from-none rule done, few-cabinets))
             (omega (arith, spans-from-none rule done, few-spans)),
-        notices-no-more c s done (answered-not-refused caps start l w) few-cabinets few-spans,
+        notices-no-more c s done (answered-not-refused choice caps start l w) few-cabinets few-spans,
         subst (λ m. longestLengths c s m ≤ longestLengths c s ks) (sym (first .same)) (first-no-longer c s (length done) ks),
         longest-by-kind c s ks,
       )
@@ -187,27 +200,29 @@ not-cut room l all cut =
     let same : none ≡ some noRoom = ap (λ (r : Run). r .refusal) (sym (all-fit-whole room l none all) ∙ cut-at-stop room l none cut) in
     impossible (cc)
 
--- The run of a journal under a rule of mates, for any capacities and buffers.
-module _ (rule : Rule) (mates : MateRule rule) (caps : Capacities) (journal : List ℕ) (lent : Buffers) where
+-- The run of a journal under a rule of mates and a choice of routes that serves, for any capacities and buffers.
+module _ (rule : Rule) (mates : MateRule rule) (choice : Choice) (serves : Serves rule choice) (caps : Capacities) (journal : List ℕ) (lent : Buffers) where
   -- the length for the commands that the journal spells, up to its end or to what cannot be read, is room for all answers
-  room-for-text : RoomForAll (sufficient (map (λ r. r .command) (textOf journal .commands))) (unbounded rule caps journal lent .accepted)
+  room-for-text : RoomForAll (sufficient (map (λ r. r .command) (textOf journal .commands))) (unbounded rule choice caps journal lent .accepted)
   room-for-text =
-      let run = unbounded rule caps journal lent in
+      let run = unbounded rule choice caps journal lent in
       room-for-first
       rule
       mates
+      choice
+      serves
       caps
       (run .accepted)
       (map (λ r. r .command) (textOf journal .commands))
-      (steps-answered caps (whole-run-steps caps (emptyState rule) journal))
-      (run-accepts-first caps (emptyState rule) (textOf journal))
+      (steps-answered choice caps (whole-run-steps choice caps (emptyState rule) journal))
+      (run-accepts-first choice caps (emptyState rule) (textOf journal))
 
   -- so with as much no run is refused for want of room
   pub never-without-room : sufficient (map (λ r. r .command) (textOf journal .commands)) ≤ length (lent .answers)
-      → entryUnder rule caps journal lent .returned ≢ 11
+      → entryUnder rule choice caps journal lent .returned ≢ 11
   never-without-room h e =
-      let cut = eleven-exactly rule caps journal lent .0 e .1 in
-      let l = unbounded rule caps journal lent .accepted in
+      let cut = eleven-exactly rule choice caps journal lent .0 e .1 in
+      let l = unbounded rule choice caps journal lent .accepted in
       not-cut (length (lent .answers)) l (omega (arith, room-for-text)) cut
 
 -- the first of the answers have no more bytes
@@ -218,16 +233,19 @@ bytes-of-first (suc n) [] = omega arith
 bytes-of-first (suc n) (a ∷ l) = omega (arith, bytes-of-more a (take n l), bytes-of-more a l, bytes-of-first n l)
 
 -- what a run answers, with any room, fits 32 bits
-pub run-answers-fit : (rule : Rule) → MateRule rule → (caps : Capacities) (room : ℕ) (journal : List ℕ) → length journal ≤ 65536
-    → length (bytesOfAnswers (runWithin room caps (emptyState rule) (textOf journal) .accepted)) < 4294967296
-run-answers-fit rule mates caps room journal short =
-    let all = runText caps (emptyState rule) (textOf journal) .accepted in
-    let first = within-is-prefix room caps (emptyState rule) journal in
+pub run-answers-fit : (rule : Rule) → MateRule rule → (choice : Choice) → Serves rule choice
+    → (caps : Capacities) (room : ℕ) (journal : List ℕ) → length journal ≤ 65536
+    → length (bytesOfAnswers (runWithin room choice caps (emptyState rule) (textOf journal) .accepted)) < 4294967296
+run-answers-fit rule mates choice serves caps room journal short =
+    let all = runText choice caps (emptyState rule) (textOf journal) .accepted in
+    let first = within-is-prefix room choice caps (emptyState rule) journal in
     let ks = map (λ r. r .command) (textOf journal .commands) in
     omega (
       arith,
       ap (λ l. length (bytesOfAnswers l)) (first .same),
-      bytes-of-first (length (runWithin room caps (emptyState rule) (textOf journal) .accepted)) all,
-      room-for-first rule mates caps all ks (steps-answered caps (whole-run-steps caps (emptyState rule) journal)) (run-accepts-first caps (emptyState rule) (textOf journal)),
+      bytes-of-first (length (runWithin room choice caps (emptyState rule) (textOf journal) .accepted)) all,
+      room-for-first rule mates choice serves caps all ks
+          (steps-answered choice caps (whole-run-steps choice caps (emptyState rule) journal))
+          (run-accepts-first choice caps (emptyState rule) (textOf journal)),
       text-fits journal short,
     )

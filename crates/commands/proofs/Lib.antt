@@ -34,6 +34,7 @@ pub mod NoticeOrder
 pub mod NameList
 pub mod EachKind
 pub mod RunBooks
+pub mod Routes
 pub mod AnswersFit
 pub mod NoticeBound
 pub mod ReadBack

@@ -13,6 +13,7 @@ use Rattle.graph.specs.Below.{count}
 use Rattle.graph.specs.Lists.{allIn}
 use Rattle.graph.specs.Network.{Rule, addVertex, addEdge}
 use Rattle.graph.specs.Groups.{bridgeBlock}
+use Rattle.graph.specs.Route.{Choice}
 use Rattle.graph.proofs.Truth.{false-of-not, false-of-not-true, not-both, and-left, or-left, or-right, or-cases, eqb-eq, eq-eqb, ltb-lt}
 use Rattle.graph.proofs.BridgeBlock.{bridge-block-equivalence}
 use Rattle.naming.specs.Book.{Book, Addition, vertex, edge, neither, emptyBook, enterVertex, enterEdge, feed}
@@ -20,7 +21,7 @@ use Rattle.naming.specs.State.{State, emptyState, afterAddition, Recording, rec
 use Rattle.naming.proofs.Count.{count-last-out, count-with}
 use Rattle.naming.proofs.Equivalent.{equivalent-of}
 use Rattle.naming.proofs.GroupSum.{groups-add-up}
-use Rattle.commands.specs.Command.{Command, addCabinet, addSpan, districtName, ringName, sharedMesh, soleSpans, cutCabinets, isSole, markExchange, holdsExchange, addDuctSpan, exchangeShare, commandByte}
+use Rattle.commands.specs.Command.{Command, addCabinet, addSpan, districtName, ringName, sharedMesh, soleSpans, cutCabinets, isSole, markExchange, holdsExchange, addDuctSpan, routesBetween, exchangeShare, commandByte}
 use Rattle.commands.specs.Facts.{asks, facts, operandsOf, demandsOf, addition, recordingOf, recording, after, stateAfter}
 use Rattle.commands.specs.Refusal.{Capacities, refusalNumber, cabinetKnown, cabinetsKnown, met, cause, meets, refusalOf}
 use Rattle.commands.specs.Entry.{wholeRun, acceptedCommands}
@@ -46,6 +47,7 @@ records-marks (isSole x) = refl
 records-marks (markExchange a) = refl
 records-marks (holdsExchange a) = refl
 records-marks (addDuctSpan a b d) = refl
+records-marks (routesBetween a b) = refl
 records-marks exchangeShare = refl
 
 -- the byte of a mark is 09
@@ -187,12 +189,12 @@ rings-add-up s =
     groups-add-up (g .vertices) (bridgeBlock g) (equivalent-of (bridgeBlock g) (bridge-block-equivalence g)) (s .marked)
 
 -- in every run, after every number of the accepted commands, the exchanges of all rings are as many as the commands of 09
-pub exchanges-add-up : (rule : Rule) (caps : Capacities) (journal : List ℕ) (workLength answersLength reportLength : ℕ)
-    → ExchangesAddUp rule (acceptedCommands (wholeRun rule caps journal workLength answersLength reportLength))
+pub exchanges-add-up : (rule : Rule) (choice : Choice) (caps : Capacities) (journal : List ℕ) (workLength answersLength reportLength : ℕ)
+    → ExchangesAddUp rule (acceptedCommands (wholeRun rule choice caps journal workLength answersLength reportLength))
 unfolding emptyState emptyBook count
-exchanges-add-up rule caps journal workLength answersLength reportLength k h =
-    let cs = acceptedCommands (wholeRun rule caps journal workLength answersLength reportLength) in
-    let not-refused = whole-run-not-refused rule caps journal workLength answersLength reportLength in
+exchanges-add-up rule choice caps journal workLength answersLength reportLength k h =
+    let cs = acceptedCommands (wholeRun rule choice caps journal workLength answersLength reportLength) in
+    let not-refused = whole-run-not-refused rule choice caps journal workLength answersLength reportLength in
     rings-add-up (stateAfter (emptyState rule) (take k cs))
     ∙ exchanges-after caps (emptyState rule) (take k cs) (λ x m. absurd (false≢true m)) (first-not-refused caps (emptyState rule) cs not-refused k)
     ∙ zero-add (markCommands (take k cs))

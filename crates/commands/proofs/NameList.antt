@@ -10,6 +10,7 @@ use lib.ListN.{length, take}
 use Rattle.graph.specs.Below.{tabulate}
 use Rattle.graph.specs.Lists.{isIn}
 use Rattle.graph.specs.Network.{Edge, Rule, edgeCount, addVertex, addEdge}
+use Rattle.graph.specs.Route.{Choice}
 use Rattle.graph.proofs.Truth.{true-or-false, eqb-eq, lt-ltb, ge-ltb}
 use Rattle.graph.proofs.Joined.{edge-count-more}
 use Rattle.naming.specs.Rename.{nameOf, changedItems}
@@ -179,37 +180,40 @@ hear-span b s e =
     (unfold enterEdge addEdge in refl)
     (unfold enterEdge in edge-count-more (b .network) e)
 
-by-facts : (s : State) → SizedBook (s .book) → (f : Facts) → hear (namesOf (s .book)) (answerTo s f) ≡ namesOf (feed (s .book) (additionOf f))
+by-facts : (choice : Choice) (s : State) → SizedBook (s .book) → (f : Facts)
+    → hear (namesOf (s .book)) (answerTo choice s f) ≡ namesOf (feed (s .book) (additionOf f))
 unfolding answerTo additionOf feed
-by-facts s sized addsCabinet = unfold hear in hear-cabinet (s .book) sized
-by-facts s sized (addsSpan e operands demands) = hear-span (s .book) sized e
-by-facts s sized (addsNothing q) = unfold hear in refl
+by-facts choice s sized addsCabinet = unfold hear in hear-cabinet (s .book) sized
+by-facts choice s sized (addsSpan e operands demands) = hear-span (s .book) sized e
+by-facts choice s sized (addsNothing q) = unfold hear in refl
 
 -- hearing the answer to a command turns the names before it into the names after it
-pub names-heard : (s : State) → SizedBook (s .book) → (c : Command) → hear (namesOf (s .book)) (answer s c) ≡ namesOf (after s c .book)
+pub names-heard : (choice : Choice) (s : State) → SizedBook (s .book) → (c : Command)
+    → hear (namesOf (s .book)) (answer choice s c) ≡ namesOf (after s c .book)
 unfolding answer after afterAddition afterRecording addition
-names-heard s sized c = by-facts s sized (facts c)
+names-heard choice s sized c = by-facts choice s sized (facts c)
 
 -- the answers to a list of commands, each from the state that those before it leave
-unfoldable pub answersFrom : State → List Command → List Answer
-answersFrom s [] = []
-answersFrom s (c ∷ later) = answer s c ∷ answersFrom (after s c) later
+unfoldable pub answersFrom : Choice → State → List Command → List Answer
+answersFrom choice s [] = []
+answersFrom choice s (c ∷ later) = answer choice s c ∷ answersFrom choice (after s c) later
 
 -- the first answers are the answers to the first commands
-pub first-answers : (k : ℕ) (s : State) (cs : List Command) → take k (answersFrom s cs) ≡ answersFrom s (take k cs)
+pub first-answers : (choice : Choice) (k : ℕ) (s : State) (cs : List Command)
+    → take k (answersFrom choice s cs) ≡ answersFrom choice s (take k cs)
 unfolding answersFrom
-first-answers zero s cs = refl
-first-answers (suc k) s [] = refl
-first-answers (suc k) s (c ∷ later) = ap {B = List Answer} (λ l. answer s c ∷ l) (first-answers k (after s c) later)
+first-answers choice zero s cs = refl
+first-answers choice (suc k) s [] = refl
+first-answers choice (suc k) s (c ∷ later) = ap {B = List Answer} (λ l. answer choice s c ∷ l) (first-answers choice k (after s c) later)
 
 -- hearing the answers to any commands turns the names before them into the names after them
-pub hear-all : (s : State) → SizedBook (s .book) → (cs : List Command)
-    → hearAll (namesOf (s .book)) (answersFrom s cs) ≡ namesOf (stateAfter s cs .book)
+pub hear-all : (choice : Choice) (s : State) → SizedBook (s .book) → (cs : List Command)
+    → hearAll (namesOf (s .book)) (answersFrom choice s cs) ≡ namesOf (stateAfter s cs .book)
 unfolding hearAll answersFrom stateAfter
-hear-all s sized [] = refl
-hear-all s sized (c ∷ later) =
-    ap (λ l. hearAll l (answersFrom (after s c) later)) (names-heard s sized c)
-    ∙ hear-all (after s c) (sized-after s sized c) later
+hear-all choice s sized [] = refl
+hear-all choice s sized (c ∷ later) =
+    ap (λ l. hearAll l (answersFrom choice (after s c) later)) (names-heard choice s sized c)
+    ∙ hear-all choice (after s c) (sized-after s sized c) later
 
 -- an empty book has no names
 pub no-names : (rule : Rule) → namesOf (emptyBook rule) ≡ noNames

@@ -7,6 +7,7 @@ use native.Mathlib.Nat.{not-suc-le-zero}
 use native.Mathlib.Omega.{arith}
 use lib.ListN.{length, take, getD}
 use Rattle.graph.specs.Below.{count}
+use Rattle.graph.specs.Route.{Choice}
 use Rattle.graph.proofs.Truth.{not-both, eq-eqb}
 use Rattle.naming.specs.Rename.{nameOf}
 use Rattle.naming.specs.Book.{feed}
@@ -29,24 +30,25 @@ use Rattle.commands.proofs.EachKind.{kind-laws, kind-advances, sized-by
 use Rattle.commands.proofs.RunBooks.{Sound, command-advances, sound-after, NoneRefused}
 
 -- an answer holds no notices, or those of the command
-in-answer : (P : List Notice → Type 0) (s : State) (c : Command) → P [] → P (notices (s .book) (after s c .book)) → P (noticesIn (answer s c))
+in-answer : (choice : Choice) (P : List Notice → Type 0) (s : State) (c : Command) → P [] → P (notices (s .book) (after s c .book))
+    → P (noticesIn (answer choice s c))
 unfolding answer after afterAddition afterRecording addition
-in-answer P s c p q = go (facts c) q
+in-answer choice P s c p q = go (facts c) q
   where
-    go : (f : Facts) → P (notices (s .book) (feed (s .book) (additionOf f))) → P (noticesIn (answerTo s f))
+    go : (f : Facts) → P (notices (s .book) (feed (s .book) (additionOf f))) → P (noticesIn (answerTo choice s f))
     go addsCabinet q = unfold noticesIn answerTo in p
     go (addsSpan e operands demands) q = unfold noticesIn answerTo spanAnswer additionOf in q
     go (addsNothing question) q = unfold noticesIn answerTo in p
 
-module _ (caps : Capacities) where
+module _ (choice : Choice) (caps : Capacities) where
   -- each notice of a command moves its item into a group at least twice the size of the one it left
   pub each-doubles : (s : State) (c : Command) → Sound caps s → refusalOf caps s c ≡ none
-      → EachNotice (Doubles (s .book .network) (after s c .book .network)) (noticesIn (answer s c))
+      → EachNotice (Doubles (s .book .network) (after s c .book .network)) (noticesIn (answer choice s c))
   unfolding groupSize
   each-doubles s c sound e =
       let b = s .book in
       let b′ = after s c .book in
-      in-answer (EachNotice (Doubles (b .network) (b′ .network))) s c tt
+      in-answer choice (EachNotice (Doubles (b .network) (b′ .network))) s c tt
       (each-notice (Doubles (b .network) (b′ .network)) b b′ (sized-by-laws (sound .laws))
       (λ kind x h d.
       kind-advances (command-advances caps s c sound e) kind .doubles x h
@@ -54,10 +56,11 @@ module _ (caps : Capacities) where
 
   -- an answer has no more notices of a kind than items of before have another name
   few-at-once : (s : State) (c : Command) → Sound caps s → (kind : Kind)
-      → countNotices kind (noticesIn (answer s c))
+      → countNotices kind (noticesIn (answer choice s c))
       ≤ count (itemsOf kind (s .book .network)) (differs (namesIn kind (s .book)) (namesIn kind (after s c .book)))
   few-at-once s c sound kind =
       in-answer
+      choice
       (λ ts.
       countNotices kind ts
       ≤ count (itemsOf kind (s .book .network)) (differs (namesIn kind (s .book)) (namesIn kind (after s c .book))))
@@ -70,7 +73,7 @@ module _ (caps : Capacities) where
   few-with-earlier : (kind : Kind) (s : State) (cs : List Command) → Sound caps s → NoneRefused caps s cs
       → (changes : ℕ → ℕ) → Bounded (itemsOf kind (s .book .network)) (groupsOf kind (s .book .network)) changes
       → let items = itemsOf kind (stateAfter s cs .book .network) in
-      countKind kind (answersFrom s cs) + total (itemsOf kind (s .book .network)) changes ≤ items * wholeLog2 items
+      countKind kind (answersFrom choice s cs) + total (itemsOf kind (s .book .network)) changes ≤ items * wholeLog2 items
   unfolding countKind answersFrom stateAfter
   few-with-earlier kind s [] sound n changes f =
       omega (arith, bounded-total (itemsOf kind (s .book .network)) (groupsOf kind (s .book .network)) changes f)
@@ -98,7 +101,7 @@ module _ (caps : Capacities) where
   -- the notices of a kind are at most n log2 n for the n items that there are in the end
   pub few-in-all : (kind : Kind) (s : State) (cs : List Command) → Sound caps s → NoneRefused caps s cs
       → let items = itemsOf kind (stateAfter s cs .book .network) in
-      countKind kind (answersFrom s cs) ≤ items * wholeLog2 items
+      countKind kind (answersFrom choice s cs) ≤ items * wholeLog2 items
   few-in-all kind s cs sound n =
       omega (
         arith,
@@ -113,7 +116,7 @@ module _ (caps : Capacities) where
   pub each-doubles-at : (s : State) (cs : List Command) → Sound caps s → NoneRefused caps s cs → (i : ℕ) → i < length cs
       → EachNotice
       (Doubles (stateAfter s (take i cs) .book .network) (stateAfter s (take (suc i) cs) .book .network))
-      (noticesIn (getD (answersFrom s (take (suc i) cs)) i (plain noMeshShared)))
+      (noticesIn (getD (answersFrom choice s (take (suc i) cs)) i (plain noMeshShared)))
   unfolding stateAfter answersFrom
   each-doubles-at s [] sound n i h = absurd (not-suc-le-zero h)
   each-doubles-at s (c ∷ later) sound n zero h = each-doubles s c sound (n .0)

@@ -42,7 +42,7 @@ form-pays =
     also (λ x c s. omega arith)
     also (λ x c s. omega arith)
     also (λ x. omega arith)
-    also tt
+    also (λ x c s. omega arith)
     also tt
     also tt
     also (λ x c s. omega arith)

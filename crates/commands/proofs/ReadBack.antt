@@ -6,6 +6,8 @@ use mathlib.Core.Path.{_≡_, refl, _∙_, ap}
 use Prim.Native.Nat.{ℕ, zero, suc, _≤_}
 use lib.ListN.{length, take, drop, getElem?, length-map}
 use Rattle.graph.specs.Network.{Rule, MateRule}
+use Rattle.graph.specs.Route.{Choice, Serves}
+use Rattle.naming.specs.Book.{emptyBook}
 use Rattle.naming.specs.State.{State, emptyState}
 use Rattle.commands.specs.Command.{Command}
 use Rattle.commands.specs.Refusal.{Refusal, Capacities}
@@ -22,56 +24,57 @@ use Rattle.commands.proofs.RunBooks.{empty-sound, Answered, run-answere
 use Rattle.commands.proofs.AnswersFit.{all-answers-fit}
 
 -- there are as many answers as commands
-pub length-answers : (s : State) (cs : List Command) → length (answersFrom s cs) ≡ length cs
+pub length-answers : (choice : Choice) (s : State) (cs : List Command) → length (answersFrom choice s cs) ≡ length cs
 unfolding answersFrom
-length-answers s [] = refl
-length-answers s (c ∷ later) = ap suc (length-answers (after s c) later)
+length-answers choice s [] = refl
+length-answers choice s (c ∷ later) = ap suc (length-answers choice (after s c) later)
 
 -- each answer is the answer to its command from the state after those before it
-pub answer-at : (s : State) (cs : List Command) (i : ℕ) (c : Command) → getElem? cs i ≡ some c
-    → getElem? (answersFrom s cs) i ≡ some (answer (stateAfter s (take i cs)) c)
+pub answer-at : (choice : Choice) (s : State) (cs : List Command) (i : ℕ) (c : Command) → getElem? cs i ≡ some c
+    → getElem? (answersFrom choice s cs) i ≡ some (answer choice (stateAfter s (take i cs)) c)
 unfolding answersFrom stateAfter
-answer-at s [] i c e = impossible (cc)
-answer-at s (d ∷ later) zero c e = cc
-answer-at s (d ∷ later) (suc i) c e = answer-at (after s d) later i c e
+answer-at choice s [] i c e = impossible (cc)
+answer-at choice s (d ∷ later) zero c e = cc
+answer-at choice s (d ∷ later) (suc i) c e = answer-at choice (after s d) later i c e
 
 -- commands that were accepted one after another, with answers that fit: their answers are read back, whatever follows the bytes
-read-accepted : (caps : Capacities) (s : State) (l : List Accepted) → Answered caps s l → AllFit l → (rest : List ℕ)
+read-accepted : (choice : Choice) (caps : Capacities) (s : State) (l : List Accepted) → Answered choice caps s l → AllFit l → (rest : List ℕ)
     → (k : ℕ) → k ≤ length (map (λ a. a .command) l)
-    → decodeFirst k (bytesOfAnswers l ++ rest) ≡ answersFrom s (take k (map (λ a. a .command) l))
-read-accepted caps s l w fit rest k h =
+    → decodeFirst k (bytesOfAnswers l ++ rest) ≡ answersFrom choice s (take k (map (λ a. a .command) l))
+read-accepted choice caps s l w fit rest k h =
     decode-first l fit k (rw length-map at h) rest
-    ∙ ap (take k) (answers-of-run caps s l w)
-    ∙ first-answers k s (map (λ a. a .command) l)
+    ∙ ap (take k) (answers-of-run choice caps s l w)
+    ∙ first-answers choice k s (map (λ a. a .command) l)
 
-module _ (rule : Rule) (caps : Capacities) (journal : List ℕ) (lent : Buffers) where
+module _ (rule : Rule) (choice : Choice) (caps : Capacities) (journal : List ℕ) (lent : Buffers) where
   -- the accepted commands of the run
   abbrev pub accepted : List Command
-  accepted = acceptedCommands (whole rule caps journal lent)
+  accepted = acceptedCommands (whole rule choice caps journal lent)
 
   -- the answer buffer on return
   abbrev pub answerBuffer : List ℕ
-  answerBuffer = entryUnder rule caps journal lent .buffers .answers
+  answerBuffer = entryUnder rule choice caps journal lent .buffers .answers
 
   -- the first k answers that the buffer holds are those to the first k commands
-  pub read-back : MateRule rule → (k : ℕ) → k ≤ length accepted
-      → decodeFirst k answerBuffer ≡ answersFrom (emptyState rule) (take k accepted)
+  pub read-back : MateRule rule → Serves rule choice → (k : ℕ) → k ≤ length accepted
+      → decodeFirst k answerBuffer ≡ answersFrom choice (emptyState rule) (take k accepted)
   unfolding entryUnder outcome over acceptedCommands commandsOf bytesOfAnswers
-  read-back r k h = go (refused-or-ran rule caps journal (length (lent .work)) (length (lent .answers)) (length (lent .report))) h
+  read-back r serves k h = go (refused-or-ran rule choice caps journal (length (lent .work)) (length (lent .answers)) (length (lent .report))) h
     where
       start : State
       start = emptyState rule
 
       taken : List Accepted
-      taken = within rule caps journal lent .accepted
+      taken = within rule choice caps journal lent .accepted
 
-      go : ((refusal : Refusal) × (whole rule caps journal lent ≡ refusedAtStart refusal)) ⊎ WellStarted rule caps journal lent
+      go : ((refusal : Refusal) × (whole rule choice caps journal lent ≡ refusedAtStart refusal)) ⊎ WellStarted rule choice caps journal lent
           → k ≤ length accepted
-          → decodeFirst k (outcome rule caps lent (whole rule caps journal lent) .buffers .answers) ≡ answersFrom start (take k accepted)
-      go (inl (refusal, e)) h = rw e (read-accepted caps start [] tt tt (lent .answers) k (rw e at h))
+          → decodeFirst k (outcome rule caps lent (whole rule choice caps journal lent) .buffers .answers)
+          ≡ answersFrom choice start (take k accepted)
+      go (inl (refusal, e)) h = rw e (read-accepted choice caps start [] tt tt (lent .answers) k (rw e at h))
       go (inr well) h =
-          let w = run-answered (length (lent .answers)) caps start journal in
+          let w = run-answered (length (lent .answers)) choice caps start journal in
           let range = good-exactly caps .0 (well .good-capacities) in
-          let fit = all-answers-fit caps range start taken (empty-sound caps rule r) w in
-          let runs = ran-exactly rule caps journal (length (lent .work)) (length (lent .answers)) (length (lent .report)) .1 well in
-          rw runs (read-accepted caps start taken w fit (drop (length (bytesOfAnswers taken)) (lent .answers)) k (rw runs at h))
+          let fit = all-answers-fit choice caps range start taken (empty-sound caps rule r) (unfold emptyState emptyBook in serves) w in
+          let runs = ran-exactly rule choice caps journal (length (lent .work)) (length (lent .answers)) (length (lent .report)) .1 well in
+          rw runs (read-accepted choice caps start taken w fit (drop (length (bytesOfAnswers taken)) (lent .answers)) k (rw runs at h))

@@ -9,7 +9,7 @@ use native.Mathlib.Omega.{arith}
 use lib.ListN.{length, getD, take, drop, length-take}
 use lib.Seq.{getD-take, take-take, take-add, length-take-le, drop-at}
 use Rattle.commands.specs.Bytes.{number}
-use Rattle.commands.specs.Command.{Command, addCabinet, addSpan, districtName, ringName, sharedMesh, soleSpans, cutCabinets, isSole, markExchange, holdsExchange, addDuctSpan, exchangeShare, Form, unknown, takes, forms, form, operand, command, readForm, readCommand, commandByte}
+use Rattle.commands.specs.Command.{Command, addCabinet, addSpan, districtName, ringName, sharedMesh, soleSpans, cutCabinets, isSole, markExchange, holdsExchange, addDuctSpan, routesBetween, exchangeShare, Form, unknown, takes, forms, form, operand, command, readForm, readCommand, commandByte}
 use Rattle.commands.specs.Refusal.{Refusal}
 use Rattle.commands.specs.Text.{Read, textOf, placeBehind}
 use Rattle.commands.proofs.ByPlace.{each-at, _also_}
@@ -56,7 +56,7 @@ command-by-operands =
     also one-operand markExchange
     also one-operand holdsExchange
     also three-operands addDuctSpan
-    also tt
+    also two-operands routesBetween
     also tt
     also tt
     also no-operand exchangeShare
@@ -87,7 +87,7 @@ form-has-byte =
     also (λ x. refl)
     also (λ x. refl)
     also (λ x. refl)
-    also tt
+    also (λ x. refl)
     also tt
     also tt
     also (λ x. refl)

@@ -26,12 +26,12 @@ unfoldable pub widthOf : Form → ℕ
 widthOf unknown = 0
 widthOf (takes n make) = 2 * n
 
--- the commands' bytes are 01 to 0B, and 0F
-pub known-bytes : (byte : ℕ) → isCommand byte ≡ ((leb 0x01 byte && leb byte 0x0B) || eqb byte 0x0F)
+-- the commands' bytes are 01 to 0C, and 0F
+pub known-bytes : (byte : ℕ) → isCommand byte ≡ ((leb 0x01 byte && leb byte 0x0C) || eqb byte 0x0F)
 unfolding isCommand form forms isKnown
 known-bytes =
     each-at
-    (λ byte f. isKnown f ≡ ((leb 0x01 byte && leb byte 0x0B) || eqb byte 0x0F))
+    (λ byte f. isKnown f ≡ ((leb 0x01 byte && leb byte 0x0C) || eqb byte 0x0F))
     forms
     unknown
     (refl
@@ -51,7 +51,7 @@ known-bytes =
     also refl
     also refl
     also tt)
-    (λ byte h. sym (rw (gt-leb byte 0x0B (omega arith), ne-eqb byte 0x0F (λ e. omega arith), and-false (leb 0x01 byte))))
+    (λ byte h. sym (rw (gt-leb byte 0x0C (omega arith), ne-eqb byte 0x0F (λ e. omega arith), and-false (leb 0x01 byte))))
 
 -- the form of the other bytes, and of no others, is unknown
 pub unknown-exactly : (byte : ℕ) → (form byte ≡ unknown) ↔ (isCommand byte ≡ false)

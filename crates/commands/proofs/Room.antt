@@ -1,5 +1,5 @@
 -- The run without room, and the run with room: which answers fit, and where the run is cut.
-use mathlib.Core.List.{List, [], _∷_, _++_, append-assoc}
+use mathlib.Core.List.{List, [], _∷_}
 use mathlib.Core.Logic.{_⊎_, inl, inr}
 use mathlib.Core.Option.{Option, some}
 use mathlib.Core.Path.{_≡_, refl, sym, _∙_, ap}
@@ -12,12 +12,6 @@ use Rattle.commands.specs.Answer.{answerBytes}
 use Rattle.commands.specs.Refusal.{Refusal, noRoom}
 use Rattle.commands.specs.Run.{Accepted, stop, andThen, fitting, bytesOfAnswers}
 use Rattle.commands.proofs.Cases.{le-or-gt, gt-leb, impossible}
-
--- the bytes of the answers of two lists, one after the other
-pub bytes-append : (l m : List Accepted) → bytesOfAnswers (l ++ m) ≡ bytesOfAnswers l ++ bytesOfAnswers m
-unfolding bytesOfAnswers
-bytes-append [] m = refl
-bytes-append (a ∷ later) m = rw (bytes-append later m) (sym (append-assoc (answerBytes (a .answer)) (bytesOfAnswers later) (bytesOfAnswers m)))
 
 -- the answers' bytes are the first answer's and the others', counted
 pub bytes-of-more : (a : Accepted) (later : List Accepted)

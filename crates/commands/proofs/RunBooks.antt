@@ -5,6 +5,7 @@ use mathlib.Core.Path.{_≡_, refl, sym, ap₂, subst}
 use Prim.Native.Nat.{ℕ, zero, suc}
 use lib.ListN.{length, take}
 use Rattle.graph.specs.Network.{Rule, MateRule, Proper}
+use Rattle.graph.specs.Route.{Choice}
 use Rattle.naming.specs.Book.{Book, Addition, vertex, edge, neither, enterEdge, feed}
 use Rattle.naming.specs.State.{State, emptyState, afterAddition, afterRecording}
 use Rattle.naming.proofs.Book.{BookLaws, BookAdvances, laws-after, empty-book-laws, book-stays, vertex-entered, edge-entered}
@@ -68,74 +69,79 @@ sound-after-all caps s [] sound n = sound
 sound-after-all caps s (c ∷ later) sound n = sound-after-all caps (after s c) later (sound-after caps s c sound (n .0)) (n .1)
 
 -- the commands were accepted one after another: none was refused, and each answer is the definition's
-abbrev pub Answered : Capacities → State → List Accepted → Type 0
-Answered caps s [] = Unit
-Answered caps s (a ∷ later) =
-    (refusalOf caps s (a .command) ≡ none) × (a .answer ≡ answer s (a .command)) × Answered caps (after s (a .command)) later
+abbrev pub Answered : Choice → Capacities → State → List Accepted → Type 0
+Answered choice caps s [] = Unit
+Answered choice caps s (a ∷ later) =
+    (refusalOf caps s (a .command) ≡ none) × (a .answer ≡ answer choice s (a .command)) × Answered choice caps (after s (a .command)) later
 
 -- so it is with every list of steps
-pub steps-answered : (caps : Capacities) {s : State} {journal : List ℕ} {l : List Accepted} {end : Option Refusal}
-    → RunsTo caps s journal l end → Answered caps s l
-steps-answered caps ends = tt
-steps-answered caps (refuses f) = tt
-steps-answered caps (accepts w rest) = (w .not-refused, w .answered, steps-answered caps rest)
+pub steps-answered : (choice : Choice) (caps : Capacities) {s : State} {journal : List ℕ} {l : List Accepted} {end : Option Refusal}
+    → RunsTo choice caps s journal l end → Answered choice caps s l
+steps-answered choice caps ends = tt
+steps-answered choice caps (refuses f) = tt
+steps-answered choice caps (accepts w rest) = (w .not-refused, w .answered, steps-answered choice caps rest)
 
-first-answered : (caps : Capacities) (s : State) (l : List Accepted) → Answered caps s l → (k : ℕ) → Answered caps s (take k l)
-first-answered caps s l w zero = tt
-first-answered caps s [] w (suc k) = tt
-first-answered caps s (a ∷ later) w (suc k) = (w .0, w .1, first-answered caps (after s (a .command)) later (w .2) k)
+first-answered : (choice : Choice) (caps : Capacities) (s : State) (l : List Accepted) → Answered choice caps s l → (k : ℕ)
+    → Answered choice caps s (take k l)
+first-answered choice caps s l w zero = tt
+first-answered choice caps s [] w (suc k) = tt
+first-answered choice caps s (a ∷ later) w (suc k) = (w .0, w .1, first-answered choice caps (after s (a .command)) later (w .2) k)
 
 -- and with the accepted commands of every run
-pub run-answered : (room : ℕ) (caps : Capacities) (s : State) (journal : List ℕ) → Answered caps s (runWithin room caps s (textOf journal) .accepted)
-run-answered room caps s journal =
+pub run-answered : (room : ℕ) (choice : Choice) (caps : Capacities) (s : State) (journal : List ℕ)
+    → Answered choice caps s (runWithin room choice caps s (textOf journal) .accepted)
+run-answered room choice caps s journal =
     subst
-    (Answered caps s)
-    (sym (within-is-prefix room caps s journal .same))
+    (Answered choice caps s)
+    (sym (within-is-prefix room choice caps s journal .same))
     (first-answered
+    choice
     caps
     s
-    (runText caps s (textOf journal) .accepted)
-    (steps-answered caps (whole-run-steps caps s journal))
-    (length (runWithin room caps s (textOf journal) .accepted)))
+    (runText choice caps s (textOf journal) .accepted)
+    (steps-answered choice caps (whole-run-steps choice caps s journal))
+    (length (runWithin room choice caps s (textOf journal) .accepted)))
 
 -- then none of them was refused
-pub answered-not-refused : (caps : Capacities) (s : State) (l : List Accepted) → Answered caps s l → NoneRefused caps s (map (λ a. a .command) l)
-answered-not-refused caps s [] w = tt
-answered-not-refused caps s (a ∷ later) w = (w .0, answered-not-refused caps (after s (a .command)) later (w .2))
+pub answered-not-refused : (choice : Choice) (caps : Capacities) (s : State) (l : List Accepted) → Answered choice caps s l
+    → NoneRefused caps s (map (λ a. a .command) l)
+answered-not-refused choice caps s [] w = tt
+answered-not-refused choice caps s (a ∷ later) w = (w .0, answered-not-refused choice caps (after s (a .command)) later (w .2))
 
 -- and their answers are the definition's
-pub answers-of-run : (caps : Capacities) (s : State) (l : List Accepted) → Answered caps s l
-    → answersIn l ≡ answersFrom s (map (λ a. a .command) l)
+pub answers-of-run : (choice : Choice) (caps : Capacities) (s : State) (l : List Accepted) → Answered choice caps s l
+    → answersIn l ≡ answersFrom choice s (map (λ a. a .command) l)
 unfolding answersFrom
-answers-of-run caps s [] w = refl
-answers-of-run caps s (a ∷ later) w =
-    ap₂ {A = Answer} {B = List Answer} (λ x xs. x ∷ xs) (w .1) (answers-of-run caps (after s (a .command)) later (w .2))
+answers-of-run choice caps s [] w = refl
+answers-of-run choice caps s (a ∷ later) w =
+    ap₂ {A = Answer} {B = List Answer} (λ x xs. x ∷ xs) (w .1) (answers-of-run choice caps (after s (a .command)) later (w .2))
 
 -- The runs of a journal from the empty state.
-module _ (rule : Rule) (caps : Capacities) (journal : List ℕ) (workLength answersLength reportLength : ℕ) where
+module _ (rule : Rule) (choice : Choice) (caps : Capacities) (journal : List ℕ) (workLength answersLength reportLength : ℕ) where
   -- the accepted commands of a whole run were not refused
   pub whole-run-not-refused :
-      NoneRefused caps (emptyState rule) (acceptedCommands (wholeRun rule caps journal workLength answersLength reportLength))
+      NoneRefused caps (emptyState rule) (acceptedCommands (wholeRun rule choice caps journal workLength answersLength reportLength))
   unfolding wholeRun wholeUnless acceptedCommands commandsOf
   whole-run-not-refused = go (firstThatApplies (startLines caps (length journal) workLength reportLength))
     where
       go : (o : Option Refusal)
-          → NoneRefused caps (emptyState rule) (acceptedCommands (wholeUnless o (runWithin answersLength caps (emptyState rule) (textOf journal))))
+          → NoneRefused caps (emptyState rule) (acceptedCommands (wholeUnless o (runWithin answersLength choice caps (emptyState rule) (textOf journal))))
       go (some r) = tt
       go none =
           answered-not-refused
+          choice
           caps
           (emptyState rule)
-          (runWithin answersLength caps (emptyState rule) (textOf journal) .accepted)
-          (run-answered answersLength caps (emptyState rule) journal)
+          (runWithin answersLength choice caps (emptyState rule) (textOf journal) .accepted)
+          (run-answered answersLength choice caps (emptyState rule) journal)
 
   -- after every number of them the state is sound: its book is within the capacities, with names that name its groups
   pub whole-run-sound : MateRule rule → (k : ℕ)
       → Sound
       caps
-      (stateAfter (emptyState rule) (take k (acceptedCommands (wholeRun rule caps journal workLength answersLength reportLength))))
+      (stateAfter (emptyState rule) (take k (acceptedCommands (wholeRun rule choice caps journal workLength answersLength reportLength))))
   whole-run-sound r k =
-      let cs = acceptedCommands (wholeRun rule caps journal workLength answersLength reportLength) in
+      let cs = acceptedCommands (wholeRun rule choice caps journal workLength answersLength reportLength) in
       sound-after-all
       caps
       (emptyState rule)

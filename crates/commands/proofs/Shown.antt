@@ -1,7 +1,12 @@
--- The marked histories, those with exchanges and with ducts, the calls of the run's entry and the forecasts hold of the definitions: each table is computed at once.
+-- The marked histories, those with exchanges, with ducts and with routes, the calls of the run's entry and the forecasts hold of the
+-- definitions: each table is computed at once.
 use mathlib.Core.List.{List, [], _∷_, _++_, map}
 use mathlib.Core.Path.{_≡_, refl, ap}
 use lib.ListN.{replicate}
+use Rattle.graph.specs.Lists
+use Rattle.graph.specs.Cycle
+use Rattle.graph.specs.Travel
+use Rattle.graph.specs.Route
 use Rattle.commands.specs.Register.{program, programReport}
 use Rattle.commands.specs.Forecast.{forecast}
 use Rattle.commands.specs.Histories.{History, EachShown, histories}
@@ -10,6 +15,8 @@ use Rattle.commands.specs.ExchangeHistories
 use Rattle.commands.specs.ExchangeHistories.{exchangeHistories}
 use Rattle.commands.specs.DuctHistories
 use Rattle.commands.specs.DuctHistories.{ductHistories}
+use Rattle.commands.specs.RouteHistories
+use Rattle.commands.specs.RouteHistories.{routeHistories, offers, judged}
 use Rattle.commands.specs.Calls.{sevens, call, atStart, startCalls, stopCalls, cabinetAnswers, acceptedCalls, entered, foretold, forecasts}
 use Rattle.commands.proofs.Computed.{computed}
 
@@ -38,6 +45,11 @@ duct-histories-made : map made ductHistories ≡ ductHistories
 unfolding computed Histories.output Histories.accepted Histories.refusedWith Histories.notice DuctHistories.twoInOneDuct DuctHistories.twoInTwoDucts DuctHistories.besideADuct DuctHistories.loopAroundADuct DuctHistories.measuredInSpans DuctHistories.oneNumberAtTwoPairs DuctHistories.greatestDuct DuctHistories.inNoDuct DuctHistories.ductHistories
 duct-histories-made = refl
 
+-- and of the one with routes
+route-histories-made : map made routeHistories ≡ routeHistories
+unfolding computed Histories.output Histories.accepted Histories.refusedWith Histories.notice RouteHistories.routesInTwoDucts RouteHistories.triangleSpans RouteHistories.routesInTriangle RouteHistories.ladderSpans RouteHistories.rungGivenBack RouteHistories.twoMeshesSpans RouteHistories.routesThroughCut RouteHistories.matesAndASpan RouteHistories.routeBesideMates RouteHistories.matesOnTheWaySpans RouteHistories.matesOnTheWay RouteHistories.onlyMates RouteHistories.acrossRings RouteHistories.routesAcrossDistricts RouteHistories.routesToItself RouteHistories.routesToNowhere RouteHistories.routesFromNowhere RouteHistories.routeHistories
+route-histories-made = refl
+
 -- every marked history holds of the definitions
 pub histories-shown : EachShown histories
 histories-shown = each-shown histories histories-made
@@ -49,6 +61,15 @@ exchange-histories-shown = each-shown exchangeHistories exchange-histories-made
 -- and every history with ducts
 pub duct-histories-shown : EachShown ductHistories
 duct-histories-shown = each-shown ductHistories duct-histories-made
+
+-- and every history with routes
+pub route-histories-shown : EachShown routeHistories
+route-histories-shown = each-shown routeHistories route-histories-made
+
+-- The pairs that are said to serve do, and the others do not.
+pub offers-judged : map judged offers ≡ map (λ o. o .serves) offers
+unfolding computed Lists.distinct Cycle.joins Cycle.leads Travel.visited Route.stepsAlong Route.isRoute Route.apart Route.serve RouteHistories.twoDuctsSpans RouteHistories.triangleSpans RouteHistories.ladderSpans RouteHistories.twoMeshesSpans RouteHistories.matesAndASpan RouteHistories.matesOnTheWaySpans RouteHistories.offer RouteHistories.judged RouteHistories.offers
+offers-judged = refl
 
 -- The entry returns and leaves so for every call.
 pub calls-shown : map entered (startCalls ++ stopCalls ++ acceptedCalls) ≡ map (λ c. c .outcome) (startCalls ++ stopCalls ++ acceptedCalls)

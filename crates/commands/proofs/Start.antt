@@ -8,6 +8,7 @@ use Prim.Native.Nat.{ℕ, _≤_}
 use lib.Dec.{leb, ltb}
 use lib.ListN.{length}
 use Rattle.graph.specs.Network.{Rule}
+use Rattle.graph.specs.Route.{Choice}
 use Rattle.graph.proofs.Truth.{not-of-true, true-of-not-false, and-left, and-right, and-both, leb-le, le-leb}
 use Rattle.naming.specs.State.{emptyState}
 use Rattle.commands.specs.Refusal.{Refusal, badCapacity, shortBuffer, longJournal, refusalNumber, Line, Capacities, firstThatApplies}
@@ -67,36 +68,36 @@ unfolding wholeUnless
 ran-unless none run = (λ e. refl, λ e. refl)
 ran-unless (some s) run = (λ e. impossible (cc), λ e. impossible (cc))
 
-module _ (rule : Rule) (caps : Capacities) (journal : List ℕ) (workLength answersLength reportLength : ℕ) where
+module _ (rule : Rule) (choice : Choice) (caps : Capacities) (journal : List ℕ) (workLength answersLength reportLength : ℕ) where
   -- the lines that are tested at the start
   abbrev startTable : List Line
   startTable = startLines caps (length journal) workLength reportLength
 
   -- the start's refusals are those of its lines
-  pub start-decides : (r : Refusal) → (wholeRun rule caps journal workLength answersLength reportLength ≡ refusedAtStart r)
+  pub start-decides : (r : Refusal) → (wholeRun rule choice caps journal workLength answersLength reportLength ≡ refusedAtStart r)
       ↔ (firstThatApplies startTable ≡ some r)
   unfolding wholeRun
   start-decides r = refused-unless (firstThatApplies startTable) _ r
 
   -- a run is refused at the start at that stage
-  pub start-stage : (r : Refusal) → wholeRun rule caps journal workLength answersLength reportLength ≡ refusedAtStart r → Between 0 0 r
+  pub start-stage : (r : Refusal) → wholeRun rule choice caps journal workLength answersLength reportLength ≡ refusedAtStart r → Between 0 0 r
   unfolding startLines stage
   start-stage r e = given-between 0 0 startTable r refl (start-decides r .0 e)
 
   -- bad capacity: C or S is out of its range
-  pub bad-capacity-exactly : (wholeRun rule caps journal workLength answersLength reportLength ≡ refusedAtStart badCapacity)
+  pub bad-capacity-exactly : (wholeRun rule choice caps journal workLength answersLength reportLength ≡ refusedAtStart badCapacity)
       ↔ (goodCapacities caps ≡ false)
   unfolding startLines refusalNumber
   bad-capacity-exactly = Iff·trans (start-decides badCapacity) (simp not-is-true at (given-exactly 0 badCapacity startTable refl))
 
   -- short buffer: the capacities are good, and the working table or the report is too short
-  pub short-buffer-exactly : (wholeRun rule caps journal workLength answersLength reportLength ≡ refusedAtStart shortBuffer)
+  pub short-buffer-exactly : (wholeRun rule choice caps journal workLength answersLength reportLength ≡ refusedAtStart shortBuffer)
       ↔ ((goodCapacities caps ≡ true) × (shortBuffers caps workLength reportLength ≡ true))
   unfolding startLines refusalNumber
   short-buffer-exactly = Iff·trans (start-decides shortBuffer) (simp not-is-false at (given-exactly 1 shortBuffer startTable refl))
 
   -- long journal: neither, and the journal is longer than 65,536 bytes
-  pub long-journal-exactly : (wholeRun rule caps journal workLength answersLength reportLength ≡ refusedAtStart longJournal)
+  pub long-journal-exactly : (wholeRun rule choice caps journal workLength answersLength reportLength ≡ refusedAtStart longJournal)
       ↔ ((goodCapacities caps ≡ true) × ((shortBuffers caps workLength reportLength ≡ false) × (ltb 65536 (length journal) ≡ true)))
   unfolding startLines refusalNumber
   long-journal-exactly = Iff·trans (start-decides longJournal) (simp not-is-false at (given-exactly 2 longJournal startTable refl))
@@ -110,7 +111,7 @@ module _ (rule : Rule) (caps : Capacities) (journal : List ℕ) (workLength answ
   no-line w = (not-of-true (w .good-capacities), (w .long-buffers, (w .short-journal, tt)))
 
   -- the run goes ahead exactly if none of the three applies
-  pub ran-exactly : (wholeRun rule caps journal workLength answersLength reportLength ≡ ran (runWithin answersLength caps (emptyState rule) (textOf journal)))
+  pub ran-exactly : (wholeRun rule choice caps journal workLength answersLength reportLength ≡ ran (runWithin answersLength choice caps (emptyState rule) (textOf journal)))
       ↔ StartsWell caps (length journal) workLength reportLength
   unfolding wholeRun
   ran-exactly =
@@ -119,12 +120,12 @@ module _ (rule : Rule) (caps : Capacities) (journal : List ℕ) (workLength answ
       (Iff·trans (none-exactly startTable) (starts-well, no-line))
 
   -- a run is refused at the start, or goes ahead
-  pub refused-or-ran : ((r : Refusal) × (wholeRun rule caps journal workLength answersLength reportLength ≡ refusedAtStart r))
+  pub refused-or-ran : ((r : Refusal) × (wholeRun rule choice caps journal workLength answersLength reportLength ≡ refusedAtStart r))
       ⊎ StartsWell caps (length journal) workLength reportLength
   refused-or-ran = go (firstThatApplies startTable) refl
     where
       go : (o : Option Refusal) → firstThatApplies startTable ≡ o
-          → ((r : Refusal) × (wholeRun rule caps journal workLength answersLength reportLength ≡ refusedAtStart r))
+          → ((r : Refusal) × (wholeRun rule choice caps journal workLength answersLength reportLength ≡ refusedAtStart r))
           ⊎ StartsWell caps (length journal) workLength reportLength
       go (some r) e = inl (r, start-decides r .1 e)
       go none e = inr (starts-well (none-exactly startTable .0 e))

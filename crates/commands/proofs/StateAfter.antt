@@ -1,8 +1,8 @@
 -- The state after commands, one after another, and its book.
 use mathlib.Core.List.{List, [], _∷_, map}
-use mathlib.Core.Path.{_≡_, refl}
-use Rattle.graph.specs.Network.{Rule}
-use Rattle.naming.specs.Book.{feedAll}
+use mathlib.Core.Path.{_≡_, refl, _∙_}
+use Rattle.graph.specs.Network.{Rule, addVertex, addEdge}
+use Rattle.naming.specs.Book.{Addition, vertex, edge, neither, enterVertex, enterEdge, feed, feedAll}
 use Rattle.naming.specs.State.{State, emptyState, afterAddition, afterRecording}
 use Rattle.commands.specs.Command.{Command}
 use Rattle.commands.specs.Facts.{addition, after, stateAfter}
@@ -19,6 +19,22 @@ book-fed s (c ∷ later) = book-fed (after s c) later
 pub book-after-commands : (rule : Rule) (cs : List Command) → stateAfter (emptyState rule) cs .book ≡ bookAfter rule cs
 unfolding emptyState bookAfter
 book-after-commands rule cs = book-fed (emptyState rule) cs
+
+-- no command changes the rule of mates
+pub rule-after : (s : State) (c : Command) → after s c .book .network .rule ≡ s .book .network .rule
+unfolding after afterAddition afterRecording feed
+rule-after s c = go (addition c)
+  where
+    go : (a : Addition) → feed (s .book) a .network .rule ≡ s .book .network .rule
+    go vertex = unfold enterVertex addVertex in refl
+    go (edge e) = unfold enterEdge addEdge in refl
+    go neither = refl
+
+-- nor do several
+pub rule-after-commands : (s : State) (cs : List Command) → stateAfter s cs .book .network .rule ≡ s .book .network .rule
+unfolding stateAfter
+rule-after-commands s [] = refl
+rule-after-commands s (c ∷ later) = rule-after-commands (after s c) later ∙ rule-after s c
 
 -- the state after accepted commands
 unfoldable pub stateFed : State → List Accepted → State

@@ -6,6 +6,7 @@ use mathlib.Core.Path.{_≡_, refl, _∙_, ap}
 use Prim.Native.Nat.{ℕ, zero, suc, _+_, _-_, _≤_, _<_}
 use native.Mathlib.Omega.{arith}
 use lib.ListN.{length, drop}
+use Rattle.graph.specs.Route.{Choice}
 use Rattle.naming.specs.State.{State}
 use Rattle.commands.specs.Command.{Command, Reading, unknownByte, cutOff, command, readCommand}
 use Rattle.commands.specs.Answer.{answerBytes}
@@ -54,47 +55,48 @@ module _ (place byte : ℕ) (bytes : List ℕ) where
       (text-skips-operands (suc place) width bytes ∙ ap (λ p. textFrom p 0 (drop width bytes)) (omega arith)))
 
 -- The run over a text, from a state.
-module _ (caps : Capacities) (s : State) where
+module _ (choice : Choice) (caps : Capacities) (s : State) where
   -- a text without commands
-  pub run-ends : (end : Option Refusal) → runText caps s (endsWith end) ≡ record { accepted = []; refusal = end }
+  pub run-ends : (end : Option Refusal) → runText choice caps s (endsWith end) ≡ record { accepted = []; refusal = end }
   unfolding runText runOver endsWith
   run-ends end = refl
 
   -- a command that is refused stops the run
-  pub run-refuses : (r : Read) (t : Text) {q : Refusal} → refusalOf caps s (r .command) ≡ some q → runText caps s (followedBy r t) ≡ stop q
+  pub run-refuses : (r : Read) (t : Text) {q : Refusal} → refusalOf caps s (r .command) ≡ some q
+      → runText choice caps s (followedBy r t) ≡ stop q
   unfolding runText runOver followedBy
   run-refuses r t e = rw (e, runOver)
 
   -- a command that is not is accepted, and followed by the run from the state after it
   pub run-accepts : (r : Read) (t : Text) → refusalOf caps s (r .command) ≡ none
-      → runText caps s (followedBy r t) ≡ andThen (acceptedIn s r) (runText caps (after s (r .command)) t)
+      → runText choice caps s (followedBy r t) ≡ andThen (acceptedIn choice s r) (runText choice caps (after s (r .command)) t)
   unfolding runText runOver followedBy
   run-accepts r t e = rw (e, runOver)
 
 -- The same with so much room.
-module _ (room : ℕ) (caps : Capacities) (s : State) where
-  pub within-ends : (end : Option Refusal) → runWithin room caps s (endsWith end) ≡ record { accepted = []; refusal = end }
+module _ (room : ℕ) (choice : Choice) (caps : Capacities) (s : State) where
+  pub within-ends : (end : Option Refusal) → runWithin room choice caps s (endsWith end) ≡ record { accepted = []; refusal = end }
   unfolding runWithin fitting
-  within-ends end = rw (run-ends caps s end)
+  within-ends end = rw (run-ends choice caps s end)
 
   pub within-refuses : (r : Read) (t : Text) {q : Refusal} → refusalOf caps s (r .command) ≡ some q
-      → runWithin room caps s (followedBy r t) ≡ stop q
+      → runWithin room choice caps s (followedBy r t) ≡ stop q
   unfolding runWithin fitting stop
-  within-refuses r t e = rw (run-refuses caps s r t e)
+  within-refuses r t e = rw (run-refuses choice caps s r t e)
 
   -- a command whose answer is longer than the room is refused
   pub within-no-room : (r : Read) (t : Text) → refusalOf caps s (r .command) ≡ none
-      → room < length (answerBytes (answer s (r .command))) → runWithin room caps s (followedBy r t) ≡ stop noRoom
+      → room < length (answerBytes (answer choice s (r .command))) → runWithin room choice caps s (followedBy r t) ≡ stop noRoom
   unfolding runWithin andThen acceptedIn
-  within-no-room r t e h = rw (run-accepts caps s r t e) (first-does-not-fit room (acceptedIn s r) _ _ h)
+  within-no-room r t e h = rw (run-accepts choice caps s r t e) (first-does-not-fit room (acceptedIn choice s r) _ _ h)
 
   -- one whose answer fits leaves the rest of the room to those behind it
   pub within-accepts : (r : Read) (t : Text) → refusalOf caps s (r .command) ≡ none
-      → length (answerBytes (answer s (r .command))) ≤ room
-      → runWithin room caps s (followedBy r t)
-      ≡ andThen (acceptedIn s r) (runWithin (room - length (answerBytes (answer s (r .command)))) caps (after s (r .command)) t)
+      → length (answerBytes (answer choice s (r .command))) ≤ room
+      → runWithin room choice caps s (followedBy r t)
+      ≡ andThen (acceptedIn choice s r) (runWithin (room - length (answerBytes (answer choice s (r .command)))) choice caps (after s (r .command)) t)
   unfolding runWithin andThen acceptedIn
-  within-accepts r t e h = rw (run-accepts caps s r t e) (first-fits room (acceptedIn s r) _ _ h)
+  within-accepts r t e h = rw (run-accepts choice caps s r t e) (first-fits room (acceptedIn choice s r) _ _ h)
 
 -- what it is to be refused: an unknown byte, operands cut off, or a command read whole that the table refuses
 pub data RefusedFor (caps : Capacities) (s : State) : Reading → Refusal → Type 0 where
@@ -103,98 +105,101 @@ pub data RefusedFor (caps : Capacities) (s : State) : Reading → Refusal → Ty
   for-command : {c : Command} {width : ℕ} {q : Refusal} → refusalOf caps s c ≡ some q → RefusedFor caps s (command c width) q
 
 -- what it is to be accepted: a command was read whole, no line of the table refuses it, and its answer is the definition's
-pub record WasAccepted (caps : Capacities) (s : State) (read : Reading) (a : Accepted) : Type 0 where
+pub record WasAccepted (choice : Choice) (caps : Capacities) (s : State) (read : Reading) (a : Accepted) : Type 0 where
   pub was-read : read ≡ command (a .command) (a .width)
   pub not-refused : refusalOf caps s (a .command) ≡ none
-  pub answered : a .answer ≡ answer s (a .command)
+  pub answered : a .answer ≡ answer choice s (a .command)
 
 -- the operands of an accepted command stand in the journal
-pub accepted-width-fits : (caps : Capacities) (s : State) (byte : ℕ) (bytes : List ℕ) (a : Accepted)
-    → WasAccepted caps s (readCommand byte bytes) a → a .width ≤ length bytes
-accepted-width-fits caps s byte bytes a w = operands-fit byte bytes (a .command) (a .width) (w .was-read)
+pub accepted-width-fits : (choice : Choice) (caps : Capacities) (s : State) (byte : ℕ) (bytes : List ℕ) (a : Accepted)
+    → WasAccepted choice caps s (readCommand byte bytes) a → a .width ≤ length bytes
+accepted-width-fits choice caps s byte bytes a w = operands-fit byte bytes (a .command) (a .width) (w .was-read)
 
 -- what is read is refused or accepted
-refused-or-accepted : (caps : Capacities) (s : State) (read : Reading)
-    → ((q : Refusal) × RefusedFor caps s read q) ⊎ ((a : Accepted) × WasAccepted caps s read a)
-refused-or-accepted caps s unknownByte = inl (badByte, for-byte)
-refused-or-accepted caps s cutOff = inl (cutOperands, for-operands)
-refused-or-accepted caps s (command c width) = go (refusalOf caps s c) refl
+refused-or-accepted : (choice : Choice) (caps : Capacities) (s : State) (read : Reading)
+    → ((q : Refusal) × RefusedFor caps s read q) ⊎ ((a : Accepted) × WasAccepted choice caps s read a)
+refused-or-accepted choice caps s unknownByte = inl (badByte, for-byte)
+refused-or-accepted choice caps s cutOff = inl (cutOperands, for-operands)
+refused-or-accepted choice caps s (command c width) = go (refusalOf caps s c) refl
   where
     go : (o : Option Refusal) → refusalOf caps s c ≡ o
-        → ((q : Refusal) × RefusedFor caps s (command c width) q) ⊎ ((a : Accepted) × WasAccepted caps s (command c width) a)
+        → ((q : Refusal) × RefusedFor caps s (command c width) q) ⊎ ((a : Accepted) × WasAccepted choice caps s (command c width) a)
     go (some q) e = inl (q, for-command e)
     go none e =
-        inr (record { command = c; answer = answer s c; width = width }, record { was-read = refl; not-refused = e; answered = refl })
+        inr (record { command = c; answer = answer choice s c; width = width }, record { was-read = refl; not-refused = e; answered = refl })
 
 -- The run over the text from a byte on.
-module _ (caps : Capacities) (s : State) (place byte : ℕ) (bytes : List ℕ) where
+module _ (choice : Choice) (caps : Capacities) (s : State) (place byte : ℕ) (bytes : List ℕ) where
   -- what is refused stops it
-  pub journal-refuses : {q : Refusal} → RefusedFor caps s (readCommand byte bytes) q → runText caps s (textFrom place 0 (byte ∷ bytes)) ≡ stop q
+  pub journal-refuses : {q : Refusal} → RefusedFor caps s (readCommand byte bytes) q
+      → runText choice caps s (textFrom place 0 (byte ∷ bytes)) ≡ stop q
   unfolding stop
   journal-refuses f = go refl f
     where
       go : {read : Reading} {q : Refusal} → readCommand byte bytes ≡ read → RefusedFor caps s read q
-          → runText caps s (textFrom place 0 (byte ∷ bytes)) ≡ stop q
-      go e for-byte = rw (text-unknown place byte bytes e) (run-ends caps s (some badByte))
-      go e for-operands = rw (text-cut-off place byte bytes e) (run-ends caps s (some cutOperands))
-      go e (for-command d) = rw (text-goes-on place byte bytes e) (run-refuses caps s _ _ d)
+          → runText choice caps s (textFrom place 0 (byte ∷ bytes)) ≡ stop q
+      go e for-byte = rw (text-unknown place byte bytes e) (run-ends choice caps s (some badByte))
+      go e for-operands = rw (text-cut-off place byte bytes e) (run-ends choice caps s (some cutOperands))
+      go e (for-command d) = rw (text-goes-on place byte bytes e) (run-refuses choice caps s _ _ d)
 
   -- what is accepted is followed by the run over the text from behind its operands, from the state after it
-  pub journal-accepts : {a : Accepted} → WasAccepted caps s (readCommand byte bytes) a
-      → runText caps s (textFrom place 0 (byte ∷ bytes))
-      ≡ andThen a (runText caps (after s (a .command)) (textFrom (place + 1 + a .width) 0 (drop (a .width) bytes)))
+  pub journal-accepts : {a : Accepted} → WasAccepted choice caps s (readCommand byte bytes) a
+      → runText choice caps s (textFrom place 0 (byte ∷ bytes))
+      ≡ andThen a (runText choice caps (after s (a .command)) (textFrom (place + 1 + a .width) 0 (drop (a .width) bytes)))
   unfolding acceptedIn
   journal-accepts {a} w =
       rw
       (text-goes-on place byte bytes (w .was-read), w .answered)
-      (run-accepts caps s _ _ (w .not-refused))
+      (run-accepts choice caps s _ _ (w .not-refused))
 
 -- From a state, over the bytes of a journal: the commands accepted one after another, each read from behind the one before it in the
 -- state after that one, until the journal ends or a command is refused.
-pub data RunsTo (caps : Capacities) : State → List ℕ → List Accepted → Option Refusal → Type 0 where
-  ends : {s : State} → RunsTo caps s [] [] none
+pub data RunsTo (choice : Choice) (caps : Capacities) : State → List ℕ → List Accepted → Option Refusal → Type 0 where
+  ends : {s : State} → RunsTo choice caps s [] [] none
   refuses : {s : State} {byte : ℕ} {bytes : List ℕ} {q : Refusal}
-      → RefusedFor caps s (readCommand byte bytes) q → RunsTo caps s (byte ∷ bytes) [] (some q)
+      → RefusedFor caps s (readCommand byte bytes) q → RunsTo choice caps s (byte ∷ bytes) [] (some q)
   accepts : {s : State} {byte : ℕ} {bytes : List ℕ} {a : Accepted} {later : List Accepted} {end : Option Refusal}
-      → WasAccepted caps s (readCommand byte bytes) a
-      → RunsTo caps (after s (a .command)) (drop (a .width) bytes) later end
-      → RunsTo caps s (byte ∷ bytes) (a ∷ later) end
+      → WasAccepted choice caps s (readCommand byte bytes) a
+      → RunsTo choice caps (after s (a .command)) (drop (a .width) bytes) later end
+      → RunsTo choice caps s (byte ∷ bytes) (a ∷ later) end
 
 -- the run over the text of these bytes goes so
-abbrev Goes : Capacities → State → ℕ → ℕ → List ℕ → Type 0
-Goes caps s place k bytes =
-    let run = runText caps s (textFrom place k bytes) in
-    RunsTo caps s (drop k bytes) (run .accepted) (run .refusal)
+abbrev Goes : Choice → Capacities → State → ℕ → ℕ → List ℕ → Type 0
+Goes choice caps s place k bytes =
+    let run = runText choice caps s (textFrom place k bytes) in
+    RunsTo choice caps s (drop k bytes) (run .accepted) (run .refusal)
 
 -- the run is such a list of steps
-pub run-takes-steps : (caps : Capacities) (s : State) (place k : ℕ) (bytes : List ℕ)
+pub run-takes-steps : (choice : Choice) (caps : Capacities) (s : State) (place k : ℕ) (bytes : List ℕ)
     → RunsTo
+    choice
     caps
     s
     (drop k bytes)
-    (runText caps s (textFrom place k bytes) .accepted)
-    (runText caps s (textFrom place k bytes) .refusal)
+    (runText choice caps s (textFrom place k bytes) .accepted)
+    (runText choice caps s (textFrom place k bytes) .refusal)
 unfolding textFrom runText runOver endsWith stop andThen
-run-takes-steps caps s place zero [] = ends
-run-takes-steps caps s place (suc k) [] = ends
-run-takes-steps caps s place (suc k) (byte ∷ bytes) = run-takes-steps caps s (suc place) k bytes
-run-takes-steps caps s place zero (byte ∷ bytes) =
-    go (λ s′ k. run-takes-steps caps s′ (place + 1) k bytes) (refused-or-accepted caps s (readCommand byte bytes))
+run-takes-steps choice caps s place zero [] = ends
+run-takes-steps choice caps s place (suc k) [] = ends
+run-takes-steps choice caps s place (suc k) (byte ∷ bytes) = run-takes-steps choice caps s (suc place) k bytes
+run-takes-steps choice caps s place zero (byte ∷ bytes) =
+    go (λ s′ k. run-takes-steps choice caps s′ (place + 1) k bytes) (refused-or-accepted choice caps s (readCommand byte bytes))
   where
-    go : ((s′ : State) (k : ℕ) → Goes caps s′ (place + 1) k bytes)
-        → ((q : Refusal) × RefusedFor caps s (readCommand byte bytes) q) ⊎ ((a : Accepted) × WasAccepted caps s (readCommand byte bytes) a)
-        → Goes caps s place 0 (byte ∷ bytes)
-    go rest (inl (q, f)) = rw (journal-refuses caps s place byte bytes f) (refuses f)
+    go : ((s′ : State) (k : ℕ) → Goes choice caps s′ (place + 1) k bytes)
+        → ((q : Refusal) × RefusedFor caps s (readCommand byte bytes) q)
+        ⊎ ((a : Accepted) × WasAccepted choice caps s (readCommand byte bytes) a)
+        → Goes choice caps s place 0 (byte ∷ bytes)
+    go rest (inl (q, f)) = rw (journal-refuses choice caps s place byte bytes f) (refuses f)
     go rest (inr (a, w)) =
         rw
-        (journal-accepts caps s place byte bytes w, ← (text-skips-operands (place + 1) (a .width) bytes))
+        (journal-accepts choice caps s place byte bytes w, ← (text-skips-operands (place + 1) (a .width) bytes))
         (accepts w (rest (after s (a .command)) (a .width)))
 
 -- and no other list of steps is
-pub steps-are-the-run : (caps : Capacities) (place : ℕ) {s : State} {journal : List ℕ} {l : List Accepted} {end : Option Refusal}
-    → RunsTo caps s journal l end → runText caps s (textFrom place 0 journal) ≡ record { accepted = l; refusal = end }
+pub steps-are-the-run : (choice : Choice) (caps : Capacities) (place : ℕ) {s : State} {journal : List ℕ} {l : List Accepted} {end : Option Refusal}
+    → RunsTo choice caps s journal l end → runText choice caps s (textFrom place 0 journal) ≡ record { accepted = l; refusal = end }
 unfolding stop andThen
-steps-are-the-run caps place {s} ends = rw (text-ends place) (run-ends caps s none)
-steps-are-the-run caps place {s} (refuses {byte = byte} {bytes = bytes} f) = journal-refuses caps s place byte bytes f
-steps-are-the-run caps place {s} (accepts {byte = byte} {bytes = bytes} {a = a} w rest) =
-    journal-accepts caps s place byte bytes w ∙ ap (andThen a) (steps-are-the-run caps (place + 1 + a .width) rest)
+steps-are-the-run choice caps place {s} ends = rw (text-ends place) (run-ends choice caps s none)
+steps-are-the-run choice caps place {s} (refuses {byte = byte} {bytes = bytes} f) = journal-refuses choice caps s place byte bytes f
+steps-are-the-run choice caps place {s} (accepts {byte = byte} {bytes = bytes} {a = a} w rest) =
+    journal-accepts choice caps s place byte bytes w ∙ ap (andThen a) (steps-are-the-run choice caps (place + 1 + a .width) rest)

@@ -10,7 +10,7 @@ use native.Mathlib.Omega.{arith}
 use lib.Dec.{leb, eqb}
 use lib.ListN.{getD, getElem?}
 use Rattle.graph.proofs.Truth.{true-or-false, not-both, and-left, and-right, eqb-eq, eqb-same, leb-le, false-of-not, false-of-not-true}
-use Rattle.commands.specs.Refusal.{Refusal, badCapacity, shortBuffer, longJournal, badByte, cutOperands, unknownCabinet, unknownSpan, equalCabinets, full, twoDistricts, noRoom, alreadyExchange, noDuct, refusalNumber, Line, firstThatApplies}
+use Rattle.commands.specs.Refusal.{Refusal, badCapacity, shortBuffer, longJournal, badByte, cutOperands, unknownCabinet, unknownSpan, equalCabinets, full, twoDistricts, noRoom, alreadyExchange, noDuct, noSharedRing, refusalNumber, Line, firstThatApplies}
 use Rattle.commands.proofs.Cases.{impossible}
 
 -- the refusal with a number
@@ -31,6 +31,7 @@ withNumber n =
     ∷ noRoom
     ∷ alreadyExchange
     ∷ noDuct
+    ∷ noSharedRing
     ∷ [])
     n
     badCapacity
@@ -50,6 +51,7 @@ with-its-number twoDistricts = refl
 with-its-number noRoom = refl
 with-its-number alreadyExchange = refl
 with-its-number noDuct = refl
+with-its-number noSharedRing = refl
 
 -- refusals with the same number are the same
 pub same-number : (r s : Refusal) → refusalNumber r ≡ refusalNumber s → r ≡ s
@@ -71,6 +73,7 @@ number-above-zero twoDistricts = omega arith
 number-above-zero noRoom = omega arith
 number-above-zero alreadyExchange = omega arith
 number-above-zero noDuct = omega arith
+number-above-zero noSharedRing = omega arith
 
 -- a line that applies gives its refusal
 pub line-applies : (l : Line) (ls : List Line) → l .applies ≡ true → firstThatApplies (l ∷ ls) ≡ some (l .refusal)
@@ -185,6 +188,7 @@ stage full = 2
 stage twoDistricts = 2
 stage alreadyExchange = 2
 stage noDuct = 2
+stage noSharedRing = 2
 stage noRoom = 3
 
 -- the refusal's stage lies between the two

@@ -1,17 +1,20 @@
--- Demand 3: the whole-run claim holds of every run of the definitions, for every rule of mates, capacity, journal and buffer.
+-- Demand 3: the whole-run claim holds of every run of the definitions, for every rule of mates, every choice of routes that
+-- serves, every capacity, journal and buffer.
 use mathlib.Core.List.{List}
 use mathlib.Core.Path.{_≡_, sym, _∙_}
 use Prim.Native.Nat.{ℕ, suc, _≤_}
 use lib.ListN.{length, take}
 use lib.Seq.{length-take-le}
 use Rattle.graph.specs.Network.{Rule, MateRule}
+use Rattle.graph.specs.Route.{Choice, Serves}
 use Rattle.graph.proofs.Ducts.{same-duct-mates}
+use Rattle.ways.proofs.TwoRoutes.{two-routes-serve}
 use Rattle.naming.specs.State.{State, emptyState}
 use Rattle.commands.specs.Command.{Command}
 use Rattle.commands.specs.Facts.{stateAfter}
 use Rattle.commands.specs.Refusal.{Capacities}
 use Rattle.commands.specs.Entry.{wholeRun, acceptedCommands, bookAfter, Buffers, entryUnder}
-use Rattle.commands.specs.Register.{registerRule, register}
+use Rattle.commands.specs.Register.{registerRule, registerRoutes, register}
 use Rattle.commands.specs.Decode.{decodeFirst}
 use Rattle.commands.specs.WholeRun.{WholeRunClaim}
 use Rattle.commands.proofs.StateAfter.{book-after-commands}
@@ -22,22 +25,23 @@ use Rattle.commands.proofs.NoticeBound.{few-in-all, each-doubles-at}
 use Rattle.commands.proofs.ReadBack.{length-answers, accepted, answerBuffer, read-back}
 
 -- the whole-run claim holds of every run: refused at the start, refused later, or accepted
-pub whole-run : (rule : Rule) → MateRule rule → (caps : Capacities) (journal : List ℕ) (lent : Buffers)
+pub whole-run : (rule : Rule) → MateRule rule → (choice : Choice) → Serves rule choice
+    → (caps : Capacities) (journal : List ℕ) (lent : Buffers)
     → WholeRunClaim
     rule
-    (acceptedCommands (wholeRun rule caps journal (length (lent .work)) (length (lent .answers)) (length (lent .report))))
-    (entryUnder rule caps journal lent .buffers .answers)
+    (acceptedCommands (wholeRun rule choice caps journal (length (lent .work)) (length (lent .answers)) (length (lent .report))))
+    (entryUnder rule choice caps journal lent .buffers .answers)
 unfolding emptyState
-whole-run rule r caps journal lent =
+whole-run rule r choice serves caps journal lent =
     record {
       holds-after = λ k h.
           record {
-            answered = rw (read k h) (length-answers start (take k commands) ∙ length-take-le k commands h);
-            same-names = rw (read k h, ← no-names rule, book k) (hear-all start (sized-empty rule) (take k commands));
+            answered = rw (read k h) (length-answers choice start (take k commands) ∙ length-take-le k commands h);
+            same-names = rw (read k h, ← no-names rule, book k) (hear-all choice start (sized-empty rule) (take k commands));
             few-notices = λ kind.
-                rw (read k h, book k) (few-in-all caps kind start (take k commands) sound (first-not-refused caps start commands not-refused k));
+                rw (read k h, book k) (few-in-all choice caps kind start (take k commands) sound (first-not-refused caps start commands not-refused k));
           };
-      notices-double = λ i h. rw (read (suc i) h, book i, book (suc i)) (each-doubles-at caps start commands sound not-refused i h);
+      notices-double = λ i h. rw (read (suc i) h, book i, book (suc i)) (each-doubles-at choice caps start commands sound not-refused i h);
     }
   where
     start : State
@@ -47,27 +51,33 @@ whole-run rule r caps journal lent =
     sound = empty-sound caps rule r
 
     commands : List Command
-    commands = accepted rule caps journal lent
+    commands = accepted rule choice caps journal lent
 
     book : (k : ℕ) → bookAfter rule (take k commands) ≡ stateAfter start (take k commands) .book
     book k = sym (book-after-commands rule (take k commands))
 
     not-refused : NoneRefused caps start commands
-    not-refused = whole-run-not-refused rule caps journal (length (lent .work)) (length (lent .answers)) (length (lent .report))
+    not-refused = whole-run-not-refused rule choice caps journal (length (lent .work)) (length (lent .answers)) (length (lent .report))
 
-    read : (k : ℕ) → k ≤ length commands → decodeFirst k (answerBuffer rule caps journal lent) ≡ answersFrom start (take k commands)
-    read = read-back rule caps journal lent r
+    read : (k : ℕ) → k ≤ length commands
+        → decodeFirst k (answerBuffer rule choice caps journal lent) ≡ answersFrom choice start (take k commands)
+    read = read-back rule choice caps journal lent r serves
 
 -- the register's is a rule of mates
 pub register-mates : MateRule registerRule
 unfolding registerRule
 register-mates = same-duct-mates
 
+-- and its choice of routes serves under that rule
+pub register-serves : Serves registerRule registerRoutes
+unfolding registerRoutes
+register-serves = two-routes-serve registerRule register-mates
+
 -- so the claim holds of every run of the register
 pub register-whole-run : (caps : Capacities) (journal : List ℕ) (lent : Buffers)
     → WholeRunClaim
     registerRule
-    (acceptedCommands (wholeRun registerRule caps journal (length (lent .work)) (length (lent .answers)) (length (lent .report))))
+    (acceptedCommands (wholeRun registerRule registerRoutes caps journal (length (lent .work)) (length (lent .answers)) (length (lent .report))))
     (register caps journal lent .buffers .answers)
 unfolding register
-register-whole-run = whole-run registerRule register-mates
+register-whole-run = whole-run registerRule register-mates registerRoutes register-serves

@@ -10,24 +10,26 @@ use lib.Dec.{eqb}
 use Rattle.graph.specs.Lists.{allIn}
 use Rattle.graph.specs.Network.{Edge, Rule, MateRule, never, sameDuct, parallel, edgeBetween, edge, edgeCount, addVertex, addEdge}
 use Rattle.graph.specs.Cycle.{joins}
+use Rattle.graph.specs.Route.{Choice}
 use Rattle.graph.proofs.Truth.{and-left, and-right}
 use Rattle.graph.proofs.Walks.{joins-ends}
 use Rattle.graph.proofs.Never.{never-mates, no-mate-never}
 use Rattle.graph.proofs.Ducts.{same-duct-mates, no-duct-no-mate}
+use Rattle.ways.proofs.RoutesAlike.{alike-routes}
 use Rattle.naming.specs.Book.{Book, emptyBook, enterVertex, enterEdge, feed, feedAll}
 use Rattle.naming.specs.State.{State, emptyState, afterAddition, Recording, recordsNothing, recordsMark, marksAfter, afterRecording}
 use Rattle.naming.proofs.AlikeBooks.{AlikeBooks, alike-vertex, alike-edge}
-use Rattle.commands.specs.Command.{Command, addCabinet, addSpan, districtName, ringName, sharedMesh, soleSpans, cutCabinets, isSole, markExchange, holdsExchange, addDuctSpan, exchangeShare, commandByte}
+use Rattle.commands.specs.Command.{Command, addCabinet, addSpan, districtName, ringName, sharedMesh, soleSpans, cutCabinets, isSole, markExchange, holdsExchange, addDuctSpan, routesBetween, exchangeShare, commandByte}
 use Rattle.commands.specs.Facts.{Facts, addsCabinet, addsSpan, addsNothing, facts, asks, additionOf, addition, recording, after}
 use Rattle.commands.specs.Refusal.{Refusal, Capacities, refusalOf}
 use Rattle.commands.specs.Text.{Read, Text, followedBy, textOf}
 use Rattle.commands.specs.Run.{andThen, acceptedIn, runOver, runText, runWithin}
 use Rattle.commands.specs.Entry.{Whole, refusedAtStart, ran, Buffers, wholeRun, bookAfter, outcome, entryUnder}
 use Rattle.commands.specs.NameList.{namesOf}
-use Rattle.commands.specs.Register.{registerRule, register}
+use Rattle.commands.specs.Register.{registerRule, registerRoutes, register}
 use Rattle.commands.specs.Ducts.{ductless, ductlessJournal}
 use Rattle.commands.proofs.Steps.{run-refuses, run-accepts}
-use Rattle.commands.proofs.AlikeStates.{AlikeStates, refusal-alike, answer-alike}
+use Rattle.commands.proofs.AlikeStates.{SameRoutes, AlikeStates, refusal-alike, answer-alike}
 use Rattle.commands.proofs.RunBooks.{Sound, empty-sound, sound-after}
 use Rattle.commands.proofs.Report.{report-is}
 
@@ -51,6 +53,7 @@ in-no-duct (isSole x) other = tt
 in-no-duct (markExchange x) other = tt
 in-no-duct (holdsExchange x) other = tt
 in-no-duct (addDuctSpan x y d) other = absurd (false≢true other)
+in-no-duct (routesBetween x y) other = tt
 in-no-duct exchangeShare other = tt
 
 -- Two books alike, the first of which loses each span alone and the second with those of its duct.
@@ -145,14 +148,15 @@ paired-states-after p c other =
       same-marks = marks-same (recording c) (p .same-marks);
     }
 
--- so texts without 0B run alike from both
-run-without-ducts : (caps : Capacities) (s s′ : State) → PairedStates s s′ → Sound caps s → (rs : List Read) (end : Option Refusal)
+-- so texts without 0B run alike from both, under a choice that gives networks alike the same routes
+run-without-ducts : (choice : Choice) → SameRoutes choice → (caps : Capacities) (s s′ : State) → PairedStates s s′ → Sound caps s
+    → (rs : List Read) (end : Option Refusal)
     → ductless (map (λ r. r .command) rs) ≡ true
-    → runText caps s′ (record { commands = rs; refusal = end }) ≡ runText caps s (record { commands = rs; refusal = end })
+    → runText choice caps s′ (record { commands = rs; refusal = end }) ≡ runText choice caps s (record { commands = rs; refusal = end })
 unfolding ductless allIn followedBy
-run-without-ducts caps s s′ p sound [] end free = unfold runText runOver in refl
-run-without-ducts caps s s′ p sound (r ∷ later) end free =
-    go (λ q k. run-without-ducts caps (after s c) (after s′ c) q k later end (and-right (not (eqb (commandByte c) 0x0B)) _ free)) (refusalOf caps s c) refl
+run-without-ducts choice same caps s s′ p sound [] end free = unfold runText runOver in refl
+run-without-ducts choice same caps s s′ p sound (r ∷ later) end free =
+    go (λ q k. run-without-ducts choice same caps (after s c) (after s′ c) q k later end (and-right (not (eqb (commandByte c) 0x0B)) _ free)) (refusalOf caps s c) refl
   where
     c : Command
     c = r .command
@@ -175,35 +179,48 @@ run-without-ducts caps s s′ p sound (r ∷ later) end free =
     same-refusal : refusalOf caps s′ c ≡ refusalOf caps s c
     same-refusal = refusal-alike alike rule rule′ caps c
 
-    same-accepted : refusalOf caps s c ≡ none → acceptedIn s′ r ≡ acceptedIn s r
+    same-accepted : refusalOf caps s c ≡ none → acceptedIn choice s′ r ≡ acceptedIn choice s r
     same-accepted e =
         unfold acceptedIn addition in
-        rw (answer-alike alike rule rule′ caps (sound .laws .proper) c e (paired-fed (p .books) (facts c) (in-no-duct c other) .alike))
+        rw (answer-alike alike rule rule′ choice same caps (sound .laws .proper) c e (paired-fed (p .books) (facts c) (in-no-duct c other) .alike))
 
-    go : (PairedStates (after s c) (after s′ c) → Sound caps (after s c) → runText caps (after s′ c) t ≡ runText caps (after s c) t)
+    go : (PairedStates (after s c) (after s′ c) → Sound caps (after s c) → runText choice caps (after s′ c) t ≡ runText choice caps (after s c) t)
         → (o : Option Refusal) → refusalOf caps s c ≡ o
-        → runText caps s′ (followedBy r t) ≡ runText caps s (followedBy r t)
-    go rest (some cause) e = run-refuses caps s′ r t (same-refusal ∙ e) ∙ sym (run-refuses caps s r t e)
+        → runText choice caps s′ (followedBy r t) ≡ runText choice caps s (followedBy r t)
+    go rest (some cause) e = run-refuses choice caps s′ r t (same-refusal ∙ e) ∙ sym (run-refuses choice caps s r t e)
     go rest none e =
-        run-accepts caps s′ r t (same-refusal ∙ e)
+        run-accepts choice caps s′ r t (same-refusal ∙ e)
         ∙ ap₂ andThen (same-accepted e) (rest (paired-states-after p c other) (sound-after caps s c sound e))
-        ∙ sym (run-accepts caps s r t e)
+        ∙ sym (run-accepts choice caps s r t e)
 
 -- A journal without 0B: the whole run is that where no span is lost with another,
-pub whole-run-without-ducts : (caps : Capacities) (journal : List ℕ) (workLength answersLength reportLength : ℕ) → ductlessJournal journal ≡ true
-    → wholeRun registerRule caps journal workLength answersLength reportLength ≡ wholeRun never caps journal workLength answersLength reportLength
+pub whole-run-without-ducts : (choice : Choice) → SameRoutes choice
+    → (caps : Capacities) (journal : List ℕ) (workLength answersLength reportLength : ℕ) → ductlessJournal journal ≡ true
+    → wholeRun registerRule choice caps journal workLength answersLength reportLength
+    ≡ wholeRun never choice caps journal workLength answersLength reportLength
 unfolding registerRule wholeRun ductlessJournal runWithin emptyState
-whole-run-without-ducts caps journal workLength answersLength reportLength free =
+whole-run-without-ducts choice same caps journal workLength answersLength reportLength free =
     rw
-    (run-without-ducts caps (emptyState never) (emptyState sameDuct) (record { books = paired-empty; same-marks = λ x. refl })
+    (run-without-ducts choice same caps (emptyState never) (emptyState sameDuct) (record { books = paired-empty; same-marks = λ x. refl })
     (empty-sound caps never never-mates) (textOf journal .commands) (textOf journal .refusal) free)
 
--- and so whatever the capacities and the buffers, the register returns and leaves the same.
-pub without-ducts : (caps : Capacities) (journal : List ℕ) (lent : Buffers) → ductlessJournal journal ≡ true
-    → register caps journal lent ≡ entryUnder never caps journal lent
-unfolding register entryUnder
-without-ducts caps journal lent free = rw (whole-run-without-ducts caps journal _ _ _ free) (same-outcome _)
+-- and so whatever the capacities and the buffers, the same is returned and left.
+entry-without-ducts : (choice : Choice) → SameRoutes choice → (caps : Capacities) (journal : List ℕ) (lent : Buffers)
+    → ductlessJournal journal ≡ true → entryUnder registerRule choice caps journal lent ≡ entryUnder never choice caps journal lent
+unfolding entryUnder
+entry-without-ducts choice same caps journal lent free = rw (whole-run-without-ducts choice same caps journal _ _ _ free) (same-outcome _)
   where
     same-outcome : (w : Whole) → outcome registerRule caps lent w ≡ outcome never caps lent w
     same-outcome (refusedAtStart r) = unfold outcome in refl
     same-outcome (ran run) = unfold outcome in rw (report-is registerRule run, report-is never run)
+
+-- The register's choice is such a one: networks alike are searched alike.
+pub register-same-routes : SameRoutes registerRoutes
+unfolding registerRoutes
+register-same-routes g h a = alike-routes a
+
+-- So with a journal without 0B the register returns and leaves what it would if no span were lost with another.
+pub without-ducts : (caps : Capacities) (journal : List ℕ) (lent : Buffers) → ductlessJournal journal ≡ true
+    → register caps journal lent ≡ entryUnder never registerRoutes caps journal lent
+unfolding register
+without-ducts = entry-without-ducts registerRoutes register-same-routes

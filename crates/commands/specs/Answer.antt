@@ -57,6 +57,7 @@ pub data Plain : Type 0 where
   soleIs : Bool → Plain
   exchangeMarked : Plain
   exchangeHeld : Bool → Plain
+  routesAre : List ℕ → List ℕ → Plain
   shareIs : ℕ → Plain
 
 -- An added span is answered with its number, its mesh name and the notices.
@@ -79,6 +80,7 @@ plainFields (cutCabinetsAre cs) = byte 0x87 ∷ number (length cs) ∷ map cabin
 plainFields (soleIs sole) = byte 0x88 ∷ byte (boolByte sole) ∷ []
 plainFields exchangeMarked = byte 0x89 ∷ []
 plainFields (exchangeHeld held) = byte 0x8A ∷ byte (boolByte held) ∷ []
+plainFields (routesAre ss ts) = byte 0x8C ∷ number (length ss) ∷ map span ss ++ number (length ts) ∷ map span ts
 plainFields (shareIs n) = byte 0x8F ∷ number n ∷ []
 
 unfoldable pub answerFields : Answer → List Field

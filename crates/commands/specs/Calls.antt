@@ -53,9 +53,9 @@ startCalls =
 -- Stopped: W numbers of the working table are 0, the report is filled, earlier answers stand, and the rest is as it was.
 unfoldable pub stopCalls : List Call
 stopCalls =
-    -- 4: a byte that is no command's: not 01 to 0B, nor 0F
+    -- 4: a byte that is no command's: not 01 to 0C, nor 0F
     call 1 1 96 2 6 (replicate 65536 0x00) 4 (replicate 96 0) (7 ∷ 7 ∷ []) (4 ∷ 0 ∷ 0 ∷ 0 ∷ 0 ∷ 0 ∷ [])
-    ∷ call 1 1 98 5 8 (0x01 ∷ 0x0C ∷ []) 4
+    ∷ call 1 1 98 5 8 (0x01 ∷ 0x0D ∷ []) 4
     (replicate 96 0 ++ 7 ∷ 7 ∷ [])
     (0x81 ∷ 0 ∷ 0 ∷ 7 ∷ 7 ∷ [])
     (4 ∷ 1 ∷ 1 ∷ 3 ∷ 1 ∷ 0 ∷ 7 ∷ 7 ∷ [])
@@ -66,13 +66,16 @@ stopCalls =
     ∷ call 1 1 96 2 6 (0x09 ∷ 0 ∷ []) 5 (replicate 96 0) (7 ∷ 7 ∷ []) (5 ∷ 0 ∷ 0 ∷ 0 ∷ 0 ∷ 0 ∷ [])
     ∷ call 1 1 96 2 6 (0x0A ∷ 0 ∷ []) 5 (replicate 96 0) (7 ∷ 7 ∷ []) (5 ∷ 0 ∷ 0 ∷ 0 ∷ 0 ∷ 0 ∷ [])
     ∷ call 1 1 96 2 6 (0x0B ∷ 0 ∷ 0 ∷ 0 ∷ 0 ∷ 0 ∷ []) 5 (replicate 96 0) (7 ∷ 7 ∷ []) (5 ∷ 0 ∷ 0 ∷ 0 ∷ 0 ∷ 0 ∷ [])
-    -- 6: a cabinet number not yet given; in the second, equal to the other; in the third, with duct 0
+    ∷ call 1 1 96 2 6 (0x0C ∷ 0 ∷ 0 ∷ 0 ∷ []) 5 (replicate 96 0) (7 ∷ 7 ∷ []) (5 ∷ 0 ∷ 0 ∷ 0 ∷ 0 ∷ 0 ∷ [])
+    -- 6: a cabinet number not yet given; in the second and the fourth, equal to the other; in the third, with duct 0
     ∷ call 1 1 96 3 6 (0x01 ∷ 0x02 ∷ 0 ∷ 0 ∷ 0 ∷ 1 ∷ []) 6 (replicate 96 0) (0x81 ∷ 0 ∷ 0 ∷ []) (6 ∷ 1 ∷ 1 ∷ 3 ∷ 1 ∷ 0 ∷ [])
     ∷ call 1 1 96 3 6 (0x01 ∷ 0x05 ∷ 0 ∷ 1 ∷ 0 ∷ 1 ∷ []) 6 (replicate 96 0) (0x81 ∷ 0 ∷ 0 ∷ []) (6 ∷ 1 ∷ 1 ∷ 3 ∷ 1 ∷ 0 ∷ [])
     ∷ call 1 1 96 3 6 (0x01 ∷ 0x0B ∷ 0 ∷ 1 ∷ 0 ∷ 1 ∷ 0 ∷ 0 ∷ []) 6 (replicate 96 0) (0x81 ∷ 0 ∷ 0 ∷ []) (6 ∷ 1 ∷ 1 ∷ 3 ∷ 1 ∷ 0 ∷ [])
+    ∷ call 1 1 96 3 6 (0x01 ∷ 0x0C ∷ 0 ∷ 1 ∷ 0 ∷ 1 ∷ []) 6 (replicate 96 0) (0x81 ∷ 0 ∷ 0 ∷ []) (6 ∷ 1 ∷ 1 ∷ 3 ∷ 1 ∷ 0 ∷ [])
     -- 7: a span number not yet given, equal to a cabinet's
     ∷ call 1 1 96 3 6 (0x01 ∷ 0x08 ∷ 0 ∷ 0 ∷ []) 7 (replicate 96 0) (0x81 ∷ 0 ∷ 0 ∷ []) (7 ∷ 1 ∷ 1 ∷ 3 ∷ 1 ∷ 0 ∷ [])
-    -- 8: 05 with equal cabinets; 02 too, with S spans present; 0B too, with duct 0
+    -- 8: 05 and 0C with equal cabinets; 02 too, with S spans present; 0B too, with duct 0
+    ∷ call 1 1 96 3 6 (0x01 ∷ 0x0C ∷ 0 ∷ 0 ∷ 0 ∷ 0 ∷ []) 8 (replicate 96 0) (0x81 ∷ 0 ∷ 0 ∷ []) (8 ∷ 1 ∷ 1 ∷ 3 ∷ 1 ∷ 0 ∷ [])
     ∷ call 1 1 96 3 6 (0x01 ∷ 0x05 ∷ 0 ∷ 0 ∷ 0 ∷ 0 ∷ []) 8 (replicate 96 0) (0x81 ∷ 0 ∷ 0 ∷ []) (8 ∷ 1 ∷ 1 ∷ 3 ∷ 1 ∷ 0 ∷ [])
     ∷ call 2 1 120 18 6 (0x01 ∷ 0x01 ∷ 0x02 ∷ 0 ∷ 0 ∷ 0 ∷ 1 ∷ 0x02 ∷ 0 ∷ 1 ∷ 0 ∷ 1 ∷ []) 8
     (replicate 120 0)
@@ -111,6 +114,15 @@ stopCalls =
     (replicate 120 0)
     (0x81 ∷ 0 ∷ 0 ∷ 0x81 ∷ 0 ∷ 1 ∷ [])
     (10 ∷ 2 ∷ 2 ∷ 6 ∷ 2 ∷ 0 ∷ [])
+    -- 14: 0C across districts, and across rings of one district, and no room for the answer
+    ∷ call 2 1 120 6 6 (0x01 ∷ 0x01 ∷ 0x0C ∷ 0 ∷ 0 ∷ 0 ∷ 1 ∷ []) 14
+    (replicate 120 0)
+    (0x81 ∷ 0 ∷ 0 ∷ 0x81 ∷ 0 ∷ 1 ∷ [])
+    (14 ∷ 2 ∷ 2 ∷ 6 ∷ 2 ∷ 0 ∷ [])
+    ∷ call 2 1 120 18 6 (0x01 ∷ 0x01 ∷ 0x02 ∷ 0 ∷ 0 ∷ 0 ∷ 1 ∷ 0x0C ∷ 0 ∷ 1 ∷ 0 ∷ 0 ∷ []) 14
+    (replicate 120 0)
+    (0x81 ∷ 0 ∷ 0 ∷ 0x81 ∷ 0 ∷ 1 ∷ 0x82 ∷ 0 ∷ 0 ∷ 0 ∷ 0 ∷ 0 ∷ 1 ∷ 0x01 ∷ 0 ∷ 1 ∷ 0 ∷ 0 ∷ [])
+    (14 ∷ 7 ∷ 3 ∷ 18 ∷ 2 ∷ 1 ∷ [])
     -- 11: the answer is longer, by one byte, than what is left of the answer buffer
     ∷ call 1 1 96 2 6 (0x01 ∷ []) 11 (replicate 96 0) (7 ∷ 7 ∷ []) (11 ∷ 0 ∷ 0 ∷ 0 ∷ 0 ∷ 0 ∷ [])
     ∷ call 1 1 96 3 6 (0x01 ∷ 0x09 ∷ 0 ∷ 0 ∷ []) 11 (replicate 96 0) (0x81 ∷ 0 ∷ 0 ∷ []) (11 ∷ 1 ∷ 1 ∷ 3 ∷ 1 ∷ 0 ∷ [])
@@ -123,6 +135,14 @@ stopCalls =
     (replicate 120 0)
     (0x81 ∷ 0 ∷ 0 ∷ 0x81 ∷ 0 ∷ 1 ∷ replicate 11 7)
     (11 ∷ 2 ∷ 2 ∷ 6 ∷ 2 ∷ 0 ∷ [])
+    ∷ call 2 2 128 38 6 (0x01 ∷ 0x01 ∷ 0x02 ∷ 0 ∷ 0 ∷ 0 ∷ 1 ∷ 0x02 ∷ 0 ∷ 0 ∷ 0 ∷ 1 ∷ 0x0C ∷ 0 ∷ 0 ∷ 0 ∷ 1 ∷ []) 11
+    (replicate 128 0)
+    (0x81 ∷ 0 ∷ 0
+    ∷ 0x81 ∷ 0 ∷ 1
+    ∷ 0x82 ∷ 0 ∷ 0 ∷ 0 ∷ 0 ∷ 0 ∷ 1 ∷ 0x01 ∷ 0 ∷ 1 ∷ 0 ∷ 0
+    ∷ 0x82 ∷ 0 ∷ 1 ∷ 0 ∷ 0 ∷ 0 ∷ 1 ∷ 0x02 ∷ 0 ∷ 1 ∷ 0 ∷ 0
+    ∷ replicate 8 7)
+    (11 ∷ 12 ∷ 4 ∷ 30 ∷ 2 ∷ 2 ∷ [])
     ∷ []
 
 -- The answers to the first cabinets, up to 256 of them.
@@ -206,6 +226,16 @@ acceptedCalls =
     ∷ 0x88 ∷ 0
     ∷ [])
     (0 ∷ 42 ∷ 12 ∷ 91 ∷ 4 ∷ 4 ∷ [])
+    -- 8C that fits to the byte, with C cabinets and S spans present
+    ∷ call 2 2 128 39 6 (0x01 ∷ 0x01 ∷ 0x02 ∷ 0 ∷ 0 ∷ 0 ∷ 1 ∷ 0x02 ∷ 0 ∷ 0 ∷ 0 ∷ 1 ∷ 0x0C ∷ 0 ∷ 0 ∷ 0 ∷ 1 ∷ []) 0
+    (replicate 128 0)
+    (0x81 ∷ 0 ∷ 0
+    ∷ 0x81 ∷ 0 ∷ 1
+    ∷ 0x82 ∷ 0 ∷ 0 ∷ 0 ∷ 0 ∷ 0 ∷ 1 ∷ 0x01 ∷ 0 ∷ 1 ∷ 0 ∷ 0
+    ∷ 0x82 ∷ 0 ∷ 1 ∷ 0 ∷ 0 ∷ 0 ∷ 1 ∷ 0x02 ∷ 0 ∷ 1 ∷ 0 ∷ 0
+    ∷ 0x8C ∷ 0 ∷ 1 ∷ 0 ∷ 1 ∷ 0 ∷ 1 ∷ 0 ∷ 0
+    ∷ [])
+    (0 ∷ 17 ∷ 5 ∷ 39 ∷ 2 ∷ 2 ∷ [])
     -- a number from 256 on, answered and asked for
     ∷ call 257 1 6240 774 6 (replicate 257 0x01 ++ 0x03 ∷ 1 ∷ 0 ∷ []) 0
     (replicate 6240 0)
@@ -256,6 +286,7 @@ forecasts =
     ∷ foretold (0x08 ∷ 0 ∷ 0 ∷ []) 0 3 2
     ∷ foretold (0x09 ∷ 0 ∷ 0 ∷ []) 0 3 1
     ∷ foretold (0x0A ∷ 0 ∷ 0 ∷ []) 0 3 2
+    ∷ foretold (0x0C ∷ 0 ∷ 0 ∷ 0 ∷ 1 ∷ []) 0 5 5
     ∷ foretold (0x0F ∷ []) 0 1 3
     -- two cabinets and a span, and 09, 0A and 0F: 33 and 6
     ∷ foretold (0x01 ∷ 0x01 ∷ 0x02 ∷ 0 ∷ 0 ∷ 0 ∷ 1 ∷ 0x09 ∷ 0 ∷ 0 ∷ 0x0A ∷ 0 ∷ 0 ∷ 0x0F ∷ []) 0 14 39
@@ -265,6 +296,9 @@ forecasts =
     0
     18
     60
+    -- 0C before a span, and before two, one of them of 0B: 5 and 2 for each, 7 and 24 for the spans themselves
+    ∷ foretold (0x0C ∷ 0 ∷ 0 ∷ 0 ∷ 1 ∷ 0x02 ∷ 0 ∷ 0 ∷ 0 ∷ 1 ∷ []) 0 10 14
+    ∷ foretold (0x0C ∷ 0 ∷ 0 ∷ 0 ∷ 1 ∷ 0x02 ∷ 0 ∷ 0 ∷ 0 ∷ 1 ∷ 0x0B ∷ 0 ∷ 0 ∷ 0 ∷ 1 ∷ 0 ∷ 9 ∷ []) 0 17 33
     -- the longest journal, whose last question has no operands, and one byte less
     ∷ foretold (replicate 65536 0x03) 5 65535 0
     ∷ foretold (replicate 65535 0x03) 0 65535 65535
@@ -272,10 +306,11 @@ forecasts =
     ∷ foretold (replicate 65537 0x00) 3 0 0
     -- 4: an unknown byte, alone, behind a command, and behind one that a run refuses with 7
     ∷ foretold (0x00 ∷ []) 4 0 0
-    ∷ foretold (0x01 ∷ 0x0C ∷ 0x01 ∷ []) 4 1 0
+    ∷ foretold (0x01 ∷ 0x0D ∷ 0x01 ∷ []) 4 1 0
     ∷ foretold (0x08 ∷ 0 ∷ 5 ∷ 0xFF ∷ []) 4 3 0
     -- 5: operands cut off, alone, and behind a command that a run refuses with 8
     ∷ foretold (0x02 ∷ 0 ∷ 0 ∷ []) 5 0 0
     ∷ foretold (0x0B ∷ 0 ∷ 0 ∷ 0 ∷ 1 ∷ 0 ∷ []) 5 0 0
+    ∷ foretold (0x0C ∷ 0 ∷ 0 ∷ 0 ∷ []) 5 0 0
     ∷ foretold (0x01 ∷ 0x02 ∷ 0 ∷ 0 ∷ 0 ∷ 0 ∷ 0x07 ∷ 0 ∷ 0 ∷ 0 ∷ []) 5 6 0
     ∷ []

@@ -18,6 +18,7 @@ pub data Command : Type 0 where
   markExchange : ℕ → Command
   holdsExchange : ℕ → Command
   addDuctSpan : ℕ → ℕ → ℕ → Command
+  routesBetween : ℕ → ℕ → Command
   exchangeShare : Command
 
 -- What a command byte makes of what follows it: so many operands, and the command that they give, by their place from 0 on.
@@ -25,7 +26,7 @@ pub data Form : Type 0 where
   unknown : Form
   takes : ℕ → ((ℕ → ℕ) → Command) → Form
 
--- The commands by their byte, from 00 on: 01 to 0B, and 0F.
+-- The commands by their byte, from 00 on: 01 to 0C, and 0F.
 unfoldable pub forms : List Form
 forms =
     unknown
@@ -40,7 +41,7 @@ forms =
     ∷ takes 1 (λ x. markExchange (x 0))
     ∷ takes 1 (λ x. holdsExchange (x 0))
     ∷ takes 3 (λ x. addDuctSpan (x 0) (x 1) (x 2))
-    ∷ unknown
+    ∷ takes 2 (λ x. routesBetween (x 0) (x 1))
     ∷ unknown
     ∷ unknown
     ∷ takes 0 (λ x. exchangeShare)
@@ -82,4 +83,5 @@ commandByte (isSole s) = 0x08
 commandByte (markExchange a) = 0x09
 commandByte (holdsExchange a) = 0x0A
 commandByte (addDuctSpan a b d) = 0x0B
+commandByte (routesBetween a b) = 0x0C
 commandByte exchangeShare = 0x0F

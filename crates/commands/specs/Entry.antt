@@ -6,6 +6,7 @@ use Prim.Native.Nat.{ℕ, _+_, _*_}
 use lib.Dec.{leb, ltb}
 use lib.ListN.{length, drop, replicate}
 use Rattle.graph.specs.Network.{Rule, edgeCount}
+use Rattle.graph.specs.Route.{Choice}
 use Rattle.naming.specs.Book.{Book, emptyBook, feedAll}
 use Rattle.naming.specs.State.{emptyState}
 use Rattle.commands.specs.Command.{Command}
@@ -43,12 +44,13 @@ unfoldable pub wholeUnless : Option Refusal → Run → Whole
 wholeUnless (some r) run = refusedAtStart r
 wholeUnless none run = ran run
 
--- The whole run of a journal under a rule of mates, for these capacities and lengths of the working table, answer buffer and report.
-unfoldable pub wholeRun : Rule → Capacities → List ℕ → ℕ → ℕ → ℕ → Whole
-wholeRun rule caps journal workLength answersLength reportLength =
+-- The whole run of a journal under a rule of mates and a choice of routes, for these capacities and lengths of the working table, answer
+-- buffer and report.
+unfoldable pub wholeRun : Rule → Choice → Capacities → List ℕ → ℕ → ℕ → ℕ → Whole
+wholeRun rule choice caps journal workLength answersLength reportLength =
     wholeUnless
     (firstThatApplies (startLines caps (length journal) workLength reportLength))
-    (runWithin answersLength caps (emptyState rule) (textOf journal))
+    (runWithin answersLength choice caps (emptyState rule) (textOf journal))
 
 -- The accepted commands of a whole run: none where it was refused at the start.
 unfoldable pub acceptedCommands : Whole → List Command
@@ -104,11 +106,11 @@ outcome rule caps lent (ran run) =
           };
     }
 
--- The entry under a rule of mates, for any capacities, journal and buffers.
-unfoldable pub entryUnder : Rule → Capacities → List ℕ → Buffers → Outcome
-entryUnder rule caps journal lent =
+-- The entry under a rule of mates and a choice of routes, for any capacities, journal and buffers.
+unfoldable pub entryUnder : Rule → Choice → Capacities → List ℕ → Buffers → Outcome
+entryUnder rule choice caps journal lent =
     outcome
     rule
     caps
     lent
-    (wholeRun rule caps journal (length (lent .work)) (length (lent .answers)) (length (lent .report)))
+    (wholeRun rule choice caps journal (length (lent .work)) (length (lent .answers)) (length (lent .report)))

@@ -6,28 +6,31 @@ use Rattle.graph.specs.Network.{Edge, edgeBetween, edgeInDuct, edgeCount}
 use Rattle.graph.specs.Groups.{bridge}
 use Rattle.graph.specs.Block.{sharedBlock}
 use Rattle.graph.specs.Between.{bridgesBetween, cutsBetween}
+use Rattle.graph.specs.Route.{Routes, Choice}
 use Rattle.naming.specs.Rename.{nameOf}
 use Rattle.naming.specs.Book.{Book, Addition, vertex, edge, neither, feed}
 use Rattle.naming.specs.State.{State, afterAddition, Recording, recordsNothing, recordsMark, afterRecording}
 use Rattle.commands.specs.Field.{Field, cabinet, span, number, byte, fieldsBytes}
-use Rattle.commands.specs.Command.{Command, addCabinet, addSpan, districtName, ringName, sharedMesh, soleSpans, cutCabinets, isSole, markExchange, holdsExchange, addDuctSpan, exchangeShare, commandByte}
-use Rattle.commands.specs.Answer.{Plain, districtNamed, ringNamed, meshShared, noMeshShared, soleSpansAre, cutCabinetsAre, soleIs, exchangeMarked, exchangeHeld, shareIs, Answer, cabinetAdded, spanAdded, plain, notices}
+use Rattle.commands.specs.Command.{Command, addCabinet, addSpan, districtName, ringName, sharedMesh, soleSpans, cutCabinets, isSole, markExchange, holdsExchange, addDuctSpan, routesBetween, exchangeShare, commandByte}
+use Rattle.commands.specs.Answer.{Plain, districtNamed, ringNamed, meshShared, noMeshShared, soleSpansAre, cutCabinetsAre, soleIs, exchangeMarked, exchangeHeld, routesAre, shareIs, Answer, cabinetAdded, spanAdded, plain, notices}
 use Rattle.commands.specs.Exchange.{ringHoldsExchange, shareWithExchange}
 
--- What must hold of what a command names: two cabinets differ, a cabinet is no exchange, a duct is not 0, two cabinets share a district.
+-- What must hold of what a command names: two cabinets differ, a cabinet is no exchange, a duct is not 0, two cabinets share a district,
+-- two cabinets share a ring.
 pub data Demand : Type 0 where
   differ : ℕ → ℕ → Demand
   noExchange : ℕ → Demand
   someDuct : ℕ → Demand
   shareDistrict : ℕ → ℕ → Demand
+  shareRing : ℕ → ℕ → Demand
 
--- A command that adds nothing to the network: its operands, what must hold of them, its answer from the state, what it records, and the
--- length in bytes that document 02 allows its answer, where there are at most so many cabinets and so many spans (`plain-no-longer`: it
--- never exceeds it).
+-- A command that adds nothing to the network: its operands, what must hold of them, its answer from the state and the choice of routes,
+-- what it records, and the length in bytes that document 02 allows its answer, where there are at most so many cabinets and so many spans
+-- (`plain-no-longer`: it never exceeds it).
 pub record PlainCommand : Type 0 where
   pub operands : List Field
   pub demands : List Demand
-  pub told : State → Plain
+  pub told : Choice → State → Plain
   pub records : Recording
   pub longest : ℕ → ℕ → ℕ
 
@@ -38,17 +41,21 @@ pub data Facts : Type 0 where
   addsSpan : Edge → List Field → List Demand → Facts
   addsNothing : PlainCommand → Facts
 
--- A question records nothing.
+-- A question records nothing, and its answer hangs on the state alone.
 unfoldable pub asks : List Field → List Demand → (State → Plain) → (ℕ → ℕ → ℕ) → Facts
 asks operands demands told longest =
-    addsNothing (record { operands = operands; demands = demands; told = told; records = recordsNothing; longest = longest })
+    addsNothing (record { operands = operands; demands = demands; told = λ choice s. told s; records = recordsNothing; longest = longest })
 
 -- The answer to 05: the name of the block that has an edge at each vertex, if there is one.
 unfoldable pub meshAnswer : Book → Option ℕ → Plain
 meshAnswer b none = noMeshShared
 meshAnswer b (some s) = meshShared (nameOf (b .blocks) s)
 
--- The facts of each command.
+-- The answer to 0C: the two routes.
+unfoldable pub routesAnswer : Routes → Plain
+routesAnswer r = routesAre (r .first) (r .second)
+
+-- The facts of each command. The choice is asked by 0C alone, for the routes between its two cabinets.
 unfoldable pub facts : Command → Facts
 facts addCabinet = addsCabinet
 facts (addSpan a b) = addsSpan (edgeBetween a b) [] []
@@ -80,12 +87,21 @@ facts (markExchange a) =
     (record {
       operands = cabinet a ∷ [];
       demands = noExchange a ∷ [];
-      told = λ s. exchangeMarked;
+      told = λ choice s. exchangeMarked;
       records = recordsMark a;
       longest = λ cabinets spans. 1;
     })
 facts (holdsExchange a) = asks (cabinet a ∷ []) [] (λ s. exchangeHeld (ringHoldsExchange s a)) (λ cabinets spans. 2)
 facts (addDuctSpan a b d) = addsSpan (edgeInDuct a b d) (number d ∷ []) (someDuct d ∷ [])
+facts (routesBetween a b) =
+    addsNothing
+    (record {
+      operands = cabinet a ∷ cabinet b ∷ [];
+      demands = differ a b ∷ shareRing a b ∷ [];
+      told = λ choice s. routesAnswer (choice (s .book .network) a b);
+      records = recordsNothing;
+      longest = λ cabinets spans. 5 + 2 * spans;
+    })
 facts exchangeShare = asks [] [] (λ s. shareIs (shareWithExchange s)) (λ cabinets spans. 3)
 
 -- The operands, in their order.
@@ -137,11 +153,11 @@ spanAnswer b b′ =
     let new = edgeCount (b .network) in
     spanAdded new (nameOf (b′ .blocks) new) (notices b b′)
 
-unfoldable pub answerTo : State → Facts → Answer
-answerTo s addsCabinet = cabinetAdded (s .book .network .vertices)
-answerTo s (addsSpan e operands demands) = spanAnswer (s .book) (feed (s .book) (edge e))
-answerTo s (addsNothing q) = plain (q .told s)
+unfoldable pub answerTo : Choice → State → Facts → Answer
+answerTo choice s addsCabinet = cabinetAdded (s .book .network .vertices)
+answerTo choice s (addsSpan e operands demands) = spanAnswer (s .book) (feed (s .book) (edge e))
+answerTo choice s (addsNothing q) = plain (q .told choice s)
 
--- The answer to a command that is not refused.
-unfoldable pub answer : State → Command → Answer
-answer s c = answerTo s (facts c)
+-- The answer to a command that is not refused, under a choice of routes.
+unfoldable pub answer : Choice → State → Command → Answer
+answer choice s c = answerTo choice s (facts c)

@@ -18,4 +18,5 @@ pub mod WholeRun
 pub mod Histories
 pub mod ExchangeHistories
 pub mod DuctHistories
+pub mod RouteHistories
 pub mod Calls

@@ -6,12 +6,12 @@ use Prim.Native.Nat.{ℕ}
 use lib.Dec.{eqb, leb, ltb}
 use Rattle.graph.specs.Lists.{allIn}
 use Rattle.graph.specs.Network.{Network, edgeCount}
-use Rattle.graph.specs.Groups.{component}
+use Rattle.graph.specs.Groups.{component, bridgeBlock}
 use Rattle.naming.specs.Book.{Addition, vertex, edge, neither}
 use Rattle.naming.specs.State.{State}
 use Rattle.commands.specs.Field.{Field, cabinet, span, name, number, byte}
 use Rattle.commands.specs.Command.{Command}
-use Rattle.commands.specs.Facts.{Demand, differ, noExchange, someDuct, shareDistrict, facts, operandsOf, demandsOf, addition}
+use Rattle.commands.specs.Facts.{Demand, differ, noExchange, someDuct, shareDistrict, shareRing, facts, operandsOf, demandsOf, addition}
 
 pub data Refusal : Type 0 where
   badCapacity : Refusal
@@ -27,6 +27,7 @@ pub data Refusal : Type 0 where
   noRoom : Refusal
   alreadyExchange : Refusal
   noDuct : Refusal
+  noSharedRing : Refusal
 
 unfoldable pub refusalNumber : Refusal → ℕ
 refusalNumber badCapacity = 1
@@ -42,6 +43,7 @@ refusalNumber twoDistricts = 10
 refusalNumber noRoom = 11
 refusalNumber alreadyExchange = 12
 refusalNumber noDuct = 13
+refusalNumber noSharedRing = 14
 
 -- A line of the table: whether its cause is there, and its refusal.
 pub record Line : Type 0 where
@@ -87,6 +89,7 @@ met s (differ a b) = not (eqb a b)
 met s (noExchange a) = not (s .marked a)
 met s (someDuct d) = not (eqb d 0)
 met s (shareDistrict a b) = component (s .book .network) a b
+met s (shareRing a b) = bridgeBlock (s .book .network) a b
 
 -- The refusal where it is not.
 unfoldable pub cause : Demand → Refusal
@@ -94,6 +97,7 @@ cause (differ a b) = equalCabinets
 cause (noExchange a) = alreadyExchange
 cause (someDuct d) = noDuct
 cause (shareDistrict a b) = twoDistricts
+cause (shareRing a b) = noSharedRing
 
 -- All demands of the command that could give this refusal are met.
 unfoldable pub meets : Refusal → State → Command → Bool
@@ -118,6 +122,7 @@ lines caps s c =
     ∷ record { applies = not (meets noDuct s c); refusal = noDuct }
     ∷ record { applies = isFull caps s c; refusal = full }
     ∷ record { applies = not (meets twoDistricts s c); refusal = twoDistricts }
+    ∷ record { applies = not (meets noSharedRing s c); refusal = noSharedRing }
     ∷ []
 
 unfoldable pub refusalOf : Capacities → State → Command → Option Refusal

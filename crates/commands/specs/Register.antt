@@ -1,8 +1,10 @@
--- The register of documents 01 and 02: the entry at its rule of mates, and the program around it.
+-- The register of documents 01 and 02: the entry at its rule of mates and its choice of routes, and the program around it.
 use mathlib.Core.List.{List, [], _∷_, _++_}
 use mathlib.Core.Option.{Option, none, some}
 use Prim.Native.Nat.{ℕ}
 use Rattle.graph.specs.Network.{Rule, sameDuct}
+use Rattle.graph.specs.Route.{Choice}
+use Rattle.ways.specs.TwoRoutes.{twoRoutes}
 use Rattle.commands.specs.Bytes.{fourBytes}
 use Rattle.commands.specs.Refusal.{Refusal, Capacities, refusalNumber}
 use Rattle.commands.specs.Run.{bytesOfAnswers, placeAfter}
@@ -12,8 +14,12 @@ use Rattle.commands.specs.Entry.{Whole, refusedAtStart, ran, Buffers, Ou
 unfoldable pub registerRule : Rule
 registerRule = sameDuct
 
+-- The routes that 0C is answered with: document 02 leaves open which.
+unfoldable pub registerRoutes : Choice
+registerRoutes = twoRoutes
+
 unfoldable pub register : Capacities → List ℕ → Buffers → Outcome
-register = entryUnder registerRule
+register = entryUnder registerRule registerRoutes
 
 -- The program's capacities.
 unfoldable pub programCapacities : Capacities
@@ -30,7 +36,7 @@ programOutput (ran run) = bytesOfAnswers (run .accepted) ++ ending (run .refusal
 
 -- The program's run of its input, with an answer buffer of 65,536 bytes.
 unfoldable pub programRun : List ℕ → Whole
-programRun input = wholeRun registerRule programCapacities input (workNeeded programCapacities) 65536 6
+programRun input = wholeRun registerRule registerRoutes programCapacities input (workNeeded programCapacities) 65536 6
 
 -- The bytes that the program writes for those that it reads.
 unfoldable pub program : List ℕ → List ℕ

@@ -5,6 +5,7 @@ use mathlib.Core.Option.{Option, none, some}
 use Prim.Native.Nat.{ℕ, suc, _+_, _-_}
 use lib.Dec.{leb}
 use lib.ListN.{length}
+use Rattle.graph.specs.Route.{Choice}
 use Rattle.naming.specs.State.{State}
 use Rattle.commands.specs.Command.{Command}
 use Rattle.commands.specs.Answer.{Answer, answerBytes}
@@ -29,21 +30,21 @@ stop r = record { accepted = []; refusal = some r }
 unfoldable pub andThen : Accepted → Run → Run
 andThen a r = record { accepted = a ∷ r .accepted; refusal = r .refusal }
 
--- A command that was read, accepted in a state.
-unfoldable pub acceptedIn : State → Read → Accepted
-acceptedIn s r = record { command = r .command; answer = answer s (r .command); width = r .width }
+-- A command that was read, accepted in a state under a choice of routes.
+unfoldable pub acceptedIn : Choice → State → Read → Accepted
+acceptedIn choice s r = record { command = r .command; answer = answer choice s (r .command); width = r .width }
 
 -- The run without room, from any state, over commands that were read; what ends their text ends the run.
-unfoldable pub runOver : Capacities → State → List Read → Option Refusal → Run
-runOver caps s [] end = record { accepted = []; refusal = end }
-runOver caps s (r ∷ later) end =
+unfoldable pub runOver : Choice → Capacities → State → List Read → Option Refusal → Run
+runOver choice caps s [] end = record { accepted = []; refusal = end }
+runOver choice caps s (r ∷ later) end =
     elim (refusalOf caps s (r .command)) [
       | some cause ↦ stop cause
-      | none ↦ andThen (acceptedIn s r) (runOver caps (after s (r .command)) later end)
+      | none ↦ andThen (acceptedIn choice s r) (runOver choice caps (after s (r .command)) later end)
     ]
 
-unfoldable pub runText : Capacities → State → Text → Run
-runText caps s t = runOver caps s (t .commands) (t .refusal)
+unfoldable pub runText : Choice → Capacities → State → Text → Run
+runText choice caps s t = runOver choice caps s (t .commands) (t .refusal)
 
 -- The accepted commands whose answers fit, one after another, into the room. Room is the last line of the table: the first command whose
 -- answer is longer than the room is refused.
@@ -54,9 +55,9 @@ fitting room (a ∷ later) end =
     cond (leb size room) (andThen a (fitting (room - size) later end)) (stop noRoom)
 
 -- The run with room for so many answer bytes is the run without room, cut at the first answer that does not fit.
-unfoldable pub runWithin : ℕ → Capacities → State → Text → Run
-runWithin room caps s t =
-    let r = runText caps s t in
+unfoldable pub runWithin : ℕ → Choice → Capacities → State → Text → Run
+runWithin room choice caps s t =
+    let r = runText choice caps s t in
     fitting room (r .accepted) (r .refusal)
 
 -- The accepted commands.

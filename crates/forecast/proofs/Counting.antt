@@ -6,7 +6,7 @@ use native.Mathlib.Nat.{add-zero}
 use native.Mathlib.Omega.{arith}
 use Rattle.graph.specs.Network.{Edge}
 use Rattle.commands.specs.Field.{Field}
-use Rattle.commands.specs.Command.{Command, addCabinet, addSpan, districtName, ringName, sharedMesh, soleSpans, cutCabinets, isSole, markExchange, holdsExchange, addDuctSpan, exchangeShare, commandByte}
+use Rattle.commands.specs.Command.{Command, addCabinet, addSpan, districtName, ringName, sharedMesh, soleSpans, cutCabinets, isSole, markExchange, holdsExchange, addDuctSpan, routesBetween, exchangeShare, commandByte}
 use Rattle.commands.specs.Facts.{Demand, PlainCommand, addsCabinet, addsSpan, addsNothing, asks, facts, additionOf}
 use Rattle.commands.specs.Forecast.{isCabinet, isSpan, longestPlain}
 use Rattle.reading.specs.Inside.Reads.{entryOf}
@@ -53,6 +53,7 @@ counted-by-byte (isSole x) = answer-counted 2 0 0 (omega arith) (omega arith) (o
 counted-by-byte (markExchange a) = answer-counted 1 0 0 (omega arith) (omega arith) (omega arith) (λ c s. omega arith)
 counted-by-byte (holdsExchange a) = answer-counted 2 0 0 (omega arith) (omega arith) (omega arith) (λ c s. omega arith)
 counted-by-byte {t} (addDuctSpan a b d) = rw (span-entry t) span-counted
+counted-by-byte (routesBetween a b) = answer-counted 5 1 0 (omega arith) (omega arith) (omega arith) (λ c s. omega arith)
 counted-by-byte exchangeShare = answer-counted 3 0 0 (omega arith) (omega arith) (omega arith) (λ c s. omega arith)
 
 -- and the tables have an entry for it
@@ -69,6 +70,7 @@ byte-in-tables (isSole x) = omega arith
 byte-in-tables (markExchange a) = omega arith
 byte-in-tables (holdsExchange a) = omega arith
 byte-in-tables (addDuctSpan a b d) = omega arith
+byte-in-tables (routesBetween a b) = omega arith
 byte-in-tables exchangeShare = omega arith
 
 -- an entry of a table is one of sixteen numbers

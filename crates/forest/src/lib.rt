@@ -5,14 +5,14 @@ ghost use mathlib.Core.List.{_++_};
 ghost use mathlib.Core.Path.{_≡_};
 ghost use Prim.Native.Nat.{_<_, _≤_, min};
 ghost use lib.ListN.{length, drop, replicate};
-ghost use Rattle.graph.specs.Network.{edge};
-ghost use Rattle.graph.specs.Groups.{component, bridge};
+ghost use Rattle.graph.specs.Network.{edge, mates};
+ghost use Rattle.graph.specs.Groups.{component, bridge, bridgeBlock};
 ghost use Rattle.graph.specs.Block.{sharedBlock};
 ghost use Rattle.graph.specs.Between.{bridgesBetween, cutsBetween};
 ghost use Rattle.naming.specs.Rename.{size, nameOf};
 ghost use Rattle.naming.specs.State.{marksWith};
 ghost use Rattle.forest.specs.Inside.Words.{groupArea};
-ghost use Rattle.forest.specs.Promise.{wordsNeeded, Holds, stateOf, bookIn, networkIn, Begun, VertexAdded, EdgeAdded, VertexMarked, ListWritten};
+ghost use Rattle.forest.specs.Promise.{wordsNeeded, Holds, stateOf, bookIn, networkIn, Begun, VertexAdded, EdgeAdded, VertexMarked, Alone, ListWritten};
 ghost use Rattle.forest.specs.Promise.{vertexNames, vertexGroups, vertexChangeAt, edgeChangeAt, sharedName, bridgeAt, cutAt};
 ghost use Rattle.forest.specs.Promise.{scratchWords, vertexScratch, edgeScratch, VertexScratchStored, EdgeScratchStored};
 
@@ -26,6 +26,7 @@ use numbers::Limits;
 use numbers::Vertex;
 use table::words::Area;
 use table::words::CHANGED;
+use table::words::DUCT;
 use table::words::ENDS;
 use table::words::MARK;
 use table::words::MARK_COUNT;
@@ -206,6 +207,17 @@ pub fn same_component(t: &[u32], shape: Shape, a: Vertex, b: Vertex) -> bool
     left == right
 }
 
+// Whether two vertices share a bridge-block.
+pub fn same_bridge_block(t: &[u32], shape: Shape, a: Vertex, b: Vertex) -> bool
+    requires { ⌜ Holds shape (now t) × (a .0 < shape .vertices) × (b .0 < shape .vertices) ⌝ }
+    ensures { λ r. ⌜ r ≡ bridgeBlock (networkIn shape (now (t .entry))) (a .0) (b .0) ⌝ }
+{
+    let limits = shape.limits;
+    let left = word(t, bridge_block_area(limits), NAME, a.0);
+    let right = word(t, bridge_block_area(limits), NAME, b.0);
+    left == right
+}
+
 // The block name of an edge.
 pub fn block_name(t: &[u32], shape: Shape, s: Edge) -> Edge
     requires { ⌜ Holds shape (now t) × (s .0 < shape .edges) ⌝ }
@@ -226,6 +238,27 @@ pub fn ends_of(t: &[u32], shape: Shape, s: Edge) -> Ends
         left: Vertex(ends / 65536),
         right: Vertex(ends % 65536),
     }
+}
+
+// Whether two edges are mates: one edge, or lost together.
+pub fn are_mates(t: &[u32], shape: Shape, s: Edge, other: Edge) -> bool
+    requires { ⌜ Holds shape (now t) × (s .0 < shape .edges) × (other .0 < shape .edges) ⌝ }
+    ensures { λ r. ⌜ r ≡ mates (networkIn shape (now (t .entry))) (s .0) (other .0) ⌝ }
+{
+    let limits = shape.limits;
+    if s.0 == other.0 {
+        return true;
+    }
+    query::lost_together(t, limits, s, other)
+}
+
+// Whether an edge may have mates beside itself: where not, it has none. It is quicker told than by a look at other edges.
+pub fn may_have_mates(t: &[u32], shape: Shape, s: Edge) -> bool
+    requires { ⌜ Holds shape (now t) × (s .0 < shape .edges) ⌝ }
+    ensures { λ r. ⌜ (r ≡ false → Alone (networkIn shape (now (t .entry))) (s .0)) ⌝ }
+{
+    let limits = shape.limits;
+    word(t, edge_area(limits), DUCT, s.0) != 0
 }
 
 // The block that has an edge at each of two different vertices.

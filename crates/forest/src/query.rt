@@ -2,7 +2,7 @@
 ghost use mathlib.Core.Path.{_≡_};
 ghost use Prim.Native.Nat.{_+_, _≤_, _<_};
 ghost use Rattle.forest.specs.Inside.Climb.{climbTable};
-ghost use Rattle.forest.specs.Inside.Queries.{bridgeBlocksDiffer, bridgeIn, hangsFrom, hangTogether, blockAbove, sharedIn};
+ghost use Rattle.forest.specs.Inside.Queries.{bridgeBlocksDiffer, bridgeIn, arePair, endsAgree, lostTogether, hangsFrom, hangTogether, blockAbove, sharedIn};
 ghost use Rattle.forest.specs.Inside.Queries.{findTable, findCount, bridgesFound, cutsCount};
 use crate::Shared;
 use crate::climb::block_of;
@@ -12,6 +12,7 @@ use crate::climb::up;
 use numbers::Edge;
 use numbers::Limits;
 use numbers::Vertex;
+use table::words::DUCT;
 use table::words::ENDS;
 use table::words::NAME;
 use table::words::PATH_EDGE;
@@ -38,6 +39,43 @@ pub(crate) fn ends_differ(t: &[u32], limits: Limits, s: Edge) -> bool
 {
     let ends = word(t, edge_area(limits), ENDS, s.0);
     bridge_blocks_differ(t, limits, ends / 65536, ends % 65536)
+}
+
+// Two numbers are two others, in this order.
+fn are_pair(left: u32, right: u32, x: u32, y: u32) -> bool
+    ensures { λ r. ⌜ r ≡ arePair left right x y ⌝ }
+{
+    if left != x {
+        return false;
+    }
+    right == y
+}
+
+// Two words with the ends of an edge each have the same ends, in either direction.
+fn ends_agree(ends: u32, other: u32) -> bool
+    ensures { λ r. ⌜ r ≡ endsAgree ends other ⌝ }
+{
+    let left = ends / 65536;
+    let right = ends % 65536;
+    if are_pair(left, right, other / 65536, other % 65536) {
+        return true;
+    }
+    are_pair(left, right, other % 65536, other / 65536)
+}
+
+// Two edges lie in one duct, between the same two vertices.
+pub(crate) fn lost_together(t: &[u32], limits: Limits, s: Edge, other: Edge) -> bool
+    ensures { λ r. ⌜ r ≡ lostTogether (now (t .entry)) limits (s .0) (other .0) ⌝ }
+{
+    let duct = word(t, edge_area(limits), DUCT, s.0);
+    if duct == 0 {
+        return false;
+    }
+    if word(t, edge_area(limits), DUCT, other.0) != duct {
+        return false;
+    }
+    let ends = word(t, edge_area(limits), ENDS, s.0);
+    ends_agree(ends, word(t, edge_area(limits), ENDS, other.0))
 }
 
 // Vertex x hangs below a block, and y is the vertex above that block.

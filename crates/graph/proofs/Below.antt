@@ -1,5 +1,5 @@
 -- Laws of tests, counts and lists over the numbers below n.
-use mathlib.Core.Bool.{Bool, true, false, cond, _||_, _&&_, false≢true}
+use mathlib.Core.Bool.{Bool, true, false, cond, _||_, false≢true}
 use mathlib.Core.Logic.{_⊎_, inl, inr}
 use mathlib.Core.Option.{Option, none, some}
 use mathlib.Core.Path.{_≡_, refl, ap₂}
@@ -96,12 +96,6 @@ pub any-below-same : (n : ℕ) (p q : ℕ → Bool) → Agree n p q → anyBelow
 unfolding anyBelow
 any-below-same zero p q f = refl
 any-below-same (suc n) p q f = ap₂ _||_ (any-below-same n p q (fewer n p q f)) (f n (omega arith))
-
--- tests that agree below n agree on whether all numbers pass
-pub all-below-same : (n : ℕ) (p q : ℕ → Bool) → Agree n p q → allBelow n p ≡ allBelow n q
-unfolding allBelow
-all-below-same zero p q f = refl
-all-below-same (suc n) p q f = ap₂ _&&_ (all-below-same n p q (fewer n p q f)) (f n (omega arith))
 
 -- tests that agree below n agree on how many numbers pass
 pub count-same : (n : ℕ) (p q : ℕ → Bool) → Agree n p q → count n p ≡ count n q

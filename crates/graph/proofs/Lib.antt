@@ -56,3 +56,5 @@ pub mod Alike
 pub mod Places
 pub mod Reduced
 pub mod ReducedGroups
+pub mod RoutePairs
+pub mod Routes

@@ -1,4 +1,5 @@
--- The networks of document 01's marked histories, and some with ducts (request 3); their groups.
+-- The networks of document 01's marked histories, and some with ducts (request 3); their groups. Pairs of routes (request 5), and which of
+-- them serve.
 use mathlib.Core.Bool.{Bool, true, false}
 use mathlib.Core.List.{List, [], _∷_, map}
 use mathlib.Core.Path.{_≡_, refl}
@@ -12,6 +13,7 @@ use Rattle.graph.specs.Groups
 use Rattle.graph.specs.Block
 use Rattle.graph.specs.Between
 use Rattle.graph.specs.Reduced
+use Rattle.graph.specs.Route
 
 -- The groups of items below n: for each item the least item of its group.
 unfoldable pub leasts : ℕ → (ℕ → ℕ → Bool) → List (Option ℕ)
@@ -192,3 +194,48 @@ pub reduced-example : Reduced.reduced (ductNetwork 3 (inDuct 1 2 9 ∷ inDuct 0 
     ≡ network 3 (inDuct 1 2 9 ∷ inDuct 0 1 9 ∷ [])
 unfolding Reduced.reduced Reduced.leastEdges ductNetwork network inDuct between Below.anyBelow Below.listed Network.parallel Network.sameDuct Network.edgeCount Network.edge Network.mates Between.leastMate
 reduced-example = refl
+
+-- Mates 0 and 1 and edge 2 between 0 and 1, two edges between 1 and 2, and two between 1 and 3.
+unfoldable pub routeExample : Network.Network
+routeExample =
+    ductNetwork
+    4
+    (inDuct 0 1 7 ∷ inDuct 1 0 7 ∷ between 0 1 ∷ between 1 2 ∷ between 1 2 ∷ between 1 3 ∷ between 3 1 ∷ [])
+
+-- Two lists of edges offered as routes between two vertices.
+pub record Offer : Type 0 where
+  pub start : ℕ
+  pub end : ℕ
+  pub routes : Route.Routes
+
+unfoldable pub offer : ℕ → ℕ → List ℕ → List ℕ → Offer
+offer a b first second = record { start = a; end = b; routes = record { first = first; second = second } }
+
+unfoldable pub serving : Offer → Bool
+serving o = Route.serve routeExample (o .start) (o .end) (o .routes)
+
+-- Two that serve 0 and 2.
+unfoldable pub offersThatServe : List Offer
+offersThatServe = offer 0 2 (2 ∷ 3 ∷ []) (0 ∷ 4 ∷ []) ∷ offer 0 2 (1 ∷ 4 ∷ []) (2 ∷ 3 ∷ []) ∷ []
+
+-- An edge in both, a mate in the other route, a route twice; edges in reverse order; a vertex twice: one on the way, the start, the end;
+-- a route that ends too soon, one that begins elsewhere, an edge that is not there, and no edges.
+unfoldable pub offersThatDoNot : List Offer
+offersThatDoNot =
+    offer 0 2 (2 ∷ 3 ∷ []) (0 ∷ 3 ∷ [])
+    ∷ offer 0 2 (0 ∷ 3 ∷ []) (1 ∷ 4 ∷ [])
+    ∷ offer 0 2 (2 ∷ 3 ∷ []) (2 ∷ 3 ∷ [])
+    ∷ offer 0 2 (3 ∷ 2 ∷ []) (0 ∷ 4 ∷ [])
+    ∷ offer 0 2 (2 ∷ 3 ∷ []) (4 ∷ 0 ∷ [])
+    ∷ offer 0 2 (2 ∷ 5 ∷ 6 ∷ 3 ∷ []) (0 ∷ 4 ∷ [])
+    ∷ offer 0 2 (0 ∷ 4 ∷ []) (2 ∷ 5 ∷ 6 ∷ 3 ∷ [])
+    ∷ offer 1 2 (5 ∷ 6 ∷ 3 ∷ []) (4 ∷ [])
+    ∷ offer 1 2 (4 ∷ []) (5 ∷ 6 ∷ 3 ∷ [])
+    ∷ offer 0 1 (2 ∷ 5 ∷ 6 ∷ []) (0 ∷ [])
+    ∷ offer 0 1 (0 ∷ []) (2 ∷ 5 ∷ 6 ∷ [])
+    ∷ offer 0 2 (2 ∷ []) (0 ∷ 4 ∷ [])
+    ∷ offer 0 2 (2 ∷ 3 ∷ []) (0 ∷ [])
+    ∷ offer 0 2 (2 ∷ 3 ∷ []) (4 ∷ [])
+    ∷ offer 0 2 (2 ∷ 3 ∷ []) (7 ∷ [])
+    ∷ offer 0 2 [] []
+    ∷ []

@@ -8,5 +8,6 @@ pub mod Block
 pub mod BlockPath
 pub mod Between
 pub mod Travel
+pub mod Route
 pub mod Reduced
 pub mod Examples

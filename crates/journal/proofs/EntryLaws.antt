@@ -12,11 +12,11 @@ use lib.Seq.{drop-drop}
 use Rattle.graph.proofs.Truth.{le-leb, lt-ltb, ltb-ge, ge-ltb, or-neither-left, or-neither-right}
 use Rattle.commands.specs.Refusal.{Refusal, Capacities, firstThatApplies}
 use Rattle.commands.specs.Entry.{workNeeded, shortBuffers, startLines, ran, wholeUnless, wholeRun, numberOf, reportOf, over, Buffers, Outcome, outcome, entryUnder}
-use Rattle.commands.specs.Register.{registerRule, register}
+use Rattle.commands.specs.Register.{registerRule, registerRoutes, register}
 use Rattle.commands.proofs.Cases.{le-or-gt, gt-leb}
 use Rattle.commands.proofs.Start.{good-exactly, ran-exactly}
 use Rattle.commands.proofs.Returned.{zero-exactly}
-use Rattle.commands.proofs.WholeRun.{register-whole-run}
+use Rattle.commands.proofs.WholeRun.{register-serves, register-whole-run}
 use Rattle.numbers.specs.declared.Limits.{Limits}
 use Rattle.forest.specs.Promise.{wordsNeeded, words-needed, SameBeyond}
 use Rattle.run.specs.declared.Progress.{Progress}
@@ -65,6 +65,7 @@ promised caps journal lent returned left e =
       answers-are = sym answers;
       report-is = sym (ap (λ (o : Outcome). o .buffers .report) e);
       whole-run = rw answers at (register-whole-run caps journal lent);
+      serves = register-serves;
     }
   where
     answers : register caps journal lent .buffers .answers ≡ left .answers
@@ -93,7 +94,8 @@ module _ (caps : Capacities) (journal : List ℕ) (lent : Buffers) where
       go (some r) d e = promised caps journal lent number lent (rw (d, e))
 
   ran-whole : (number : ℕ) → number ≡ numberOf firstLine → number ≡ 0
-      → wholeRun registerRule caps journal (length (lent .work)) (length (lent .answers)) (length (lent .report)) ≡ ran (wholeOf caps journal (lent .answers))
+      → wholeRun registerRule registerRoutes caps journal (length (lent .work)) (length (lent .answers)) (length (lent .report))
+      ≡ ran (wholeOf caps journal (lent .answers))
   unfolding wholeRun wholeUnless
   ran-whole number e z = rw (zero-exactly firstLine .0 (sym e ∙ z))
 
@@ -102,7 +104,7 @@ module _ (caps : Capacities) (journal : List ℕ) (lent : Buffers) where
       → Begins caps (length journal) (length (lent .work)) (length (lent .report))
   unfolding shortBuffers
   begins number e z =
-      let well = ran-exactly registerRule caps journal (length (lent .work)) (length (lent .answers)) (length (lent .report)) .0 (ran-whole number e z) in
+      let well = ran-exactly registerRule registerRoutes caps journal (length (lent .work)) (length (lent .answers)) (length (lent .report)) .0 (ran-whole number e z) in
       let range = good-exactly caps .0 (well .good-capacities) in
       let work-short = ltb (length (lent .work)) (workNeeded caps) in
       let report-short = ltb (length (lent .report)) 6 in

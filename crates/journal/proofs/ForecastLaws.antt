@@ -4,10 +4,10 @@ use mathlib.Core.Logic.{_⊎_, inl, inr}
 use mathlib.Core.Path.{_≡_, sym, _∙_, ap}
 use Prim.Native.Nat.{ℕ}
 use Rattle.commands.specs.Text.{textOf}
-use Rattle.commands.specs.Register.{registerRule, register}
+use Rattle.commands.specs.Register.{registerRule, registerRoutes, register}
 use Rattle.commands.specs.Forecast.{sufficient, forecast, Suffices}
 use Rattle.commands.specs.Forecast as Paper
-use Rattle.commands.proofs.WholeRun.{register-mates}
+use Rattle.commands.proofs.WholeRun.{register-mates, register-serves}
 use Rattle.commands.proofs.ForecastExactly.{Short, forecast-four-exactly, forecast-five-exactly, forecast-with-nought, forecast-of-front}
 use Rattle.commands.proofs.ForecastRoom.{never-without-room}
 use Rattle.journal.specs.Promise.{ForecastPromise}
@@ -20,7 +20,7 @@ module _ (journal : List ℕ) where
   -- it suffices for every run of the journal
   text-suffices : (room : ℕ) → room ≡ lengthForText → Suffices journal room
   unfolding register
-  text-suffices room e caps lent h = never-without-room registerRule register-mates caps journal lent (rw e at h)
+  text-suffices room e caps lent h = never-without-room registerRule register-mates registerRoutes register-serves caps journal lent (rw e at h)
 
   -- a journal that is refused with 4 or 5 is not too long
   short-if-unread : (forecast journal .number ≡ 4) ⊎ (forecast journal .number ≡ 5) → Short journal

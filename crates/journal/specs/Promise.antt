@@ -4,9 +4,10 @@ use mathlib.Core.Logic.{_⊎_}
 use mathlib.Core.Path.{_≡_}
 use Prim.Native.Nat.{ℕ}
 use lib.ListN.{length, take}
+use Rattle.graph.specs.Route.{Serves}
 use Rattle.commands.specs.Refusal.{Capacities}
 use Rattle.commands.specs.Entry.{Buffers, wholeRun, acceptedCommands}
-use Rattle.commands.specs.Register.{registerRule, register}
+use Rattle.commands.specs.Register.{registerRule, registerRoutes, register}
 use Rattle.commands.specs.WholeRun.{WholeRunClaim}
 use Rattle.commands.specs.Forecast.{forecast, Suffices}
 
@@ -19,8 +20,10 @@ pub record RegisterPromise (caps : Capacities) (journal : List ℕ) (lent : Buff
   pub report-is : left .report ≡ register caps journal lent .buffers .report
   pub whole-run : WholeRunClaim
       registerRule
-      (acceptedCommands (wholeRun registerRule caps journal (length (lent .work)) (length (lent .answers)) (length (lent .report))))
+      (acceptedCommands (wholeRun registerRule registerRoutes caps journal (length (lent .work)) (length (lent .answers)) (length (lent .report))))
       (left .answers)
+  -- which routes 0C is answered with is this register's choice, by which `register` is defined; a planner relies on this alone: they serve
+  pub serves : Serves registerRule registerRoutes
 
 -- For this journal: the returned number and the two numbers that are written are those of the forecast, and the length suffices.
 pub record ForecastPromise (journal : List ℕ) (returned place room : ℕ) : Type 0 where

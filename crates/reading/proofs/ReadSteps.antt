@@ -46,7 +46,8 @@ unfolding forms form widthOf
 width-two byte (inl e) = rw e refl
 width-two byte (inr (inl e)) = rw e refl
 width-two byte (inr (inr (inl e))) = rw e refl
-width-two byte (inr (inr (inr e))) = rw e refl
+width-two byte (inr (inr (inr (inl e)))) = rw e refl
+width-two byte (inr (inr (inr (inr e)))) = rw e refl
 
 module _ (byte : ℕ) (bytes : List ℕ) where
   -- operands that are cut off
@@ -74,14 +75,14 @@ module _ (byte : ℕ) (bytes : List ℕ) where
               impossible (cc)
 
   -- a byte that is no command's
-  pub read-unknown : (byte < 1) ⊎ (11 < byte) → byte ≢ 15 → readCommand byte bytes ≡ unknownByte
+  pub read-unknown : (byte < 1) ⊎ (12 < byte) → byte ≢ 15 → readCommand byte bytes ≡ unknownByte
   unfolding readCommand
   read-unknown k other =
       unknown-byte (form byte) bytes .1 (unknown-exactly byte .1 (known-bytes byte ∙ rw (outside k) (ne-eqb byte 15 other)))
     where
-      outside : (byte < 1) ⊎ (11 < byte) → (leb 1 byte && leb byte 11) ≡ false
+      outside : (byte < 1) ⊎ (12 < byte) → (leb 1 byte && leb byte 12) ≡ false
       outside (inl h) = rw (gt-leb 1 byte h)
-      outside (inr h) = rw (gt-leb byte 11 h) (and-false (leb 1 byte))
+      outside (inr h) = rw (gt-leb byte 12 h) (and-false (leb 1 byte))
 
 -- 0B makes its command of three operands
 pub read-three : (x : ℕ → ℕ) (a b d : ℕ) → x 0 ≡ a → x 1 ≡ b → x 2 ≡ d → made (form 11) 3 x ≡ some (addDuctSpan a b d)

@@ -28,6 +28,7 @@ pub enum Order {
     IsSole(Edge),
     MarkExchange(Vertex),
     HoldsExchange(Vertex),
+    RoutesBetween(Vertex, Vertex),
     ExchangeShare,
 }
 
@@ -61,7 +62,7 @@ fn one_operand(byte: u8, x: u32) -> Order
     }
 }
 
-// The command of 02, 05, 06 or 07.
+// The command of 02, 05, 06, 07 or 0C.
 fn two_operands(byte: u8, x: u32, y: u32) -> Order
     requires { ⌜ TwoOperands byte ⌝ }
     ensures { λ r. ⌜ MadeOfTwo byte x y (meaning r) ⌝ }
@@ -70,7 +71,8 @@ fn two_operands(byte: u8, x: u32, y: u32) -> Order
         2 => Order::AddSpan(Vertex(x), Vertex(y), Lay::NoDuct),
         5 => Order::SharedMesh(Vertex(x), Vertex(y)),
         6 => Order::SoleSpans(Vertex(x), Vertex(y)),
-        _ => Order::CutCabinets(Vertex(x), Vertex(y)),
+        7 => Order::CutCabinets(Vertex(x), Vertex(y)),
+        _ => Order::RoutesBetween(Vertex(x), Vertex(y)),
     }
 }
 
@@ -86,7 +88,7 @@ fn take_one(journal: &[u8], byte: u8, from: usize) -> Taken
     Taken::Command(one_operand(byte, x), 2)
 }
 
-// The command of 02, 05, 06 or 07 whose operands stand from a place on.
+// The command of 02, 05, 06, 07 or 0C whose operands stand from a place on.
 fn take_two(journal: &[u8], byte: u8, from: usize) -> Taken
     requires { ⌜ TwoOperands byte × (from ≤ length (now journal)) ⌝ }
     ensures { λ r. ⌜ readingOf r ≡ readCommand byte (drop from (now (journal .entry))) ⌝ }
@@ -122,7 +124,7 @@ pub(crate) fn take_at(journal: &[u8], at: usize) -> Taken
     let byte = journal[at];
     match byte {
         1 => Taken::Command(Order::AddCabinet, 0),
-        2 | 5..=7 => take_two(journal, byte, at + 1),
+        2 | 5..=7 | 12 => take_two(journal, byte, at + 1),
         3..=4 | 8..=10 => take_one(journal, byte, at + 1),
         11 => take_three(journal, at + 1),
         15 => Taken::Command(Order::ExchangeShare, 0),
@@ -151,7 +153,7 @@ pub fn entry_of(table: u64, k: u8) -> u8
 const NONE: u8 = 15;
 
 // The number of the operands' bytes, by the command byte, or NONE.
-const WIDTHS: u64 = 0x0FFF_6222_4442_240F;
+const WIDTHS: u64 = 0x0FF4_6222_4442_240F;
 
 // What a byte is, by its entry in the table; if a command's, its operands stand from a place on.
 fn pass_over(journal: &[u8], byte: u8, from: usize, entry: u8) -> Passed

@@ -10,7 +10,7 @@ use lib.Seq.{take-all, length-take-le}
 use Rattle.graph.proofs.Truth.{lt-ltb}
 use Rattle.commands.specs.Refusal.{longJournal}
 use Rattle.commands.specs.Entry.{workNeeded, goodCapacities, shortBuffers}
-use Rattle.commands.specs.Register.{registerRule, programCapacities, ending, programOutput, programRun, program}
+use Rattle.commands.specs.Register.{registerRule, registerRoutes, programCapacities, ending, programOutput, programRun, program}
 use Rattle.commands.proofs.Cases.{le-or-gt}
 use Rattle.commands.proofs.Start.{long-journal-exactly}
 
@@ -18,7 +18,7 @@ use Rattle.commands.proofs.Start.{long-journal-exactly}
 pub long-input-refused : (input : List ℕ) → 65536 < length input → program input ≡ ending (some longJournal) 0
 unfolding program programOutput programRun programCapacities workNeeded goodCapacities shortBuffers
 long-input-refused input h =
-    rw (long-journal-exactly registerRule programCapacities input 10304 65536 6 .1 (refl, (refl, lt-ltb 65536 (length input) h)))
+    rw (long-journal-exactly registerRule registerRoutes programCapacities input 10304 65536 6 .1 (refl, (refl, lt-ltb 65536 (length input) h)))
 
 -- what the program writes for an input is what it writes for its first 65,537 bytes
 pub first-bytes-suffice : (input : List ℕ) → program (take 65537 input) ≡ program input

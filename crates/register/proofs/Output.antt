@@ -12,7 +12,7 @@ use Rattle.commands.specs.Bytes.{twoBytes, fourBytes}
 use Rattle.commands.specs.Refusal.{Refusal}
 use Rattle.commands.specs.Run.{bytesOfAnswers}
 use Rattle.commands.specs.Entry.{Whole, refusedAtStart, ran, wholeRun, workNeeded, numberOf, reportOf, over, Buffers, outcome, entryUnder}
-use Rattle.commands.specs.Register.{registerRule, register, programCapacities, ending, programOutput, programRun, program}
+use Rattle.commands.specs.Register.{registerRule, registerRoutes, register, programCapacities, ending, programOutput, programRun, program}
 use Rattle.journal.specs.Promise.{RegisterPromise}
 use Rattle.register.specs.Output.{Put, ProgramOutput}
 
@@ -71,7 +71,7 @@ promised-outputs input lent returned left work answers zeros p =
     input
     lent
     zeros
-    (wholeRun registerRule programCapacities input (length (lent .work)) (length (lent .answers)) (length (lent .report)))
+    (wholeRun registerRule registerRoutes programCapacities input (length (lent .work)) (length (lent .answers)) (length (lent .report)))
     (rw (work, answers, zeros)))
 
 -- there is room for an ending behind the answers

@@ -12,6 +12,7 @@ use Rattle.commands.specs.Answer.{answerBytes}
 use Rattle.commands.specs.Facts.{answer}
 use Rattle.commands.specs.Run.{stop, acceptedIn}
 use Rattle.commands.specs.Entry.{numberOf}
+use Rattle.commands.specs.Register.{registerRoutes}
 use Rattle.commands.proofs.Cases.{impossible}
 use Rattle.commands.proofs.Table.{number-above-zero}
 use Rattle.forest.specs.declared.Shape.{Shape}
@@ -126,7 +127,7 @@ module _ (p : Progress) (journal old answers : List ℕ) (under : Underway p jou
       next = shapeAfter (p .shape) reply
 
       -- the answer has as many bytes as its reply
-      size-is : length (answerBytes (answer (stateOf (p .shape) old) c)) ≡ replySize reply
+      size-is : length (answerBytes (answer registerRoutes (stateOf (p .shape) old) c)) ≡ replySize reply
       size-is = ap (λ a. length (answerBytes a)) (sym (w .carried .answer-is)) ∙ reply-counted next new reply
 
       -- once it is written, what is left from one command further on leaves behind the same
@@ -137,9 +138,9 @@ module _ (p : Progress) (journal old answers : List ℕ) (under : Underway p jou
       further-leaves newAnswers room same long =
           let further = oneFurther p next (p .place + 1 + width) reply in
           let s = stateOf (p .shape) old in
-          let a = acceptedIn s (record { command = c; place = p .place; width = width }) in
-          let same-answer : newAnswers ≡ writtenBehind (p .written) (answerBytes (answer s c)) answers = rw (← w .carried .answer-is) same in
-          let written : p .written + replySize reply ≡ p .written + length (answerBytes (answer s c)) = ap (λ n. p .written + n) (sym size-is) in
+          let a = acceptedIn registerRoutes s (record { command = c; place = p .place; width = width }) in
+          let same-answer : newAnswers ≡ writtenBehind (p .written) (answerBytes (answer registerRoutes s c)) answers = rw (← w .carried .answer-is) same in
+          let written : p .written + replySize reply ≡ p .written + length (answerBytes (answer registerRoutes s c)) = ap (λ n. p .written + n) (sym size-is) in
           let left =
           left-answered p journal (length answers) old (under .at-command) c width reads (w .not-refused)
           (rw size-is room)

@@ -13,10 +13,10 @@ use Rattle.naming.specs.State.{emptyState}
 use Rattle.commands.specs.Text.{textOf}
 use Rattle.commands.specs.Run.{Run, bytesOfAnswers, placeAfter}
 use Rattle.commands.specs.Entry.{reportOf, over, bookAfter, numberOf}
-use Rattle.commands.specs.Register.{registerRule}
+use Rattle.commands.specs.Register.{registerRule, registerRoutes}
 use Rattle.commands.proofs.Place.{place-within-journal}
 use Rattle.commands.proofs.ForecastRoom.{run-answers-fit}
-use Rattle.commands.proofs.WholeRun.{register-mates}
+use Rattle.commands.proofs.WholeRun.{register-mates, register-serves}
 use Rattle.numbers.specs.declared.Limits.{Limits}
 use Rattle.forest.specs.declared.Shape.{Shape}
 use Rattle.forest.specs.Promise.{table-rule, stateOf, same-beyond-refl, same-beyond-trans, Begun}
@@ -143,8 +143,8 @@ module _ (limits : Limits) (journal old oldAnswers : List ℕ) where
       let numbers : sixNumbers p ≡ reportOf registerRule whole = ap (λ (b : Behind). b .numbers) left in
       let place : p .place ≡ placeAfter (whole .accepted) = cc numbers in
       let written : p .written ≡ length (bytesOfAnswers (whole .accepted)) = cc numbers in
-      let within = place-within-journal (length oldAnswers) (capacitiesOf limits) (emptyState registerRule) journal in
-      let bound = run-answers-fit registerRule register-mates (capacitiesOf limits) (length oldAnswers) journal short in
+      let within = place-within-journal (length oldAnswers) registerRoutes (capacitiesOf limits) (emptyState registerRule) journal in
+      let bound = run-answers-fit registerRule register-mates registerRoutes register-serves (capacitiesOf limits) (length oldAnswers) journal short in
       record {
         numbers-are = numbers;
         answers-are = ap (λ (b : Behind). b .answers) left;

@@ -8,7 +8,7 @@ use Rattle.commands.specs.Refusal.{Capacities}
 use Rattle.commands.specs.Text.{textOf}
 use Rattle.commands.specs.Run.{Run, runWithin, bytesOfAnswers}
 use Rattle.commands.specs.Entry.{reportOf, over}
-use Rattle.commands.specs.Register.{registerRule}
+use Rattle.commands.specs.Register.{registerRule, registerRoutes}
 use Rattle.numbers.specs.declared.Limits.{Limits}
 use Rattle.forest.specs.Promise.{SameBeyond}
 use Rattle.run.specs.declared.Progress.{Progress}
@@ -16,7 +16,7 @@ unfoldable pub use Rattle.step.specs.Promise.{capacitiesOf}
 
 -- The definition's run of a journal from an empty network, within the room of an answer buffer.
 abbrev pub wholeOf : Capacities → List ℕ → List ℕ → Run
-wholeOf caps journal answers = runWithin (length answers) caps (emptyState registerRule) (textOf journal)
+wholeOf caps journal answers = runWithin (length answers) registerRoutes caps (emptyState registerRule) (textOf journal)
 
 -- The six numbers of the report, of a run that has come so far.
 unfoldable pub sixNumbers : Progress → List ℕ

@@ -2,7 +2,7 @@
 use mathlib.Core.Bool.{Bool}
 use mathlib.Core.List.{List, map}
 use mathlib.Core.Option.{Option, none, some}
-use mathlib.Core.Path.{_≡_, refl, sym, _∙_, ap}
+use mathlib.Core.Path.{_≡_, refl, sym, _∙_, ap, ap₂}
 use Prim.Native.Nat.{ℕ, _<_}
 use native.Mathlib.Omega.{arith}
 use Rattle.graph.specs.Below.{tabulate}
@@ -15,10 +15,11 @@ use Rattle.naming.specs.Book.{Book, neither, feed}
 use Rattle.naming.specs.State.{State, afterAddition, recordsNothing, marksAfter, afterRecording}
 use Rattle.naming.proofs.Listed.{map-tabulate}
 use Rattle.commands.specs.Field.{Kind, district, ring, mesh, Field}
-use Rattle.commands.specs.Command.{Command, addCabinet, addSpan, districtName, ringName, sharedMesh, soleSpans, cutCabinets, isSole, markExchange, holdsExchange, addDuctSpan, exchangeShare}
-use Rattle.commands.specs.Answer.{changeNotice, changes, notices, plain, soleIs, exchangeHeld, shareIs}
+use Rattle.commands.specs.Command.{Command, addCabinet, addSpan, districtName, ringName, sharedMesh, soleSpans, cutCabinets, isSole, markExchange, holdsExchange, addDuctSpan, routesBetween, exchangeShare}
+use Rattle.commands.specs.Answer.{changeNotice, changes, notices, plain, soleIs, exchangeHeld, routesAre, shareIs}
 use Rattle.commands.specs.Exchange.{ringHoldsExchange, shareWithExchange}
-use Rattle.commands.specs.Facts.{Demand, addsSpan, asks, meshAnswer, facts, additionOf, addition, recordingOf, recording, after, spanAnswer, answerTo, answer}
+use Rattle.commands.specs.Facts.{Demand, addsSpan, asks, meshAnswer, routesAnswer, facts, additionOf, addition, recordingOf, recording, after, spanAnswer, answerTo, answer}
+use Rattle.commands.specs.Register.{registerRoutes}
 use Rattle.numbers.specs.declared.Vertex.{Vertex}
 use Rattle.reading.specs.declared.read.Lay.{Lay}
 use Rattle.reading.specs.declared.read.Lay.the-variants as L
@@ -29,6 +30,8 @@ use Rattle.forest.specs.declared.Shared.{Shared}
 use Rattle.forest.specs.declared.VertexGroups.{VertexGroups}
 use Rattle.forest.specs.declared.VertexGroups.the-variants as G
 use Rattle.forest.specs.Promise.{Holds, stateOf, bookIn, networkIn, vertices-held, edges-held, few-vertices, few-edges, same-beyond-refl, oneEdgeMore, VertexAdded, EdgeAdded, VertexMarked, ListWritten, vertexNames, sharedName}
+use Rattle.routes.specs.declared.Lengths.{Lengths}
+use Rattle.routes.specs.Promise.{RoutesFound}
 use Rattle.step.specs.declared.Listed.{Listed}
 use Rattle.step.specs.declared.Listed.the-variants as M
 use Rattle.step.specs.declared.Finding.{Finding}
@@ -58,7 +61,8 @@ module _ (shape : Shape) (c : Command) (adds-nothing : addition c ≡ neither) (
   leaves s = rw (adds-nothing, records-nothing)
 
   -- so it is carried out with a table that is not touched
-  pub question-carried : (t : List ℕ) (finding : Finding) → Holds shape t → plain (findingAnswer shape t finding) ≡ answer (stateOf shape t) c
+  pub question-carried : (t : List ℕ) (finding : Finding) → Holds shape t
+      → plain (findingAnswer shape t finding) ≡ answer registerRoutes (stateOf shape t) c
       → Carried shape c t t (R.Found finding)
   unfolding replyAnswer shapeAfter
   question-carried t finding holds e =
@@ -72,7 +76,8 @@ module _ (shape : Shape) (c : Command) (adds-nothing : addition c ≡ neither) (
 
   -- and with a list written down in it
   pub list-carried : (old new : List ℕ) (kind : Listed) (count : ℕ) (list : List ℕ)
-      → ListWritten shape old new (itemAt kind shape new) count list → plain (listAnswer kind list) ≡ answer (stateOf shape old) c
+      → ListWritten shape old new (itemAt kind shape new) count list
+      → plain (listAnswer kind list) ≡ answer registerRoutes (stateOf shape old) c
       → Carried shape c old new (R.Found (F.List kind count))
   unfolding replyAnswer findingAnswer shapeAfter
   list-carried old new kind count list w e =
@@ -142,6 +147,19 @@ pub held-carried : (shape : Shape) (a : ℕ) (t : List ℕ) (held : Bool) → Ho
 unfolding addition additionOf recording recordingOf facts asks findingAnswer answer answerTo
 held-carried shape a t held holds e =
     question-carried shape (holdsExchange a) refl refl t (F.Held held) holds (ap (λ x. plain (exchangeHeld x)) e)
+
+-- 0C: the two routes
+pub routes-carried : (shape : Shape) (a b : ℕ) (old new : List ℕ) (lengths : Lengths) → RoutesFound shape a b old new lengths
+    → Carried shape (routesBetween a b) old new (R.Found (F.Routes lengths))
+unfolding addition additionOf recording recordingOf facts routesAnswer registerRoutes findingAnswer replyAnswer shapeAfter answer answerTo
+routes-carried shape a b old new lengths found =
+    record {
+      holds = found .holds;
+      state-is = found .state-is ∙ sym (leaves shape (routesBetween a b) refl refl (stateOf shape old));
+      answer-is = ap₂ (λ ss ts. plain (routesAre ss ts)) (found .first-is) (found .second-is);
+      fits = tt;
+      same-beyond = found .same-beyond;
+    }
 
 -- 0F: the share of the cabinets whose ring holds one
 pub share-carried : (shape : Shape) (t : List ℕ) (share : ℕ) → Holds shape t → share ≡ shareWithExchange (stateOf shape t)

@@ -8,10 +8,10 @@ use native.Mathlib.Omega.{arith}
 use lib.Dec.{eqb, leb, ltb}
 use Rattle.graph.specs.Lists.{allIn}
 use Rattle.graph.specs.Network.{edgeBetween, edgeInDuct}
-use Rattle.graph.specs.Groups.{component}
+use Rattle.graph.specs.Groups.{component, bridgeBlock}
 use Rattle.graph.proofs.Truth.{true-or-false, eqb-eq, eqb-same, eq-eqb, ne-eqb, ltb-lt, not-both}
 use Rattle.commands.specs.Facts.{asks, facts, operandsOf, demandsOf, additionOf, addition}
-use Rattle.commands.specs.Refusal.{refusalNumber, unknownCabinet, unknownSpan, equalCabinets, full, twoDistricts, alreadyExchange, noDuct, Refusal, Line, firstThatApplies, cabinetKnown, spanKnown, cabinetsKnown, spansKnown, met, cause, meets, fullFor, isFull, lines, refusalOf}
+use Rattle.commands.specs.Refusal.{refusalNumber, unknownCabinet, unknownSpan, equalCabinets, full, twoDistricts, alreadyExchange, noDuct, noSharedRing, Refusal, Line, firstThatApplies, cabinetKnown, spanKnown, cabinetsKnown, spansKnown, met, cause, meets, fullFor, isFull, lines, refusalOf}
 use Rattle.commands.specs.Entry.{numberOf}
 use Rattle.commands.proofs.Cases.{leb-gt}
 use Rattle.forest.specs.declared.Shape.{Shape}
@@ -22,7 +22,7 @@ use Rattle.reading.specs.declared.read.Order.{Order}
 use Rattle.reading.specs.declared.read.Order.the-variants as O
 use Rattle.reading.specs.Inside.Reads.{spanCommand, meaning}
 use Rattle.step.specs.Promise.{capacitiesOf}
-use Rattle.step.specs.Inside.Judged.{firstOf, cabinetRefusal, spanRefusal, pairRefusal, differentRefusal, exchangeRefusal, ductRefusal, newCabinetRefusal, newSpanRefusal, districtRefusal, judgement}
+use Rattle.step.specs.Inside.Judged.{firstOf, cabinetRefusal, spanRefusal, pairRefusal, differentRefusal, exchangeRefusal, ductRefusal, newCabinetRefusal, newSpanRefusal, districtRefusal, ringRefusal, judgement}
 
 -- the number of the first line that applies; lines that never apply are passed over by computing
 abbrev table : List Line → ℕ
@@ -85,10 +85,24 @@ district-lines true false together = refl
 district-lines true true true = refl
 district-lines true true false = refl
 
+ring-lines : (a b same together : Bool)
+    → firstOf (firstOf (firstOf (cond a 0 6) (cond b 0 6)) (cond same 8 0)) (cond together 0 14)
+    ≡ table
+    (line (not (a && (b && true))) unknownCabinet
+    ∷ line (not (not same && true)) equalCabinets
+    ∷ line (not (together && true)) noSharedRing
+    ∷ [])
+unfolding firstOf numberOf firstThatApplies refusalNumber
+ring-lines false b same together = refl
+ring-lines true false same together = refl
+ring-lines true true true together = refl
+ring-lines true true false true = refl
+ring-lines true true false false = refl
+
 -- the refusal of each command is the table's
 pub judged : (shape : Shape) (t : List ℕ) (order : Order)
     → judgement shape t order ≡ numberOf (refusalOf (capacitiesOf (shape .limits)) (stateOf shape t) (meaning order))
-unfolding judgement cabinetRefusal spanRefusal pairRefusal differentRefusal exchangeRefusal ductRefusal newCabinetRefusal newSpanRefusal districtRefusal spanCommand meaning capacitiesOf refusalOf firstThatApplies lines cabinetsKnown spansKnown meets isFull fullFor addition additionOf facts asks operandsOf demandsOf edgeBetween edgeInDuct allIn cabinetKnown spanKnown met cause refusalNumber numberOf
+unfolding judgement cabinetRefusal spanRefusal pairRefusal differentRefusal exchangeRefusal ductRefusal newCabinetRefusal newSpanRefusal districtRefusal ringRefusal spanCommand meaning capacitiesOf refusalOf firstThatApplies lines cabinetsKnown spansKnown meets isFull fullFor addition additionOf facts asks operandsOf demandsOf edgeBetween edgeInDuct allIn cabinetKnown spanKnown met cause refusalNumber numberOf
 judged shape t O.AddCabinet = rw (vertices-held shape t) (full-line (leb (shape .limits .vertices) (shape .vertices)))
 judged shape t (O.AddSpan a b L.NoDuct) =
     rw (vertices-held shape t, edges-held shape t)
@@ -110,6 +124,13 @@ judged shape t (O.IsSole s) = rw (edges-held shape t) (span-line (ltb (s .0) (sh
 judged shape t (O.MarkExchange a) =
     rw (vertices-held shape t) (exchange-lines (ltb (a .0) (shape .vertices)) (stateOf shape t .marked (a .0)))
 judged shape t (O.HoldsExchange a) = rw (vertices-held shape t) (cabinet-line (ltb (a .0) (shape .vertices)))
+judged shape t (O.RoutesBetween a b) =
+    rw (vertices-held shape t)
+    (ring-lines
+    (ltb (a .0) (shape .vertices))
+    (ltb (b .0) (shape .vertices))
+    (eqb (a .0) (b .0))
+    (bridgeBlock (networkIn shape t) (a .0) (b .0)))
 judged shape t O.ExchangeShare = refl
 
 -- a test that refuses or passes has passed where it gives 0
@@ -192,3 +213,10 @@ module _ (shape : Shape) where
     district-passes t e =
         let both = neither-refuses (pairRefusal shape a b) (cond (component (networkIn shape t) a b) 0 10) e in
         (both .0, test-passed (component (networkIn shape t) a b) (λ d. absurd (omega arith)) (both .1))
+
+    pub ring-passes : (t : List ℕ) → ringRefusal shape t a b ≡ 0
+        → (differentRefusal shape a b ≡ 0) × (bridgeBlock (networkIn shape t) a b ≡ true)
+    unfolding ringRefusal
+    ring-passes t e =
+        let both = neither-refuses (differentRefusal shape a b) (cond (bridgeBlock (networkIn shape t) a b) 0 14) e in
+        (both .0, test-passed (bridgeBlock (networkIn shape t) a b) (λ d. absurd (omega arith)) (both .1))

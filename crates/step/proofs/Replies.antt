@@ -1,6 +1,6 @@
 -- What a reply says: how many bytes the answer has, and that the limits stay.
 use mathlib.Core.List.{List, _++_}
-use mathlib.Core.Path.{_≡_, refl, _∙_, ap}
+use mathlib.Core.Path.{_≡_, refl, _∙_, ap, ap₂}
 use Prim.Native.Nat.{ℕ, _+_, _*_}
 use native.Mathlib.Omega.{arith}
 use lib.ListN.{length, length-append}
@@ -10,12 +10,15 @@ use Rattle.commands.specs.Field.{district, ring, mesh, cabinet, span, fieldByte
 use Rattle.commands.specs.Answer.{plainFields, plain, answerFields, answerBytes}
 use Rattle.commands.proofs.Bytes.{cabinets-in-two-bytes, spans-in-two-bytes, length-two-bytes-each}
 use Rattle.commands.proofs.NoticeBytes.{length-notices-bytes}
+use Rattle.commands.proofs.AnswerLength.{routes-length}
 use Rattle.forest.specs.declared.Growth.{Growth}
 use Rattle.forest.specs.declared.Shape.{Shape}
 use Rattle.forest.specs.declared.Shared.{Shared}
 use Rattle.forest.specs.declared.Shared.the-variants as Q
 use Rattle.forest.specs.declared.VertexGroups.{VertexGroups}
 use Rattle.forest.specs.declared.VertexGroups.the-variants as G
+use Rattle.routes.specs.declared.Route.the-variants as W
+use Rattle.routes.specs.Promise.{edgeAt}
 use Rattle.step.specs.declared.Listed.{Listed}
 use Rattle.step.specs.declared.Listed.the-variants as L
 use Rattle.step.specs.declared.Finding.{Finding}
@@ -71,6 +74,12 @@ finding-counted shape t (F.List list count) =
 finding-counted shape t (F.Sole sole) = refl
 finding-counted shape t F.Marked = refl
 finding-counted shape t (F.Held held) = refl
+finding-counted shape t (F.Routes lengths) =
+    routes-length (tabulate (lengths .first) (edgeAt shape t W.First)) (tabulate (lengths .second) (edgeAt shape t W.Second))
+    ∙ ap₂
+    (λ (n m : ℕ). 5 + 2 * (n + m))
+    (length-tabulate (lengths .first) (edgeAt shape t W.First))
+    (length-tabulate (lengths .second) (edgeAt shape t W.Second))
 finding-counted shape t (F.Share share) = refl
 
 -- the answer that a reply is has as many bytes as are counted for it

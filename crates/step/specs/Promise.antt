@@ -6,9 +6,10 @@ use Prim.Native.Nat.{ℕ, _+_, _*_, _<_}
 use Rattle.graph.specs.Below.{tabulate}
 use Rattle.commands.specs.Field.{Kind, district, ring, mesh}
 use Rattle.commands.specs.Command.{Command}
-use Rattle.commands.specs.Answer.{Notice, changeNotice, Plain, districtNamed, ringNamed, meshShared, noMeshShared, soleSpansAre, cutCabinetsAre, soleIs, exchangeMarked, exchangeHeld, shareIs, Answer, cabinetAdded, spanAdded, plain}
+use Rattle.commands.specs.Answer.{Notice, changeNotice, Plain, districtNamed, ringNamed, meshShared, noMeshShared, soleSpansAre, cutCabinetsAre, soleIs, exchangeMarked, exchangeHeld, routesAre, shareIs, Answer, cabinetAdded, spanAdded, plain}
 use Rattle.commands.specs.Facts.{after, answer}
 use Rattle.commands.specs.Refusal.{Refusal, refusalNumber, Capacities, refusalOf}
+use Rattle.commands.specs.Register.{registerRoutes}
 use Rattle.numbers.specs.declared.Limits.{Limits}
 use Rattle.forest.specs.declared.Shape.{Shape}
 use Rattle.forest.specs.declared.Growth.{Growth}
@@ -17,6 +18,9 @@ use Rattle.forest.specs.declared.Shared.the-variants as Q
 use Rattle.forest.specs.declared.VertexGroups.{VertexGroups}
 use Rattle.forest.specs.declared.VertexGroups.the-variants as G
 use Rattle.forest.specs.Promise.{Holds, stateOf, SameBeyond, oneVertexMore, oneEdgeMore, vertexChangeAt, edgeChangeAt, bridgeAt, cutAt}
+use Rattle.routes.specs.declared.Lengths.{Lengths}
+use Rattle.routes.specs.declared.Route.the-variants as W
+use Rattle.routes.specs.Promise.{edgeAt}
 use Rattle.step.specs.declared.Listed.{Listed}
 use Rattle.step.specs.declared.Listed.the-variants as L
 use Rattle.step.specs.declared.Finding.{Finding}
@@ -69,6 +73,11 @@ unfoldable pub listAnswer : Listed → List ℕ → Plain
 listAnswer L.Spans ss = soleSpansAre ss
 listAnswer L.Cabinets cs = cutCabinetsAre cs
 
+-- The answer to 0C, with the routes that the table has written down.
+abbrev pub routesTold : Shape → List ℕ → Lengths → Plain
+routesTold shape t lengths =
+    routesAre (tabulate (lengths .first) (edgeAt shape t W.First)) (tabulate (lengths .second) (edgeAt shape t W.Second))
+
 -- The paper's answer for each finding and for each reply, with what the table has written down.
 unfoldable pub findingAnswer : Shape → List ℕ → Finding → Plain
 findingAnswer shape t (F.Name groups name) = nameAnswer groups (name .0)
@@ -77,6 +86,7 @@ findingAnswer shape t (F.List list count) = listAnswer list (tabulate count (ite
 findingAnswer shape t (F.Sole sole) = soleIs sole
 findingAnswer shape t F.Marked = exchangeMarked
 findingAnswer shape t (F.Held held) = exchangeHeld held
+findingAnswer shape t (F.Routes lengths) = routesTold shape t lengths
 findingAnswer shape t (F.Share share) = shareIs share
 
 unfoldable pub replyAnswer : Shape → List ℕ → Reply → Answer
@@ -92,6 +102,7 @@ findingSize (F.List list count) = 3 + 2 * count
 findingSize (F.Sole sole) = 2
 findingSize F.Marked = 1
 findingSize (F.Held held) = 2
+findingSize (F.Routes lengths) = 5 + 2 * (lengths .first + lengths .second)
 findingSize (F.Share share) = 3
 
 unfoldable pub replySize : Reply → ℕ
@@ -120,7 +131,7 @@ pub record StepRefused (limits : Limits) (old new : List ℕ) (result : Stepped)
 pub record Carried (shape : Shape) (c : Command) (old new : List ℕ) (reply : Reply) : Type 0 where
   pub holds : Holds (shapeAfter shape reply) new
   pub state-is : stateOf (shapeAfter shape reply) new ≡ after (stateOf shape old) c
-  pub answer-is : replyAnswer (shapeAfter shape reply) new reply ≡ answer (stateOf shape old) c
+  pub answer-is : replyAnswer (shapeAfter shape reply) new reply ≡ answer registerRoutes (stateOf shape old) c
   pub fits : ReplyFits reply
   pub same-beyond : SameBeyond (shape .limits) old new
 

@@ -2,8 +2,8 @@
 ghost use mathlib.Core.Bool.{true, false};
 ghost use mathlib.Core.Path.{_≡_};
 ghost use Prim.Native.Nat.{_<_};
-ghost use Rattle.graph.specs.Groups.{component};
-ghost use Rattle.commands.specs.Command.{addCabinet, sharedMesh, soleSpans, cutCabinets, isSole, markExchange, holdsExchange, exchangeShare};
+ghost use Rattle.graph.specs.Groups.{component, bridgeBlock};
+ghost use Rattle.commands.specs.Command.{addCabinet, sharedMesh, soleSpans, cutCabinets, isSole, markExchange, holdsExchange, routesBetween, exchangeShare};
 ghost use Rattle.forest.specs.Promise.{Holds, stateOf, networkIn};
 ghost use Rattle.reading.specs.Inside.Reads.{spanCommand, meaning};
 ghost use Rattle.step.specs.Inside.Judged.{judgement};
@@ -29,6 +29,7 @@ use numbers::Edge;
 use numbers::Vertex;
 use reading::read::Lay;
 use reading::read::Order;
+use routes::find;
 
 // 01: add a cabinet.
 fn add_cabinet(t: &mut [u32], shape: Shape) -> Reply
@@ -122,6 +123,15 @@ fn holds_exchange(t: &[u32], shape: Shape, a: Vertex) -> Reply
     Reply::Found(Finding::Held(held))
 }
 
+// 0C: the routes between two cabinets of one ring.
+fn routes_between(t: &mut [u32], shape: Shape, a: Vertex, b: Vertex) -> Reply
+    requires { ⌜ Holds shape (now t) × (b .0 < shape .vertices) × (bridgeBlock (networkIn shape (now t)) (a .0) (b .0) ≡ true) ⌝ }
+    ensures { λ r. ⌜ Carried shape (routesBetween (a .0) (b .0)) (now (t .entry)) (now (t .exit)) r ⌝ }
+{
+    let lengths = find(t, shape, a, b);
+    Reply::Found(Finding::Routes(lengths))
+}
+
 // 0F: the share of the cabinets whose ring holds an exchange.
 fn exchange_share(t: &[u32], shape: Shape) -> Reply
     requires { ⌜ Holds shape (now t) ⌝ }
@@ -147,6 +157,7 @@ pub(crate) fn carry_out(t: &mut [u32], shape: Shape, order: Order) -> Reply
         Order::IsSole(s) => is_sole(t, shape, s),
         Order::MarkExchange(a) => mark_exchange(t, shape, a),
         Order::HoldsExchange(a) => holds_exchange(t, shape, a),
+        Order::RoutesBetween(a, b) => routes_between(t, shape, a, b),
         Order::ExchangeShare => exchange_share(t, shape),
     }
 }

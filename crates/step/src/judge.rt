@@ -1,9 +1,10 @@
 // The refusal that a command meets, room apart, by its number; 0 if it meets none. Each function tests lines of the table in their order.
 ghost use mathlib.Core.Path.{_≡_};
 ghost use Rattle.forest.specs.Promise.{Holds};
-ghost use Rattle.step.specs.Inside.Judged.{cabinetRefusal, spanRefusal, pairRefusal, differentRefusal, exchangeRefusal, ductRefusal, newCabinetRefusal, newSpanRefusal, districtRefusal, judgement};
+ghost use Rattle.step.specs.Inside.Judged.{cabinetRefusal, spanRefusal, pairRefusal, differentRefusal, exchangeRefusal, ductRefusal, newCabinetRefusal, newSpanRefusal, districtRefusal, ringRefusal, judgement};
 use forest::Shape;
 use forest::is_marked;
+use forest::same_bridge_block;
 use forest::same_component;
 use numbers::Edge;
 use numbers::Vertex;
@@ -116,6 +117,22 @@ fn district_refusal(t: &[u32], shape: Shape, a: Vertex, b: Vertex) -> u32
     }
 }
 
+// 6, then 8, then 14: the two cabinets share no ring.
+fn ring_refusal(t: &[u32], shape: Shape, a: Vertex, b: Vertex) -> u32
+    requires { ⌜ Holds shape (now t) ⌝ }
+    ensures { λ r. ⌜ r ≡ ringRefusal shape (now (t .entry)) (a .0) (b .0) ⌝ }
+{
+    let ends = different_refusal(shape, a, b);
+    if ends != 0 {
+        return ends;
+    }
+    if same_bridge_block(t, shape, a, b) {
+        0
+    } else {
+        14
+    }
+}
+
 // The refusal of a command.
 pub(crate) fn judge(t: &[u32], shape: Shape, order: Order) -> u32
     requires { ⌜ Holds shape (now t) ⌝ }
@@ -132,6 +149,7 @@ pub(crate) fn judge(t: &[u32], shape: Shape, order: Order) -> u32
         Order::IsSole(s) => span_refusal(shape, s),
         Order::MarkExchange(a) => exchange_refusal(t, shape, a),
         Order::HoldsExchange(a) => cabinet_refusal(shape, a),
+        Order::RoutesBetween(a, b) => ring_refusal(t, shape, a, b),
         Order::ExchangeShare => 0,
     }
 }

@@ -19,6 +19,7 @@ use forest::VertexGroups;
 use numbers::Edge;
 use numbers::Vertex;
 use reading::read::Order;
+use routes::Lengths;
 
 // Which list the table has written down.
 pub enum Listed {
@@ -27,8 +28,8 @@ pub enum Listed {
 }
 
 // What a command that adds nothing is answered with: the name of a cabinet's district or ring; a shared mesh; a list, by its length; whether a
-// span is sole; that a cabinet is marked; whether a ring holds an exchange; a share in thousandths. A list stands in the table until the next
-// command.
+// span is sole; that a cabinet is marked; whether a ring holds an exchange; two routes, by their lengths; a share in thousandths. A list and
+// the routes stand in the table until the next command.
 pub enum Finding {
     Name(VertexGroups, Vertex),
     Mesh(Shared),
@@ -36,6 +37,7 @@ pub enum Finding {
     Sole(bool),
     Marked,
     Held(bool),
+    Routes(Lengths),
     Share(u32),
 }
 
@@ -64,6 +66,7 @@ fn finding_size(finding: Finding) -> usize
         Finding::Sole(_sole) => 2,
         Finding::Marked => 1,
         Finding::Held(_held) => 2,
+        Finding::Routes(lengths) => 5 + 2 * ((lengths.first as usize) + (lengths.second as usize)),
         Finding::Share(_share) => 3,
     }
 }

@@ -9,9 +9,11 @@ ghost use Rattle.step.specs.Promise.{findingAnswer, replyAnswer, findingSize, r
 ghost use Rattle.writing.specs.Inside.Writes.{nameCode};
 
 pub mod notice;
+pub mod route;
 pub mod write;
 
 use crate::notice::write_span;
+use crate::route::write_routes;
 use crate::write::write_cabinet;
 use crate::write::write_code;
 use crate::write::write_flag;
@@ -45,6 +47,7 @@ fn write_finding(t: &[u32], shape: Shape, out: &mut [u8], finding: Finding)
         Finding::Sole(sole) => write_flag(out, 0x88, sole as u8),
         Finding::Marked => write_code(out, 0x89),
         Finding::Held(held) => write_flag(out, 0x8A, held as u8),
+        Finding::Routes(lengths) => write_routes(t, shape, out, lengths),
         Finding::Share(share) => write_number(out, 0x8F, share),
     }
 }

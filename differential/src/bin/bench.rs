@@ -1,7 +1,8 @@
-//! Measures the engines against each other: runs of journals of several shapes at three sizes, and
-//! forecasts of long journals.
+//! Measures the engines against each other: runs of journals of several shapes at three sizes, two
+//! routes by the size of the network, and forecasts of long journals.
 //!
 //!     bench [--quick]             with --quick one run of each, for a look
+//!     bench --routes [--quick]    the routes by the size of the network alone
 //!     bench --forecast [--quick]  the forecasts alone
 //!     bench --only SHAPE          the last engine alone, on this shape at the greatest size, for
 //!                                 two seconds: for a profiler
@@ -24,7 +25,7 @@ const ANSWER_ROOM: usize = 24 << 20;
 
 type Shape = (&'static str, fn(usize) -> Writer);
 
-const SHAPES: [Shape; 11] = [
+const SHAPES: [Shape; 13] = [
     ("random", random),
     ("chain then loops", chain_then_loops),
     ("one long loop", long_loop),
@@ -36,6 +37,8 @@ const SHAPES: [Shape; 11] = [
     ("exchange questions", exchange_questions),
     ("shares", shares),
     ("chain of mates", chain_of_mates),
+    ("ladder routes", |cabinets| asked(ladder(cabinets), cabinets / 32)),
+    ("random routes", |cabinets| asked(random_ring(cabinets), cabinets / 32)),
 ];
 
 fn written(layout: &Layout) -> Writer {
@@ -136,13 +139,55 @@ fn chain_of_mates(cabinets: usize) -> Writer {
     writer
 }
 
+/// A network, and the next two cabinets to ask about, which share a ring.
+type Routes = (Writer, Box<dyn FnMut() -> [usize; 2]>);
+
+/// A ladder, and the two ends of a rail, there and back by turns.
+fn ladder(cabinets: usize) -> Routes {
+    let mut ends = [0, cabinets / 2 - 1];
+    let next = move || {
+        ends.reverse();
+        ends
+    };
+    (written(&layouts::ladder(cabinets / 2)), Box::new(next))
+}
+
+/// Twice as many random spans as cabinets, and random cabinets of the greatest ring.
+fn random_ring(cabinets: usize) -> Routes {
+    let mut random = Random::new(8);
+    let mut writer = written(&layouts::random_spans(&mut random, cabinets, 2 * cabinets));
+    let rings = (0..cabinets).map(|cabinet| writer.others_of_ring(cabinet));
+    let greatest = rings.max_by_key(Vec::len).expect("there are cabinets");
+    let next = move || {
+        let a = *random.pick(&greatest);
+        let others: Vec<usize> = greatest.iter().copied().filter(|&b| b != a).collect();
+        [a, *random.pick(&others)]
+    };
+    (writer, Box::new(next))
+}
+
+/// The network with so many questions behind it.
+fn asked((mut writer, mut next): Routes, count: usize) -> Writer {
+    (0..count).for_each(|_| writer.command(0x0C, &next()));
+    writer
+}
+
+type Network = (&'static str, fn(usize) -> Routes);
+
+/// Networks to ask for routes in, by their numbers of cabinets.
+const NETWORKS: [Network; 2] = [("ladder routes", ladder), ("random routes", random_ring)];
+
+const ROUTE_SIZES: [usize; 4] = [512, 1024, 2048, 4096];
+const QUESTIONS: usize = 256;
+
 type Long = (&'static str, fn() -> Vec<u8>);
 
 /// Journals to forecast, as long as they may be. A run need not accept them.
-const LONG: [Long; 5] = [
+const LONG: [Long; 6] = [
     ("01 alone", || alike(0x01)),
     ("02 alone", || alike(0x02)),
     ("0B alone", || alike(0x0B)),
+    ("0C alone", || alike(0x0C)),
     ("all but 0B", || mixed(|byte| byte != 0x0B)),
     ("all commands", || mixed(|_| true)),
 ];
@@ -219,6 +264,13 @@ impl Figure {
         self.report[2]
     }
 
+    /// The reports agree. How many bytes the answers to 0C take is each engine's to say.
+    fn agrees(&self, other: &Figure, load: &Load) -> bool {
+        let counts = counts(&load.journal).expect("the journal is well-formed");
+        let places = (0..REPORT_NUMBERS).filter(|&place| place != 3 || counts[0x0C] == 0);
+        places.into_iter().all(|place| self.report[place] == other.report[place])
+    }
+
     fn bytes_per_command(&self) -> f64 {
         f64::from(self.report[3]) / f64::from(self.commands())
     }
@@ -251,7 +303,7 @@ fn shape_figures(
         let load = Load { journal, c: size as u32, s: 2 * size as u32 };
         let row: Vec<Figure> =
             engines().iter().map(|e| measure(e.as_ref(), &load, buffers, budget)).collect();
-        assert!(row.iter().all(|figure| figure.report == row[0].report), "the reports differ");
+        assert!(row.iter().all(|figure| figure.agrees(&row[0], &load)), "the reports differ");
         figures.push(row);
     }
     figures
@@ -337,6 +389,67 @@ fn print_empty_runs(buffers: &mut Buffers, budget: Duration) {
     }
 }
 
+/// What two routes take by the size of the network: the version written by hand, and the register.
+fn print_routes(quick: bool, buffers: &mut Buffers, budget: Duration) {
+    println!("Two routes by the size of the network, {} of each, all in one process:", runs(quick));
+    println!(
+        "microseconds per question, which is what {QUESTIONS} of them add to a run; nanoseconds"
+    );
+    println!(
+        "per cabinet and span; growth at twice the size. The hand-written version keeps lists of"
+    );
+    println!(
+        "the spans at each cabinet; a question is two searches by breadth that end at their goal,"
+    );
+    println!("and a walk for each route.");
+    println!();
+    print!("{:<18} {:>5} {:>6}", "network", "size", "spans");
+    for engine in engines().iter().skip(1) {
+        print!(" {:>14} {:>9} {:>9}", format!("{} us", engine.name()), "ns/item", "growth");
+    }
+    println!("{}", if engines().len() > 2 { "  reg/incr" } else { "" });
+    for (name, network) in NETWORKS {
+        let mut before = Vec::new();
+        for size in ROUTE_SIZES {
+            let seconds = question_times(network, size, buffers, budget);
+            print_routes_row(name, size, network(size).0.spans.len(), &seconds, &before);
+            before = seconds;
+        }
+    }
+}
+
+/// What a question takes each engine but the first, in seconds.
+fn question_times(
+    network: fn(usize) -> Routes,
+    size: usize,
+    buffers: &mut Buffers,
+    budget: Duration,
+) -> Vec<f64> {
+    let load = |writer: Writer| Load { journal: writer.bytes, c: size as u32, s: 2 * size as u32 };
+    let (with, without) = (load(asked(network(size), QUESTIONS)), load(network(size).0));
+    let mut time = |engine: &dyn Engine| {
+        let added = best_time(engine, &with, buffers, budget)
+            - best_time(engine, &without, buffers, budget);
+        added / QUESTIONS as f64
+    };
+    engines().iter().skip(1).map(|engine| time(engine.as_ref())).collect()
+}
+
+fn print_routes_row(name: &str, size: usize, spans: usize, seconds: &[f64], before: &[f64]) {
+    print!("{name:<18} {size:>5} {spans:>6}");
+    for (engine, time) in seconds.iter().enumerate() {
+        print!(" {:>14.2} {:>9.2}", 1e6 * time, 1e9 * time / (size + spans) as f64);
+        match before.get(engine) {
+            Some(half) => print!(" {:>9.2}", time / half),
+            None => print!(" {:>9}", ""),
+        }
+    }
+    if let [incremental, register] = seconds[..] {
+        print!(" {:>9.2}", register / incremental);
+    }
+    println!();
+}
+
 /// The best time of a forecast among several, and the length forecast.
 fn best_forecast(engine: &dyn Engine, journal: &[u8], budget: Duration) -> (f64, u32) {
     let mut best = f64::INFINITY;
@@ -406,6 +519,9 @@ fn main() {
     if words.iter().any(|word| word == "--forecast") {
         return print_forecasts(quick, budget);
     }
+    if words.iter().any(|word| word == "--routes") {
+        return print_routes(quick, &mut buffers, budget);
+    }
     if let Some(at) = words.iter().position(|word| word == "--only") {
         return run_only(words.get(at + 1).map_or("", String::as_str), &mut buffers);
     }
@@ -419,6 +535,8 @@ fn main() {
     print_growth_heads();
     all.iter().for_each(|(name, figures)| print_growth(name, figures));
     print_empty_runs(&mut buffers, budget);
+    println!();
+    print_routes(quick, &mut buffers, budget);
     println!();
     print_forecasts(quick, budget);
 }

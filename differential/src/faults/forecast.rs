@@ -3,6 +3,7 @@
 use crate::engine::{Call, Engine, Forecast, MOST_CABINETS, MOST_SPANS};
 use crate::second::command::{read, Capacities};
 use crate::second::forecast::{counts, length, Counts};
+use crate::second::routes::Asked;
 use crate::second::{Misforecast, Second};
 
 /// What is wrong, and how it is made so.
@@ -10,7 +11,7 @@ type Wrong = (&'static str, Misforecast);
 
 /// Lengths that do not suffice for some journals: a run with exactly so much room must find them
 /// where the second implementation has them too.
-pub const TOO_SMALL: [Wrong; 9] = [
+pub const TOO_SMALL: [Wrong; 12] = [
     ("the part of 06 left out", |journal, right| {
         of_length(journal, right, |counts| length(counts) - (3 + 2 * spans(counts)) * counts[6])
     }),
@@ -28,8 +29,19 @@ pub const TOO_SMALL: [Wrong; 9] = [
             length(&without) + 7 * counts[0x0B]
         })
     }),
-    ("0B not counted in the part of 06", |journal, right| {
-        of_length(journal, right, |counts| length(counts) - 2 * counts[0x0B] * counts[6])
+    ("0B not counted in the parts of 06 and 0C", |journal, right| {
+        of_length(journal, right, |counts| {
+            length(counts) - 2 * counts[0x0B] * (counts[6] + counts[0x0C])
+        })
+    }),
+    ("the part of 0C left out", |journal, right| {
+        of_length(journal, right, |counts| length(counts) - (5 + 2 * spans(counts)) * counts[0x0C])
+    }),
+    ("3 + 2s for 0C", |journal, right| {
+        of_length(journal, right, |counts| length(counts) - 2 * counts[0x0C])
+    }),
+    ("5 + s for 0C", |journal, right| {
+        of_length(journal, right, |counts| length(counts) - spans(counts) * counts[0x0C])
     }),
     ("0 for 09", |journal, right| {
         of_length(journal, right, |counts| length(counts) - counts[0x09])
@@ -53,13 +65,14 @@ pub const TOO_SMALL: [Wrong; 9] = [
 
 /// Other faults, which only the comparison can find.
 pub const WRONG: [Wrong; 6] = [
-    ("c and s exchanged in the parts of 06 and 07", |journal, right| {
+    ("c and s exchanged in the parts of 06, 07 and 0C", |journal, right| {
         of_length(journal, right, |counts| {
-            let (c, s, sole, cut) = (counts[1], spans(counts), counts[6], counts[7]);
-            length(counts) + 2 * (c * sole + s * cut) - 2 * (s * sole + c * cut)
+            let (c, s, by_spans, cut) =
+                (counts[1], spans(counts), counts[6] + counts[0x0C], counts[7]);
+            length(counts) + 2 * (c * by_spans + s * cut) - 2 * (s * by_spans + c * cut)
         })
     }),
-    ("06 and 07 with the c and s before them", |journal, right| {
+    ("06, 07 and 0C with the c and s before them", |journal, right| {
         of_length(journal, right, |counts| length(counts) - for_later(journal))
     }),
     ("the place where a run would stop", |journal, right| match right.number {
@@ -90,15 +103,15 @@ fn of_length(journal: &[u8], right: Forecast, length: impl Fn(&Counts) -> usize)
     }
 }
 
-/// What 06 and 07 count for the spans and cabinets that come later in the journal.
+/// What 06, 07 and 0C count for the spans and cabinets that come later in the journal.
 fn for_later(journal: &[u8]) -> usize {
-    let (mut sole, mut cut, mut later) = (0, 0, 0);
+    let (mut by_spans, mut cut, mut later) = (0, 0, 0);
     let mut rest = journal;
     while let Some(Ok((_, length))) = rest.first().map(|_| read(rest)) {
         match rest[0] {
             0x01 => later += 2 * cut,
-            0x02 | 0x0B => later += 2 * sole,
-            0x06 => sole += 1,
+            0x02 | 0x0B => later += 2 * by_spans,
+            0x06 | 0x0C => by_spans += 1,
             0x07 => cut += 1,
             _ => {}
         }
@@ -110,7 +123,8 @@ fn for_later(journal: &[u8]) -> usize {
 /// Where a run with the greatest capacities and ample room stops.
 fn run_place(journal: &[u8]) -> u32 {
     let capacities = Capacities::new(MOST_CABINETS, MOST_SPANS);
-    Second::new().walk(capacities, journal, usize::MAX, &mut |_| ()).place as u32
+    let choose = &mut |asked: &Asked| Second::new().own_pair(asked);
+    Second::new().walk(capacities, journal, usize::MAX, choose, &mut |_| ()).place as u32
 }
 
 /// On a refusal the caller's place and length are left as they were.

@@ -3,9 +3,9 @@
 
 use crate::engine::{Forecast, LONGEST_JOURNAL};
 
-/// The lengths of the commands 03 to 0B and 0F, each a hexadecimal digit at its byte's place; 0 for
+/// The lengths of the commands 03 to 0C and 0F, each a hexadecimal digit at its byte's place; 0 for
 /// the bytes between that are no command's.
-const LENGTHS: u64 = 0x1000_7333_5553_3000;
+const LENGTHS: u64 = 0x1005_7333_5553_3000;
 
 /// The whole part of log2 k, and 0 for 0.
 fn log(k: usize) -> usize {
@@ -51,12 +51,12 @@ pub fn forecast(journal: &[u8]) -> Forecast {
 /// The length, with c commands 01, s commands 02 and so many of each other byte. A command 0B adds a
 /// span too.
 fn length(c: usize, s: usize, asked: [usize; 16]) -> usize {
-    let [_, _, _, district, ring, mesh, sole, cut, is_sole, mark, is_fed, in_duct, .., share] =
+    let [_, _, _, district, ring, mesh, sole, cut, is_sole, mark, is_fed, in_duct, routes, .., share] =
         asked;
     let s = s + in_duct;
     let added = 3 * c + 7 * s + 5 * (2 * c * log(c) + s * log(s));
     let names = 3 * (district + ring) + 4 * mesh + 2 * is_sole;
-    let lists = (3 + 2 * s) * sole + (3 + 2 * c) * cut;
+    let lists = (3 + 2 * s) * sole + (3 + 2 * c) * cut + (5 + 2 * s) * routes;
     let exchanges = mark + 2 * is_fed + 3 * share;
     added + names + lists + exchanges
 }

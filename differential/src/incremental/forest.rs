@@ -66,6 +66,11 @@ impl Forest {
         self.ends.len() as u32
     }
 
+    /// For every edge its ends and its duct.
+    pub fn edges(&self) -> (&[(u32, u32)], &[u32]) {
+        (&self.ends, &self.duct)
+    }
+
     pub fn district(&self, vertex: u32) -> u32 {
         self.district.name[vertex as usize]
     }

@@ -1,9 +1,10 @@
 //! The mates as a planner knows them: the spans of the accepted 02 and 0B commands. The names of its
-//! name list, and the answers 86 and 88, must fit them.
+//! name list, and the answers 86, 88 and 8C, must fit them.
 
 use super::Answer;
 use crate::kinds::ByKind;
 use crate::literal::of_one_duct;
+use crate::pairs::{serve, Pair};
 use crate::second::command::Command;
 use crate::spans::Span;
 
@@ -31,6 +32,9 @@ impl Mates {
             }
             (Command::IsSole(span), Answer::IsSole(byte)) => {
                 self.check_sole(span, *byte == 1, &names.ring)
+            }
+            (Command::Routes(a, b), Answer::Routes(pair)) => {
+                self.check_routes(a, b, pair, &names.ring)
             }
             _ => Ok(()),
         }
@@ -68,6 +72,14 @@ impl Mates {
             return Err(format!("06 lists {span}, its mate {mate} is less"));
         }
         self.check_sole(span, true, rings)
+    }
+
+    /// Two routes are given within a ring only, and must serve.
+    fn check_routes(&self, a: usize, b: usize, pair: &Pair, rings: &[usize]) -> Result<(), String> {
+        if rings[a] != rings[b] {
+            return Err(format!("0C {a} {b} is answered across two rings"));
+        }
+        serve(&self.spans, a, b, pair).map_err(|why| format!("0C {a} {b}: {why}"))
     }
 
     /// A span is sole between its ends exactly if these are in two rings.

@@ -5,6 +5,7 @@ use super::groups::{cut_cabinets, is_sole, route, shared_mesh, sole_spans};
 use super::mates::Misduct;
 use super::State;
 use crate::kinds::KINDS;
+use crate::pairs::Pair;
 use crate::spans::Span;
 
 #[derive(Clone, Copy, PartialEq, Eq, Debug)]
@@ -21,6 +22,7 @@ pub enum Command {
     IsFed(usize),
     /// Two cabinets and a duct.
     AddInDuct(usize, usize, usize),
+    Routes(usize, usize),
     Share,
 }
 
@@ -52,7 +54,7 @@ impl Capacities {
 fn operand_count(byte: u8) -> Option<usize> {
     match byte {
         0x01 | 0x0F => Some(0),
-        0x02 | 0x05..=0x07 => Some(2),
+        0x02 | 0x05..=0x07 | 0x0C => Some(2),
         0x03 | 0x04 | 0x08..=0x0A => Some(1),
         0x0B => Some(3),
         _ => None,
@@ -80,6 +82,7 @@ pub fn read(bytes: &[u8]) -> Result<(Command, usize), u32> {
         0x09 => Command::Mark(operand(0)),
         0x0A => Command::IsFed(operand(0)),
         0x0B => Command::AddInDuct(operand(0), operand(1), operand(2)),
+        0x0C => Command::Routes(operand(0), operand(1)),
         _ => Command::Share,
     };
     Ok((command, length))
@@ -104,7 +107,9 @@ pub fn refusal(command: Command, state: &State, capacities: Capacities) -> Optio
         _ => {}
     }
     let first = lines.into_iter().find(|line| line.0).map(|line| line.1);
-    first.or_else(|| goes_across_districts(command, book).then_some(10))
+    first
+        .or_else(|| goes_across_districts(command, book).then_some(10))
+        .or_else(|| finds_no_ring(command, book).then_some(14))
 }
 
 fn has_unknown_cabinet(command: Command, book: &Book) -> bool {
@@ -118,7 +123,8 @@ fn has_unknown_cabinet(command: Command, book: &Book) -> bool {
         | Command::AddInDuct(a, b, _)
         | Command::SharedMesh(a, b)
         | Command::SoleSpans(a, b)
-        | Command::CutCabinets(a, b) => unknown(a) || unknown(b),
+        | Command::CutCabinets(a, b)
+        | Command::Routes(a, b) => unknown(a) || unknown(b),
     }
 }
 
@@ -128,7 +134,10 @@ fn has_unknown_span(command: Command, book: &Book) -> bool {
 
 fn has_equal_cabinets(command: Command) -> bool {
     match command {
-        Command::AddSpan(a, b) | Command::AddInDuct(a, b, _) | Command::SharedMesh(a, b) => a == b,
+        Command::AddSpan(a, b)
+        | Command::AddInDuct(a, b, _)
+        | Command::SharedMesh(a, b)
+        | Command::Routes(a, b) => a == b,
         _ => false,
     }
 }
@@ -160,8 +169,18 @@ fn goes_across_districts(command: Command, book: &Book) -> bool {
     }
 }
 
-/// The answer to a command, given the state before it and the state after it.
-pub fn answer(command: Command, before: &State, after: &State) -> Vec<u8> {
+fn finds_no_ring(command: Command, book: &Book) -> bool {
+    matches!(command, Command::Routes(a, b) if book.groups.ring[a] != book.groups.ring[b])
+}
+
+/// The answer to a command, given the state before it and the state after it; to 0C with the pair
+/// that is chosen for its two cabinets.
+pub fn answer(
+    command: Command,
+    before: &State,
+    after: &State,
+    choose: &mut dyn FnMut(usize, usize) -> Pair,
+) -> Vec<u8> {
     let (before, exchanges, after) = (&before.book, &after.exchanges, &after.book);
     let network = &after.network;
     let groups = &after.groups;
@@ -187,6 +206,7 @@ pub fn answer(command: Command, before: &State, after: &State) -> Vec<u8> {
         }
         Command::Mark(_) => vec![0x89],
         Command::IsFed(a) => vec![0x8A, exchanges.feed(groups, a) as u8],
+        Command::Routes(a, b) => two_lists(0x8C, &choose(a, b)),
         Command::Share => fields(0x8F, &[exchanges.share(groups)]),
     }
 }
@@ -229,9 +249,9 @@ fn flagged(flag: u8, name: usize) -> Vec<u8> {
 }
 
 fn list(first: u8, items: &[usize]) -> Vec<u8> {
-    let mut bytes = fields(first, &[items.len()]);
-    for &item in items {
-        bytes.extend((item as u16).to_be_bytes());
-    }
-    bytes
+    fields(first, &[&[items.len()], items].concat())
+}
+
+fn two_lists(first: u8, [one, other]: &Pair) -> Vec<u8> {
+    fields(first, &[&[one.len()], &one[..], &[other.len()], other].concat())
 }

@@ -40,6 +40,7 @@ pub fn length(counts: &Counts) -> usize {
         + 2 * counts[8]
         + counts[0x09]
         + 2 * counts[0x0A]
+        + (5 + 2 * s) * counts[0x0C]
         + 3 * counts[0x0F]
 }
 

@@ -177,12 +177,21 @@ impl<'a> Passed<'a> {
 
 /// Some shortest route from a to b, as its steps; none if they are in two districts.
 pub fn route(network: &Network, a: usize, b: usize) -> Option<Vec<Step>> {
-    let near = Near::of(network);
-    let mut came: Vec<Option<(usize, Step)>> = vec![None; network.cabinets];
+    route_over(&Near::of(network), a, b, &|_| true)
+}
+
+/// Some shortest route from a to b over the spans allowed, as its steps; none if there is none.
+pub fn route_over(
+    near: &Near,
+    a: usize,
+    b: usize,
+    allowed: &dyn Fn(usize) -> bool,
+) -> Option<Vec<Step>> {
+    let mut came: Vec<Option<(usize, Step)>> = vec![None; near.cabinets()];
     let mut waiting = std::collections::VecDeque::from([a]);
-    while let Some(here) = waiting.pop_front() {
+    while let Some(here) = waiting.pop_front().filter(|_| came[b].is_none()) {
         for &step in near.from(here) {
-            if step.to != a && came[step.to].is_none() {
+            if step.to != a && came[step.to].is_none() && allowed(step.span) {
                 came[step.to] = Some((here, step));
                 waiting.push_back(step.to);
             }

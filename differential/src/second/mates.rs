@@ -47,7 +47,7 @@ pub enum Misduct {
 
 /// Spans of one duct between the same two cabinets, in either direction, are mates. A span from 02
 /// has no mate.
-fn are_mates(one: Span, other: Span) -> bool {
+pub fn are_mates(one: Span, other: Span) -> bool {
     one.duct != 0 && one.duct == other.duct && one.lies_beside(other)
 }
 

@@ -52,10 +52,10 @@ abbrev pub spansOf : ℕ
 spansOf = 0x0000100000000000
 
 abbrev pub bytesOf : ℕ
-bytesOf = 0x3000021233433000
+bytesOf = 0x3005021233433000
 
 abbrev pub spanlistsOf : ℕ
-spanlistsOf = 0x0000000001000000
+spanlistsOf = 0x0001000001000000
 
 abbrev pub cabinetlistsOf : ℕ
 cabinetlistsOf = 0x0000000010000000

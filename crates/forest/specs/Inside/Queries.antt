@@ -1,5 +1,5 @@
 -- What the questions read off the table, step by step.
-use mathlib.Core.Bool.{Bool, not, cond, _&&_}
+use mathlib.Core.Bool.{Bool, not, cond, _&&_, _||_}
 use mathlib.Core.List.{List}
 use Prim.Native.Nat.{ℕ, zero, suc, _+_, _-_, _/_, _%_}
 use lib.Dec.{eqb}
@@ -21,6 +21,24 @@ unfoldable pub bridgeIn : List ℕ → Limits → ℕ → Bool
 bridgeIn t limits s =
     let ends = cell t (edgeArea limits) Column.ends s in
     bridgeBlocksDiffer t limits (ends / 65536) (ends % 65536)
+
+-- Two numbers are two others, in this order.
+unfoldable pub arePair : ℕ → ℕ → ℕ → ℕ → Bool
+arePair left right x y = eqb left x && eqb right y
+
+-- Two words with the ends of an edge each have the same ends, in either direction.
+unfoldable pub endsAgree : ℕ → ℕ → Bool
+endsAgree ends other =
+    arePair (ends / 65536) (ends % 65536) (other / 65536) (other % 65536)
+    || arePair (ends / 65536) (ends % 65536) (other % 65536) (other / 65536)
+
+-- Two edges lie in one duct, between the same two vertices.
+unfoldable pub lostTogether : List ℕ → Limits → ℕ → ℕ → Bool
+lostTogether t limits s other =
+    let duct = cell t (edgeArea limits) Column.duct s in
+    not (eqb duct 0)
+    && eqb duct (cell t (edgeArea limits) Column.duct other)
+    && endsAgree (cell t (edgeArea limits) Column.ends s) (cell t (edgeArea limits) Column.ends other)
 
 -- Vertex x hangs below a block, and y is the vertex above that block.
 unfoldable pub hangsFrom : List ℕ → Limits → ℕ → ℕ → Bool

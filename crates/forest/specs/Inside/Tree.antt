@@ -144,16 +144,15 @@ enterBlock t limits e w v =
     w
     v
 
--- The path has one step, and the new edge e lies in the duct of the edge of that step. Then no bridge-block changes: either that edge is a
--- bridge and so, being parallel to e, a mate of it, or the path's two vertices share a bridge-block already.
+-- The path has one step, and the new edge e lies in the duct of the edge of that step.
 unfoldable pub inStepDuct : List ℕ → Limits → ℕ → ℕ → Bool
 inStepDuct t limits e steps =
     let duct = cell t (edgeArea limits) Column.duct e in
     eqb steps 1 && not (eqb duct 0) && eqb (cell t (edgeArea limits) Column.duct (pathEdge t limits 0)) duct
 
 -- How many of the path's vertices have their bridge-blocks merged: all, or only the first, which changes nothing, where the new edge lies in
--- the step's duct. (If it does and its ends are in different bridge-blocks, it is a mate of the step's edge; if they are in one, no
--- bridge-block changes.)
+-- the step's duct. (Then either the step's edge is a bridge and so, being parallel to e, a mate of it, or the path's two vertices share a
+-- bridge-block already.)
 unfoldable pub mergedVertices : List ℕ → Limits → ℕ → ℕ → ℕ
 mergedVertices t limits e steps = cond (inStepDuct t limits e steps) 1 (steps + 1)
 

@@ -5,7 +5,7 @@ use mathlib.Core.Option.{Option, none, some}
 use mathlib.Core.Path.{_≡_}
 use Prim.Native.Nat.{ℕ, _*_, _/_, _%_, _^_}
 use lib.Dec.{eqb}
-use Rattle.commands.specs.Command.{Command, addCabinet, addSpan, districtName, ringName, sharedMesh, soleSpans, cutCabinets, isSole, markExchange, holdsExchange, addDuctSpan, exchangeShare, Form, unknown, takes, form, Reading, unknownByte, cutOff, command}
+use Rattle.commands.specs.Command.{Command, addCabinet, addSpan, districtName, ringName, sharedMesh, soleSpans, cutCabinets, isSole, markExchange, holdsExchange, addDuctSpan, routesBetween, exchangeShare, Form, unknown, takes, form, Reading, unknownByte, cutOff, command}
 use Rattle.reading.specs.declared.read.Lay.{Lay}
 use Rattle.reading.specs.declared.read.Lay.the-variants as L
 use Rattle.reading.specs.declared.read.Order.{Order}
@@ -32,6 +32,7 @@ meaning (O.CutCabinets a b) = cutCabinets (a .0) (b .0)
 meaning (O.IsSole s) = isSole (s .0)
 meaning (O.MarkExchange a) = markExchange (a .0)
 meaning (O.HoldsExchange a) = holdsExchange (a .0)
+meaning (O.RoutesBetween a b) = routesBetween (a .0) (b .0)
 meaning O.ExchangeShare = exchangeShare
 
 -- What was read: an unknown byte is refusal 4, cut-off operands are refusal 5.
@@ -45,7 +46,7 @@ abbrev pub OneOperand : ℕ → Type 0
 OneOperand byte = (byte ≡ 3) ⊎ ((byte ≡ 4) ⊎ ((byte ≡ 8) ⊎ ((byte ≡ 9) ⊎ (byte ≡ 10))))
 
 abbrev pub TwoOperands : ℕ → Type 0
-TwoOperands byte = (byte ≡ 2) ⊎ ((byte ≡ 5) ⊎ ((byte ≡ 6) ⊎ (byte ≡ 7)))
+TwoOperands byte = (byte ≡ 2) ⊎ ((byte ≡ 5) ⊎ ((byte ≡ 6) ⊎ ((byte ≡ 7) ⊎ (byte ≡ 12))))
 
 -- The command that a form makes of so many operands.
 unfoldable pub made : Form → ℕ → (ℕ → ℕ) → Option Command
@@ -70,7 +71,7 @@ entryOf table k = table / 2 ^ (k * 4) % 16
 
 -- The number of the operands' bytes by the command byte, from 00 on; 15 where the byte is no command's.
 abbrev pub widths : ℕ
-widths = 0x0FFF62224442240F
+widths = 0x0FF462224442240F
 
 -- What an entry of the table says.
 unfoldable pub entryWidth : ℕ → Option ℕ

@@ -14,6 +14,7 @@ use Rattle.commands.specs.Facts.{addition}
 use Rattle.commands.specs.Text.{textFrom}
 use Rattle.commands.specs.Run.{Run, runWithin, commandsOf, bytesOfAnswers, placeAfter}
 use Rattle.commands.specs.Entry.{over, numberOf}
+use Rattle.commands.specs.Register.{registerRoutes}
 use Rattle.numbers.specs.declared.Limits.{Limits}
 use Rattle.forest.specs.declared.Shape.{Shape}
 use Rattle.forest.specs.Promise.{Holds, stateOf, SameBeyond}
@@ -43,6 +44,7 @@ unfoldable pub leftOf : Progress → List ℕ → ℕ → List ℕ → Run
 leftOf p journal room t =
     runWithin
     (room - p .written)
+    registerRoutes
     (capacitiesOf (p .shape .limits))
     (stateOf (p .shape) t)
     (textFrom (p .place) 0 (drop (p .place) journal))

@@ -34,6 +34,24 @@ enum-known-finding-5 c = search needs
 enum-known-finding-6 : tie.Need-enum-known-finding-6
 enum-known-finding-6 c = search needs
 
+cast-result-2 : tie.Need-cast-result-2
+cast-result-2 c = search needs
+
+cast-result-3 : tie.Need-cast-result-3
+cast-result-3 c = search needs
+
+add-result-2 : tie.Need-add-result-2
+add-result-2 c = search needs
+
+mul-result-2 : tie.Need-mul-result-2
+mul-result-2 c = search needs
+
+add-result-3 : tie.Need-add-result-3
+add-result-3 c = search needs
+
+enum-known-finding-7 : tie.Need-enum-known-finding-7
+enum-known-finding-7 c = search needs
+
 returns : tie.Need-returns
 unfolding findingSize
 returns c = rw (c .before .finding .given .1)
@@ -60,7 +78,11 @@ returns-6 c = rw (c .before .finding5 .given .1)
 
 returns-7 : tie.Need-returns-7
 unfolding findingSize
-returns-7 c = rw (c .before .finding6 .given .1)
+returns-7 c = rw (c .before .before .before .finding6 .given .1)
+
+returns-8 : tie.Need-returns-8
+unfolding findingSize
+returns-8 c = rw (c .before .finding7 .given .1)
 
 pub finding-size-spec : {M : Type 1} → statement M
 finding-size-spec =
@@ -76,10 +98,17 @@ finding-size-spec =
     enum-told
     enum-known-finding-5
     enum-known-finding-6
+    cast-result-2
+    cast-result-3
+    add-result-2
+    mul-result-2
+    add-result-3
+    enum-known-finding-7
     returns
     returns-2
     returns-3
     returns-4
     returns-5
     returns-6
-    returns-7)
+    returns-7
+    returns-8)

@@ -3,7 +3,7 @@ use mathlib.Core.Bool.{cond}
 use mathlib.Core.List.{List}
 use Prim.Native.Nat.{ℕ}
 use lib.Dec.{eqb, leb, ltb}
-use Rattle.graph.specs.Groups.{component}
+use Rattle.graph.specs.Groups.{component, bridgeBlock}
 use Rattle.forest.specs.declared.Shape.{Shape}
 use Rattle.forest.specs.Promise.{stateOf, networkIn}
 use Rattle.reading.specs.declared.read.Lay.{Lay}
@@ -44,6 +44,9 @@ newSpanRefusal shape a b lay =
 unfoldable pub districtRefusal : Shape → List ℕ → ℕ → ℕ → ℕ
 districtRefusal shape t a b = firstOf (pairRefusal shape a b) (cond (component (networkIn shape t) a b) 0 10)
 
+unfoldable pub ringRefusal : Shape → List ℕ → ℕ → ℕ → ℕ
+ringRefusal shape t a b = firstOf (differentRefusal shape a b) (cond (bridgeBlock (networkIn shape t) a b) 0 14)
+
 -- The refusal of each command.
 unfoldable pub judgement : Shape → List ℕ → Order → ℕ
 judgement shape t O.AddCabinet = newCabinetRefusal shape
@@ -56,4 +59,5 @@ judgement shape t (O.CutCabinets a b) = districtRefusal shape t (a .0) (b .0)
 judgement shape t (O.IsSole s) = spanRefusal shape (s .0)
 judgement shape t (O.MarkExchange a) = exchangeRefusal shape t (a .0)
 judgement shape t (O.HoldsExchange a) = cabinetRefusal shape (a .0)
+judgement shape t (O.RoutesBetween a b) = ringRefusal shape t (a .0) (b .0)
 judgement shape t O.ExchangeShare = 0

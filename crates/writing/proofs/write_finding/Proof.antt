@@ -59,9 +59,16 @@ write-flag-requires-2 c κs = search needs
 enum-known-finding-6 : tie.Need-enum-known-finding-6
 enum-known-finding-6 c = search needs
 
+write-routes-requires : tie.Need-write-routes-requires
+unfolding findingSize
+write-routes-requires c κs = let s = c .before .before .before .before .before .before in rw (c .before .before .finding6 .given .1) at (s .pre)
+
+enum-known-finding-7 : tie.Need-enum-known-finding-7
+enum-known-finding-7 c = search needs
+
 write-number-requires : tie.Need-write-number-requires
 unfolding findingSize
-write-number-requires c κs = let s = c .before .before .before .before .before .before in rw (c .before .before .finding6 .given .1) at (s .pre)
+write-number-requires c κs = let s = c .before .before .before .before .before .before in rw (c .before .before .finding7 .given .1) at (s .pre)
 
 same-length : tie.Need-same-length
 same-length c = search needs
@@ -124,10 +131,19 @@ same-length-7 : tie.Need-same-length-7
 same-length-7 c = search needs
 
 returns-7 : tie.Need-returns-7
-unfolding findingAnswer answerBytes answerFields plainFields fieldsBytes fieldBytes twoBytes
+unfolding findingAnswer
 returns-7 c =
+    let at-write-routes = c .before .before in
+    rw (at-write-routes .before .before .before .finding6 .given .1) (at-write-routes .write-routes .ensures)
+
+same-length-8 : tie.Need-same-length-8
+same-length-8 c = search needs
+
+returns-8 : tie.Need-returns-8
+unfolding findingAnswer answerBytes answerFields plainFields fieldsBytes fieldBytes twoBytes
+returns-8 c =
     let at-write-number = c .before .before in
-    rw (at-write-number .before .before .before .finding6 .given .1) (at-write-number .write-number .ensures)
+    rw (at-write-number .before .before .before .finding7 .given .1) (at-write-number .write-number .ensures)
 
 pub write-finding-spec : {M : Type 1} → statement M
 write-finding-spec =
@@ -149,6 +165,8 @@ write-finding-spec =
     cast-write-flag-2
     write-flag-requires-2
     enum-known-finding-6
+    write-routes-requires
+    enum-known-finding-7
     write-number-requires
     same-length
     returns
@@ -163,4 +181,6 @@ write-finding-spec =
     same-length-6
     returns-6
     same-length-7
-    returns-7)
+    returns-7
+    same-length-8
+    returns-8)

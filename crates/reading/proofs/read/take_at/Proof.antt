@@ -27,9 +27,10 @@ take-one-requires : tie.Need-take-one-requires
 take-one-requires c κs =
     let rest = c .before .before .match .rest in
     let a = c .before .before .before .before .before .args in
-    let byte = getD (a .journal .now) (a .at) 0 in (
+    let byte = getD (a .journal .now) (a .at) 0 in
+    let from-three = above 2 byte (above 1 byte (c .before .if1 .left) (rest .0 .0 .0 .1)) (λ e. rest .0 .0 .1 (inl e)) in (
       ⊎-elim
-          (λ w. ⊎-elim inl (λ e. inr (inl e)) (one-of-two 3 byte (above 2 byte (above 1 byte (c .before .if1 .left) (rest .0 .0 .0 .1)) (rest .0 .0 .1)) (omega (arith, w .taken))))
+          (λ w. ⊎-elim inl (λ e. inr (inl e)) (one-of-two 3 byte from-three (omega (arith, w .taken))))
           (λ w. inr (inr (one-of-three 8 byte (omega (arith, w .1 .left)) (omega (arith, w .2 .taken)))))
           (c .if2 .came),
       omega arith,
@@ -39,8 +40,13 @@ add-take-two : tie.Need-add-take-two
 add-take-two c = search needs
 
 take-two-requires : tie.Need-take-two-requires
-take-two-requires c κs =
-    (⊎-elim (λ w. inl (w .keys2)) (λ w. inr (one-of-three 5 _ (w .2 .left) (w .3 .taken))) (c .match .came), omega arith)
+take-two-requires c κs = (
+  ⊎-elim
+      (λ w. ⊎-elim inl (λ e. inr (inr (inr (inr e)))) (w .keys2))
+      (λ w. inr (⊎-elim inl (λ r. inr (⊎-elim inl (λ e. inr (inl e)) r)) (one-of-three 5 _ (w .2 .left) (w .3 .taken))))
+      (c .match .came),
+  omega arith,
+)
 
 returns : tie.Need-returns
 unfolding forms form made readingOf meaning
@@ -77,7 +83,7 @@ returns-6 c =
     let a = rest .before .before .before .args in
     sym
     (read-unknown (getD (a .journal .now) (a .at) 0) (drop (a .at + 1) (a .journal .now))
-    (inr (above 11 _ (c .if4 .left) (rest .match .rest .0 .1)))
+    (inr (above 12 _ (above 11 _ (c .if4 .left) (rest .match .rest .0 .1)) (λ e. rest .match .rest .0 .0 .1 (inr e))))
     (rest .match .rest .1))
 
 returns-7 : tie.Need-returns-7

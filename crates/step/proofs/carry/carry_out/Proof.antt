@@ -2,7 +2,7 @@
 use Rattle.reading.specs.Inside.Reads.{meaning}
 use Rattle.step.specs.Inside.Judged.{judgement}
 use Rattle.step.specs.Inside.Asked.{asksName}
-use Rattle.step.proofs.Judgements.{cabinet-passes, exchange-passes, span-passes, new-cabinet-passes, pair-passes, different-passes, new-span-passes, district-passes}
+use Rattle.step.proofs.Judgements.{cabinet-passes, exchange-passes, span-passes, new-cabinet-passes, pair-passes, different-passes, new-span-passes, district-passes, ring-passes}
 use borrow.Author.Needs.{needs}
 use Rattle.step.proofs.carry.carry_out.Statement.{statement}
 use Rattle.step.proofs.carry.carry_out.Tie as tie
@@ -116,6 +116,19 @@ holds-exchange-requires c κs =
     let passed = rw (c .before .before .order9 .given .1) at (s .pre .1) in
     (s .pre .0, cabinet-passes (s .args .shape) _ passed)
 
+enum-known-order-10 : tie.Need-enum-known-order-10
+enum-known-order-10 c = search needs
+
+routes-between-requires : tie.Need-routes-between-requires
+unfolding judgement
+routes-between-requires c κs =
+    let s = c .before .before .before .before .before in
+    let passed = rw (c .before .before .order10 .given .1) at (s .pre .1) in
+    let both = ring-passes (s .args .shape) _ _ (s .args .t .now) passed in
+    let apart = different-passes (s .args .shape) _ _ (both .0) in
+    let known = pair-passes (s .args .shape) _ _ (apart .0) in
+    (s .pre .0, known .1, both .1)
+
 enum-told-2 : tie.Need-enum-told-2
 enum-told-2 c = search needs
 
@@ -197,7 +210,14 @@ same-length-11 c = search needs
 
 returns-11 : tie.Need-returns-11
 unfolding meaning
-returns-11 c = rw (c .before .before .enum-told2 .given .1) (c .exchange-share .ensures)
+returns-11 c = let at-routes = c .before .before in rw (at-routes .before .before .before .order10 .given .1) (at-routes .routes-between .ensures)
+
+same-length-12 : tie.Need-same-length-12
+same-length-12 c = search needs
+
+returns-12 : tie.Need-returns-12
+unfolding meaning
+returns-12 c = rw (c .before .before .enum-told2 .given .1) (c .exchange-share .ensures)
 
 pub carry-out-spec : {M : Type 1} → statement M
 carry-out-spec =
@@ -223,6 +243,8 @@ carry-out-spec =
     mark-exchange-requires
     enum-known-order-9
     holds-exchange-requires
+    enum-known-order-10
+    routes-between-requires
     enum-told-2
     exchange-share-requires
     same-length
@@ -246,4 +268,6 @@ carry-out-spec =
     same-length-10
     returns-10
     same-length-11
-    returns-11)
+    returns-11
+    same-length-12
+    returns-12)

@@ -1,5 +1,4 @@
 -- `carry::duct_of` gives the duct that a new span lies in.
-use mathlib.Core.Path.{refl}
 use Rattle.step.specs.Inside.Asked.{ductOf}
 use borrow.Author.Needs.{needs}
 use Rattle.step.proofs.carry.duct_of.Statement.{statement}

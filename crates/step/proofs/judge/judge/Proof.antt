@@ -64,6 +64,12 @@ enum-known-order-9 c = search needs
 cabinet-refusal-requires-3 : tie.Need-cabinet-refusal-requires-3
 cabinet-refusal-requires-3 c κs = search needs
 
+enum-known-order-10 : tie.Need-enum-known-order-10
+enum-known-order-10 c = search needs
+
+ring-refusal-requires : tie.Need-ring-refusal-requires
+ring-refusal-requires c κs = search needs
+
 enum-told-2 : tie.Need-enum-told-2
 enum-told-2 c = search needs
 
@@ -109,7 +115,11 @@ returns-10 c = rw (c .before .before .order9 .given .1) (c .cabinet-refusal3 .en
 
 returns-11 : tie.Need-returns-11
 unfolding judgement
-returns-11 c = rw (c .enum-told2 .given .1)
+returns-11 c = rw (c .before .before .order10 .given .1) (c .ring-refusal .ensures)
+
+returns-12 : tie.Need-returns-12
+unfolding judgement
+returns-12 c = rw (c .enum-told2 .given .1)
 
 pub judge-spec : {M : Type 1} → statement M
 judge-spec =
@@ -135,6 +145,8 @@ judge-spec =
     exchange-refusal-requires
     enum-known-order-9
     cabinet-refusal-requires-3
+    enum-known-order-10
+    ring-refusal-requires
     enum-told-2
     returns
     returns-2
@@ -146,4 +158,5 @@ judge-spec =
     returns-8
     returns-9
     returns-10
-    returns-11)
+    returns-11
+    returns-12)

@@ -1,0 +1,5 @@
+pub mod Search
+pub mod Used
+pub mod Balance
+pub mod TwoRoutes
+pub mod Examples
