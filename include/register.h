@@ -48,7 +48,7 @@ enum {
     REGISTER_SHORT_BUFFER = 2, /* working table or report too short */
     REGISTER_LONG_JOURNAL = 3, /* journal longer than 65,536 bytes */
     /* Stopped at a command. From a run: the report is filled, the answers before it stand. */
-    REGISTER_BAD_COMMAND = 4,       /* a byte that is no command's: not 01 to 0C, nor 0F */
+    REGISTER_BAD_COMMAND = 4,       /* a byte that is no command's: not 01 to 0F */
     REGISTER_CUT_OFF = 5,           /* operands cut off by the journal's end */
     REGISTER_UNKNOWN_CABINET = 6,   /* a cabinet number not yet given */
     REGISTER_UNKNOWN_SPAN = 7,      /* a span number not yet given */
@@ -94,6 +94,18 @@ enum {
  * with REGISTER_NO_ROOM exactly if this pair does not fit, though a shorter one might. All else that a
  * run returns and leaves in its buffers is settled by its input and by these pairs: their lengths
  * decide where later answers stand, what the report counts, and whether there is room.
+ */
+
+/*
+ * Survey lengths. Command 0D s day metres, with operands of two bytes each, records a length of span
+ * s. It is answered by 8D alone. Command 0E s asks for the length of span s. It is answered by 8E, one
+ * byte 1 and the metres in two bytes; or by 8E, one byte 0 and 0000, exactly while there is no record
+ * of s. A span that is not there is refused with REGISTER_UNKNOWN_SPAN by both.
+ *
+ * Of the records of a span, the one of the latest day holds; of those with one day, the one entered
+ * first. So records of different days give the same length however they are arranged. Any numbers will
+ * do for day and metres: day 0 comes before day 1 and is a day like any other, and a length of 0
+ * metres is one. Every span has its own records, mates too, and they change no other answer.
  */
 
 /*
@@ -149,8 +161,8 @@ uint32_t register_run(uint32_t c, uint32_t s,
  *     }
  *
  * The length is generous: it goes by how many commands there are of each kind, and a run mostly takes
- * far less. It always fits 32 bits; for a long journal with many questions 07 it can be some hundred
- * million bytes, with many 06 or 0C some ten million.
+ * far less. It always fits 32 bits; for a long journal with many questions 07 it can be more than four
+ * hundred million bytes, with many 06 or 0C nearly ninety million.
  *
  * The journal is read and not run. The first command with an unknown byte or with cut-off operands is
  * refused, even where a run would stop earlier for another cause. A journal that is accepted here may

@@ -76,11 +76,22 @@ static void command(unsigned byte, unsigned operands, unsigned a, unsigned b)
     spans += byte == 0x02 || byte == 0x0B;
 }
 
+/* A command with three operands. */
+static void command_of_three(unsigned byte, unsigned a, unsigned b, unsigned third)
+{
+    command(byte, 2, a, b);
+    put(third >> 8);
+    put(third & 0xFF);
+}
+
 static void add_in_duct(unsigned a, unsigned b, unsigned duct)
 {
-    command(0x0B, 2, a, b);
-    put(duct >> 8);
-    put(duct & 0xFF);
+    command_of_three(0x0B, a, b, duct);
+}
+
+static void record_length(unsigned span, unsigned day, unsigned metres)
+{
+    command_of_three(0x0D, span, day, metres);
 }
 
 static void start_journal(unsigned seed)
@@ -127,13 +138,25 @@ static void ask_routes(unsigned a, unsigned b)
     command(0x0C, 2, a, b);
 }
 
+/* A length of one of the newest spans or of any, on one of few days; now and then of a span that is not
+   there. */
+static void record_any(void)
+{
+    static const unsigned days[4] = {0, 1, 2, 0xFFFF};
+    unsigned newest = spans < 4 ? spans : 4;
+    unsigned span = below(2) == 0 ? below(spans) : spans - 1 - below(newest);
+    if (below(100) == 0)
+        span = spans;
+    record_length(span, days[below(4)], below(4) == 0 ? 0 : 0xFFFF - below(1000));
+}
+
 /* A command whose operands are known, but for one in a hundred. */
 static void any_command(void)
 {
     unsigned a = below(cabinets), b = (a + 1 + below(cabinets - 1)) % cabinets;
     if (below(100) == 0)
         b = below(2) == 0 ? a : cabinets;
-    switch (below(48)) {
+    switch (below(54)) {
     case 0: command(0x01, 0, 0, 0); break;
     case 1: command(0x08, 1, below(spans), 0); break;
     case 2: command(0x03, 1, a, 0); break;
@@ -147,6 +170,8 @@ static void any_command(void)
     case 15: case 16: add_in_duct(a, b, below(20) == 0 ? 0 : 0xFFFF); break;
     case 17: case 18: case 19: case 20: case 21: case 22: case 23: case 24: add_beside_link(); break;
     case 25: case 26: case 27: ask_routes(a, b); break;
+    case 28: case 29: case 30: case 31: record_any(); break;
+    case 32: case 33: command(0x0E, 1, below(20) == 0 ? spans : below(spans), 0); break;
     default: add_any(a, b);
     }
 }
@@ -181,6 +206,15 @@ static void ask_exchanges(void)
         command(0x0F, 0, 0, 0);
 }
 
+/* Records of some spans, the first and the last among them, and as many questions about lengths. */
+static void survey(void)
+{
+    for (unsigned i = 0; i < 100; i++)
+        record_length(i % 2 == 0 ? i / 2 : spans - 1 - i / 2, i % 3, 100 + i);
+    for (unsigned i = 0; i < 100; i++)
+        command(0x0E, 1, i % 2 == 0 ? i : spans - 1 - i, 0);
+}
+
 /* Questions about routes, in a ring of all cabinets. */
 static void ask_far_routes(void)
 {
@@ -189,9 +223,9 @@ static void ask_far_routes(void)
         command(0x0C, 2, i, most / 2 + i);
 }
 
-/* All cabinets in a chain, the first links of it in ducts and with mates; exchanges in it, its lists,
-   the span that closes it, spans until there are no more, and questions until the journal is as long
-   as it may be; routes round the loop, and in the whole network. */
+/* All cabinets in a chain, the first links of it in ducts, measured and then with mates; exchanges in it,
+   its lists, the span that closes it, spans until there are no more, and questions until the journal is
+   as long as it may be; routes round the loop, and in the whole network, and lengths there. */
 static void large_journal(void)
 {
     unsigned most = REGISTER_MOST_CABINETS;
@@ -202,6 +236,7 @@ static void large_journal(void)
         add_in_duct(i - 1, i, i);
     for (unsigned i = LINKS_IN_DUCTS + 1; i < most; i++)
         command(0x02, 2, i - 1, i);
+    survey();
     for (unsigned i = 1; i <= LINKS_IN_DUCTS; i++)
         add_in_duct(i, i - 1, i);
     for (unsigned i = 0; i < 100; i++)
@@ -217,6 +252,7 @@ static void large_journal(void)
     }
     ask_exchanges();
     ask_far_routes();
+    survey();
     while (journal_length < LONGEST)
         command(0x05, 2, 0, 1);
 }
@@ -541,8 +577,10 @@ static int forecast_longest(void)
     const struct forecast all = {REGISTER_ACCEPTED, LONGEST, 10682368};
     const struct forecast shares = {REGISTER_ACCEPTED, LONGEST, 196608};
     const struct forecast in_ducts = {REGISTER_ACCEPTED, LONGEST - 2, 674064};
-    const struct forecast cut_in_duct = {REGISTER_CUT_OFF, LONGEST - 2, 0};
+    const struct forecast cut_by_two = {REGISTER_CUT_OFF, LONGEST - 2, 0};
     const struct forecast routes = {REGISTER_ACCEPTED, LONGEST - 1, 65535};
+    const struct forecast records = {REGISTER_ACCEPTED, LONGEST - 2, 9362};
+    const struct forecast lengths = {REGISTER_ACCEPTED, LONGEST - 1, 87380};
     const struct forecast cut_off = {REGISTER_CUT_OFF, LONGEST - 1, 0};
     const struct forecast unknown = {REGISTER_BAD_COMMAND, LONGEST - 1, 0};
     const struct forecast too_long = {REGISTER_LONG_JOURNAL, 0, 0};
@@ -550,10 +588,16 @@ static int forecast_longest(void)
     if (!forecasts(LONGEST, shares) || !forecasts(TOO_LONG, too_long))
         return 0;
     memset(journal, 0x0B, sizeof journal);
-    if (!forecasts(LONGEST - 2, in_ducts) || !forecasts(LONGEST, cut_in_duct))
+    if (!forecasts(LONGEST - 2, in_ducts) || !forecasts(LONGEST, cut_by_two))
         return 0;
     memset(journal, 0x0C, sizeof journal);
     if (!forecasts(LONGEST - 1, routes) || !forecasts(LONGEST, cut_off))
+        return 0;
+    memset(journal, 0x0D, sizeof journal);
+    if (!forecasts(LONGEST - 2, records) || !forecasts(LONGEST, cut_by_two))
+        return 0;
+    memset(journal, 0x0E, sizeof journal);
+    if (!forecasts(LONGEST - 1, lengths) || !forecasts(LONGEST, cut_off))
         return 0;
     memset(journal, 0x01, sizeof journal);
     if (!forecasts(LONGEST, all) || !forecasts(TOO_LONG, too_long)

@@ -2,19 +2,20 @@
  * A small shift planner. It writes a journal, sets aside as much room for the answers as the register
  * forecasts, has the journal run by the register in one call with its own buffers, and reads the
  * answers. It keeps a name for each cabinet and span from the notices alone, a mark for each exchange
- * that it entered (09), and the spans that it entered (02 and 0B). It holds each name that it asked
- * for (03, 04 and 05) against its own, each new number against the next one, what is answered about
- * exchanges (0A and 0F) against its own marks and ring names, what is answered about sole spans (06
- * and 08) against its own spans and ring names, and follows each two routes that it asked for (0C)
- * over its own spans. It prints the names and the last two routes, and exits with 1 if any two differ
- * or a route does not serve.
+ * that it entered (09), the spans that it entered (02 and 0B), and the lengths that were measured (0D).
+ * It holds each name that it asked for (03, 04 and 05) against its own, each new number against the next
+ * one, what is answered about exchanges (0A and 0F) against its own marks and ring names, what is answered
+ * about sole spans (06 and 08) against its own spans and ring names, and the length of each span (0E)
+ * against its own records, and follows each two routes that it asked for (0C) over its own spans. It
+ * prints the names, the lengths and the last two routes, with how long these are, and exits with 1 if any
+ * two differ or a route does not serve.
  */
 #include "register.h"
 
 #include <stdio.h>
 #include <stdlib.h>
 
-enum { CABINETS = 64, SPANS = 128, NO_NAME = 0xFFFF };
+enum { CABINETS = 64, SPANS = 128, NO_NAME = 0xFFFF, NO_LENGTH = 0x10000 };
 
 /* The planner's own buffers. */
 static uint8_t journal[REGISTER_LONGEST_JOURNAL];
@@ -118,6 +119,20 @@ static void ask_routes(unsigned a, unsigned b)
     put_operand(b);
 }
 
+static void record_length(size_t span, unsigned day, unsigned metres)
+{
+    put_byte(0x0D);
+    put_operand((unsigned)span);
+    put_operand(day);
+    put_operand(metres);
+}
+
+static void ask_length(size_t span)
+{
+    put_byte(0x0E);
+    put_operand((unsigned)span);
+}
+
 static void ask_share(void)
 {
     put_byte(0x0F);
@@ -132,7 +147,8 @@ static void ask_all_routes(unsigned first, unsigned count)
                 ask_routes(a, b);
 }
 
-/* Asks for every name there is, which spans are sole, which rings hold an exchange, and the share. */
+/* Asks for every name there is, which spans are sole and how long, which rings hold an exchange, and the
+   share. */
 static void ask_all(unsigned cabinets)
 {
     for (unsigned cabinet = 0; cabinet < cabinets; cabinet++) {
@@ -143,15 +159,28 @@ static void ask_all(unsigned cabinets)
         ask_mesh(span);
         ask_sole(span);
         ask_sole_list(span);
+        ask_length(span);
     }
     ask_share();
+}
+
+/* Measures the newest spans, so many of them, on one day. */
+static void measure_newest(size_t count, unsigned day)
+{
+    for (size_t span = spans_entered - count; span < spans_entered; span++)
+        record_length(span, day, 100 + 10 * (unsigned)span + day);
 }
 
 /* Villages of three cabinets, each closed to a ring, every other one with an exchange; then the
    villages one after the other in a great loop. Each link of it is two spans in one duct, which
    protect nothing; the last makes all the rings one: a join of equal sizes. The last cabinet stays by
    itself, so that a share can need rounding. The first question is about an empty network. Two routes
-   are asked for in each village once it is a ring, and between all of the villages in the end. */
+   are asked for in each village once it is a ring, and between all of the villages in the end.
+
+   The spans of a village are measured when it is closed, on day 0; but for the last village entered, so
+   that some spans have no length. The first span of a link is measured before the second is laid, and
+   again with it, a day after. In the end come the sheets that were late, for both spans of each link: one
+   of the earlier of the two days, and another one of the later day. They change no length. */
 static void write_journal(unsigned villages)
 {
     unsigned cabinets = 3 * villages + 1;
@@ -165,16 +194,26 @@ static void write_journal(unsigned villages)
         add_span(first, first + 1);
         add_span(first + 1, first + 2);
         add_span(first + 2, first);
+        if (village > 0)
+            measure_newest(3, 0);
         ask_all(cabinets);
         ask_all_routes(first, 3);
     }
     for (unsigned village = 0; village < villages; village++) {
         unsigned here = 3 * village + 1, there = 3 * ((village + 1) % villages);
         add_in_duct(here, there, 5);
+        measure_newest(1, 2 * village + 1);
         ask_all(cabinets);
         add_in_duct(there, here, 5);
+        measure_newest(2, 2 * village + 2);
         ask_all(cabinets);
     }
+    for (size_t span = 3 * villages; span < spans_entered; span++) {
+        unsigned village = (unsigned)(span - 3 * villages) / 2;
+        record_length(span, 2 * village + 1, 1);
+        record_length(span, 2 * village + 2, 2);
+    }
+    ask_all(cabinets);
     ask_all_routes(0, 3 * villages);
 }
 
@@ -215,9 +254,11 @@ static int run_journal(void)
 
 /* ---- Reading the answers ---- */
 
-/* The planner's name list, and its marks. */
+/* The planner's name list, its marks, and its records of lengths: for each span whether it was measured,
+   the latest day, and the metres of the first record of that day. */
 static unsigned district[CABINETS], ring[CABINETS], mesh[SPANS];
-static int exchange[CABINETS];
+static int exchange[CABINETS], measured[SPANS];
+static unsigned latest_day[SPANS], metres[SPANS];
 static size_t cabinets_known, spans_known;
 
 /* The place reached in the journal and in the answers. */
@@ -225,7 +266,8 @@ static size_t asked_at, answered_at;
 
 /* What was asked for and what the list had, for the last answer about each item. */
 static unsigned asked_district[CABINETS], asked_ring[CABINETS], asked_mesh[SPANS];
-static unsigned asked_share, notices_read, routes_read, compared, differences;
+static unsigned asked_length[SPANS];
+static unsigned asked_share, notices_read, routes_read, lengths_read, compared, differences;
 
 /* Where the answer about the last two routes begins. */
 static const uint8_t *last_routes;
@@ -435,6 +477,31 @@ static void read_routes(void)
     answered_at += 5 + 2 * ((size_t)one_count + other_count);
 }
 
+static void read_record(void)
+{
+    unsigned span = two_bytes(journal + asked_at + 1), day = two_bytes(journal + asked_at + 3);
+    if (!measured[span] || day > latest_day[span]) {
+        measured[span] = 1;
+        latest_day[span] = day;
+        metres[span] = two_bytes(journal + asked_at + 5);
+    }
+    asked_at += 7;
+    answered_at += 1;
+}
+
+/* The answer to 0E: a length exactly if there is a record, else two bytes 0. */
+static void read_length(void)
+{
+    const uint8_t *answer = answers + answered_at;
+    unsigned span = two_bytes(journal + asked_at + 1);
+    hold("whether there is a length of span", span, answer[1], (unsigned)measured[span]);
+    hold("length of span", span, two_bytes(answer + 2), measured[span] ? metres[span] : 0);
+    asked_length[span] = answer[1] == 1 ? two_bytes(answer + 2) : NO_LENGTH;
+    lengths_read += answer[1] == 1;
+    asked_at += 3;
+    answered_at += 4;
+}
+
 /* The share in thousandths, rounded down; 0 for an empty network. */
 static void read_share(void)
 {
@@ -470,6 +537,8 @@ static int read_answer(void)
     case 0x89: read_mark(); return 1;
     case 0x8A: read_exchange(); return 1;
     case 0x8C: read_routes(); return 1;
+    case 0x8D: read_record(); return 1;
+    case 0x8E: read_length(); return 1;
     case 0x8F: read_share(); return 1;
     default: return 0;
     }
@@ -493,41 +562,57 @@ static void print_names(void)
     for (size_t item = 0; item < cabinets_known; item++)
         printf("%7zu  %15u %5u  %11u %5u\n", item, district[item], asked_district[item],
                ring[item], asked_ring[item]);
-    printf("span  mesh learnt asked\n");
-    for (size_t item = 0; item < spans_known; item++)
-        printf("%4zu  %11u %5u\n", item, mesh[item], asked_mesh[item]);
+    printf("span  mesh learnt asked  metres\n");
+    for (size_t item = 0; item < spans_known; item++) {
+        printf("%4zu  %11u %5u", item, mesh[item], asked_mesh[item]);
+        if (asked_length[item] == NO_LENGTH)
+            printf("    none\n");
+        else
+            printf("  %6u\n", asked_length[item]);
+    }
     printf("share of cabinets whose ring holds an exchange: %u thousandths\n", asked_share);
 }
 
+/* The last two routes, of which it is known that they serve, and how long each is as far as its spans
+ * were measured. */
 static void print_routes(void)
 {
     const uint8_t *list = last_routes + 1;
     for (int route = 0; route < 2; route++) {
-        unsigned count = two_bytes(list);
+        unsigned count = two_bytes(list), length = 0, without = 0;
         printf("%s route:", route == 0 ? "working" : "standby");
-        for (unsigned i = 0; i < count; i++)
-            printf(" %u", two_bytes(list + 2 + 2 * i));
-        printf("\n");
+        for (unsigned i = 0; i < count; i++) {
+            unsigned span = two_bytes(list + 2 + 2 * i);
+            printf(" %u", span);
+            if (asked_length[span] == NO_LENGTH)
+                without++;
+            else
+                length += asked_length[span];
+        }
+        printf(", %u metres, %u spans not measured\n", length, without);
         list += 2 + 2 * count;
     }
 }
 
 int main(void)
 {
+    for (size_t item = 0; item < SPANS; item++)
+        asked_length[item] = NO_LENGTH;
     write_journal(5);
     if (!make_room() || !run_journal() || !read_answers()) {
         free(answers);
         return 1;
     }
     print_names();
-    print_routes();
+    if (differences == 0)
+        print_routes();
     free(answers);
     printf("%u bytes of room were forecast for the answers, %u were taken\n",
            (unsigned)answers_length, (unsigned)report[REGISTER_REPORT_ANSWERS]);
-    printf("%u commands, %u notices and %u pairs of routes read, %u names, numbers, exchanges, sole "
-           "spans and routes compared, %u differ\n",
-           (unsigned)report[REGISTER_REPORT_COMMANDS], notices_read, routes_read, compared,
-           differences);
+    printf("%u commands, %u notices, %u pairs of routes and %u lengths read, %u names, numbers, "
+           "exchanges, sole spans, routes and lengths compared, %u differ\n",
+           (unsigned)report[REGISTER_REPORT_COMMANDS], notices_read, routes_read, lengths_read,
+           compared, differences);
     return differences != 0 || asked_at != journal_length
         || answered_at != report[REGISTER_REPORT_ANSWERS];
 }

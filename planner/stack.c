@@ -36,10 +36,10 @@ static int failed;
 
 /* ---- The journals ---- */
 
-/* The duct of every span by 0B. */
+/* The duct of every span by 0B, and the metres of every record. */
 enum { DUCT = 5 };
 
-/* A command of so many bytes. */
+/* A command of so many bytes; where it has three operands, the third is DUCT. */
 static void put(size_t length, unsigned byte, unsigned a, unsigned b)
 {
     const uint8_t bytes[7] = {(uint8_t)byte, (uint8_t)(a >> 8), (uint8_t)a,
@@ -64,11 +64,13 @@ static void add_cabinets(void)
     journal_length = cabinets;
 }
 
-/* An exchange at one end, both lists from end to end, in both directions; then the span that closes
-   the chain, the two ways round it, in both directions, and the questions about exchanges. */
+/* An exchange at one end, a record of the first span, both lists from end to end, in both directions; then
+   the span that closes the chain, the two ways round it, in both directions, the questions about
+   exchanges, and the lengths of a span that has a record and of one that has none. */
 static void ask_and_close(unsigned first, unsigned last)
 {
     put(3, 0x09, last, 0);
+    put(7, 0x0D, 0, 3);
     command(0x06, first, last);
     command(0x06, last, first);
     command(0x07, first, last);
@@ -80,6 +82,8 @@ static void ask_and_close(unsigned first, unsigned last)
     command(0x0C, last, first);
     put(3, 0x0A, first, 0);
     put(1, 0x0F, 0, 0);
+    put(3, 0x0E, 0, 0);
+    put(3, 0x0E, 1, 0);
 }
 
 /* Each cabinet is put below the one before: the last is as deep as can be. */
@@ -199,14 +203,13 @@ static void forecast_all(void)
     size_t longest = REGISTER_LONGEST_JOURNAL;
     forecast_one(0x01, longest, REGISTER_ACCEPTED);
     forecast_one(0x0F, longest, REGISTER_ACCEPTED);
-    for (unsigned byte = 0x02; byte <= 0x0C; byte++) {
-        if (byte == 0x0B)
-            continue;
-        forecast_one(byte, longest - 1, REGISTER_ACCEPTED);
-        forecast_one(byte, longest, REGISTER_CUT_OFF);
+    for (unsigned byte = 0x02; byte <= 0x0E; byte++) {
+        /* Commands of 7 bytes leave two over, those of 3 and 5 one. */
+        size_t over = byte == 0x0B || byte == 0x0D ? 2 : 1;
+        forecast_one(byte, longest - over, REGISTER_ACCEPTED);
+        forecast_one(byte, longest - over + 1, REGISTER_CUT_OFF);
     }
-    forecast_one(0x0B, longest - 2, REGISTER_ACCEPTED);
-    forecast_one(0x0B, longest - 1, REGISTER_CUT_OFF);
+    forecast_one(0x10, longest, REGISTER_BAD_COMMAND);
     forecast_one(0x00, longest, REGISTER_BAD_COMMAND);
     forecast_one(0x01, longest + 1, REGISTER_LONG_JOURNAL);
 }

@@ -28,6 +28,8 @@ pub struct Tally {
     pub notices: usize,
     /// Pairs of routes that were given with ample room.
     pub pairs: usize,
+    /// How often 0E was answered without a length, and how often with one.
+    pub lengths: [usize; 2],
     /// How often each number from 0 to 5 was returned by a forecast.
     pub forecast: [usize; 6],
     /// Runs with exactly the room that was forecast, by the number that the journal's forecast
@@ -137,6 +139,8 @@ pub fn compare(
     tally.returned[number as usize] += 1;
     tally.commands += read.commands;
     tally.notices += read.notices;
+    tally.lengths[0] += read.lengths[0];
+    tally.lengths[1] += read.lengths[1];
     Ok(ample.needed)
 }
 

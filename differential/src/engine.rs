@@ -1,5 +1,5 @@
 //! What every implementation of the register offers: the run of document 01, with the commands of
-//! document 02's requests 2, 3 and 5, and the forecast of its first.
+//! document 02's requests 2, 3, 5 and 6, and the forecast of its first.
 
 /// The call: the capacities C and S, the journal, and the buffers that the caller lends.
 pub struct Call<'a> {

@@ -8,6 +8,7 @@ use crate::second::book::Fault;
 use crate::second::exchanges::Misfeed;
 use crate::second::mates::Misduct;
 use crate::second::routes::Misroute;
+use crate::second::surveys::Mismeasure;
 use crate::second::Second;
 use std::ops::BitXor;
 
@@ -69,8 +70,9 @@ fn change<T: Copy + From<u8> + BitXor<Output = T>>(at: Option<usize>, buffer: &m
 /// What is wrong, and how it is made so.
 type Spoil = (&'static str, fn(&mut Left));
 
-const SPOILS: [Spoil; 20] = [
+const SPOILS: [Spoil; 21] = [
     ("another number returned", |left| left.number += 1),
+    ("11 before 7", |left| left.room_before(7)),
     ("11 before 12", |left| left.room_before(12)),
     ("11 before 13", |left| left.room_before(13)),
     ("11 before 14", |left| left.room_before(14)),
@@ -131,6 +133,9 @@ pub fn engines() -> Vec<Named> {
     }
     for (fault, _) in IN_REFUSALS_OF_ROUTES {
         engines.push((format!("{fault:?}"), Box::new(Second::with_misroute(fault))));
+    }
+    for fault in IN_SURVEYS {
+        engines.push((format!("{fault:?}"), Box::new(Second::with_mismeasure(fault))));
     }
     for spoil in SPOILS {
         engines.push((spoil.0.to_string(), Box::new(Spoiled(spoil))));
@@ -228,6 +233,82 @@ pub const IN_ROUTES: [(Misroute, &str); 16] = [
     (Misroute::ThatFits, ", second returns 11"),
     (Misroute::ByHistory, "was before"),
 ];
+
+/// Faults in the routes between spans with records, and what is said then, of the histories worked out by
+/// hand too. The second implementation has no part in finding them, as above.
+pub const IN_ROUTES_BY_RECORDS: [(Mismeasure, &str); 2] = [
+    (Mismeasure::FlaggedInRoutes, "are in the two routes"),
+    (Mismeasure::FlagForDuctInRoutes, "is answered by no pair"),
+];
+
+/// Faults in the survey lengths that the histories worked out by hand must find where the second
+/// implementation has them too.
+pub const IN_SURVEYS: [Mismeasure; 46] = [
+    Mismeasure::LastEntered,
+    Mismeasure::FirstEntered,
+    Mismeasure::LastOfDay,
+    Mismeasure::EarliestDay,
+    Mismeasure::MostMetres,
+    Mismeasure::FewestMetres,
+    Mismeasure::MostOfDay,
+    Mismeasure::FewestOfDay,
+    Mismeasure::NoMetresNone,
+    Mismeasure::NoMetresPassed,
+    Mismeasure::DayNoughtNone,
+    Mismeasure::AllNoughtNone,
+    Mismeasure::SignedDay,
+    Mismeasure::LowByteOfDay,
+    Mismeasure::HighByteOfDay,
+    Mismeasure::LowByteOfMetres,
+    Mismeasure::DayTold,
+    Mismeasure::Exchanged,
+    Mismeasure::AgainstLast,
+    Mismeasure::AgainstAll,
+    Mismeasure::OfAnotherSpan,
+    Mismeasure::OfAnySpan,
+    Mismeasure::LowByteOfSpan,
+    Mismeasure::OfMates,
+    Mismeasure::LostInJoins,
+    Mismeasure::LostToMates,
+    Mismeasure::LostToRecords,
+    Mismeasure::LostToCabinets,
+    Mismeasure::LostToMarks,
+    Mismeasure::LostToRoutes,
+    Mismeasure::DaysLostToRoutes,
+    Mismeasure::EightKept,
+    Mismeasure::FlagInverted,
+    Mismeasure::OnesForNone,
+    Mismeasure::ShortNone,
+    Mismeasure::MetresRecorded,
+    Mismeasure::FlaggedDuct,
+    Mismeasure::DuctLost,
+    Mismeasure::DayForDuct,
+    Mismeasure::Never7,
+    Mismeasure::WithinCapacity,
+    Mismeasure::KnownAsCabinet,
+    Mismeasure::SixForSeven,
+    Mismeasure::NoLengthRefused,
+    Mismeasure::SameDayRefused,
+    Mismeasure::EarlierDayRefused,
+];
+
+/// What a planner says of such a fault, by its own records, spans and name list; none where it cannot
+/// find it: the refusals are not the planner's to judge.
+pub fn said_of_surveys(fault: Mismeasure) -> Option<&'static str> {
+    match fault {
+        Mismeasure::MetresRecorded => Some("begins no answer"),
+        Mismeasure::FlaggedDuct | Mismeasure::DuctLost => Some("has notices"),
+        Mismeasure::DayForDuct => Some("has notices"),
+        Mismeasure::Never7 | Mismeasure::WithinCapacity | Mismeasure::KnownAsCabinet => {
+            Some("spans are there")
+        }
+        Mismeasure::SixForSeven
+        | Mismeasure::NoLengthRefused
+        | Mismeasure::SameDayRefused
+        | Mismeasure::EarlierDayRefused => None,
+        _ => Some("its records have"),
+    }
+}
 
 /// Faults that demand 3 must find where the second implementation has them too, and what is said
 /// then.

@@ -1,7 +1,7 @@
 //! Journals whose forecast is known beforehand, worked out by hand from document 02's first request
 //! and from what its second request has 09, 0A and 0F answer: 1, 2 and 3 bytes. Command 0B of its
 //! third request counts as a span command, so it lengthens what 02 lengthens. Command 0C of its fifth
-//! counts 5 and 2 for each span command.
+//! counts 5 and 2 for each span command. Of its sixth, 0D counts 1 and 0E counts 4.
 
 use crate::cases::{unhex, Case};
 use crate::engine::LONGEST_JOURNAL;
@@ -11,7 +11,7 @@ use crate::journals::{operand_count, unknown_bytes, Writer, COMMANDS};
 /// What a journal is, its bytes, and its forecast: number, place and length.
 type Known = (&'static str, &'static str, [u32; 3]);
 
-const SMALL: [Known; 33] = [
+const SMALL: [Known; 41] = [
     ("empty journal", "", [0, 0, 0]),
     ("01 alone", "01", [0, 1, 3]),
     ("02 alone", "02 0000 0001", [0, 5, 7]),
@@ -25,6 +25,8 @@ const SMALL: [Known; 33] = [
     ("0A alone", "0A 0000", [0, 3, 2]),
     ("0B alone", "0B 0000 0001 0005", [0, 7, 7]),
     ("0C alone", "0C 0000 0001", [0, 5, 5]),
+    ("0D alone", "0D 0000 0001 0005", [0, 7, 1]),
+    ("0E alone", "0E 0000", [0, 3, 4]),
     ("0F alone", "0F", [0, 1, 3]),
     ("an exchange and the questions about it", "01 09 0000 0A 0000 0F", [0, 8, 9]),
     ("triangle", TRIANGLE, [0, 18, 75]),
@@ -33,19 +35,20 @@ const SMALL: [Known; 33] = [
     (
         "every command, all accepted",
         "01 01 02 0000 0001 0B 0001 0000 0005 03 0000 04 0001 05 0000 0001 06 0000 0001 \
-         07 0000 0001 08 0000 09 0000 0A 0001 0C 0000 0001 0F",
-        [0, 50, 91],
+         07 0000 0001 08 0000 09 0000 0A 0001 0C 0000 0001 0D 0000 0001 0005 0E 0000 0F",
+        [0, 60, 96],
     ),
     ("06 before the spans that it counts", "06 0000 0001 02 0000 0001 02 0000 0001", [0, 15, 31]),
     ("07 before the cabinets that it counts", "07 0000 0001 01 01 01", [0, 8, 48]),
     (
         "every command, the questions first",
-        "0F 0C 0000 0001 0A 0000 09 0000 08 0000 07 0000 0001 06 0000 0001 05 0000 0001 04 0000 \
-         03 0000 02 0000 0001 02 0000 0001 0B 0000 0001 0005 01 01 01 01 01",
-        [0, 58, 202],
+        "0F 0E 0000 0D 0000 0001 0005 0C 0000 0001 0A 0000 09 0000 08 0000 07 0000 0001 \
+         06 0000 0001 05 0000 0001 04 0000 03 0000 02 0000 0001 02 0000 0001 0B 0000 0001 0005 \
+         01 01 01 01 01",
+        [0, 68, 207],
     ),
     ("an exchange lengthens no list", "09 0000 09 0001 06 0000 0001 07 0000 0001", [0, 16, 8]),
-    ("unknown bytes for operands", "03 FFFF 05 0D0D 0000 09 0D0E 0A 1000 0F 01", [0, 16, 16]),
+    ("unknown bytes for operands", "03 FFFF 05 1010 0000 09 1011 0A 1000 0F 01", [0, 16, 16]),
     // s is 2: 14, and 5 × 2 × L(2).
     ("02 and 0B are both span commands", "02 0000 0001 0B 0000 0001 0005", [0, 12, 24]),
     // s is 4, of which three are mates: 28, 5 × 4 × L(4), and 3 + 2 × 4 for 06.
@@ -69,12 +72,25 @@ const SMALL: [Known; 33] = [
     // A forecast knows nothing of 6, 8 and 14.
     ("0C that a run refuses", "0C 0007 0007 01 01 0C 0000 0001", [0, 12, 36]),
     ("commands for operands of 0C", "0C 0102 0B0C 01", [0, 6, 8]),
+    ("a record and the question about it", "0D 0000 0001 0005 0E 0000", [0, 10, 5]),
+    // A second record of a span counts as the first, whatever its day.
+    ("records of one day", "0D 0000 0001 0005 0D 0000 0001 0005 0D 0000 0000 0005", [0, 21, 3]),
+    // s and c are 0: 3 for 06, 3 for 07 and 5 for 0C.
+    (
+        "a record is no span and no cabinet",
+        "0D 0000 0001 0005 0D 0001 0001 0005 06 0000 0001 07 0000 0001 0C 0000 0001",
+        [0, 29, 13],
+    ),
+    // A forecast knows nothing of 7.
+    ("0D and 0E that a run refuses", "0D 0007 0001 0005 0E 0007", [0, 10, 5]),
+    ("commands for operands of 0D", "0D 0102 0B0F 0101 01", [0, 8, 4]),
+    ("commands for operands of 0E", "0E 0D0E 01", [0, 4, 7]),
     // 0B with the bytes of other commands as operands, then 01.
     ("commands for operands of 0B", "0B 0102 0B0F 0101 01", [0, 8, 10]),
 ];
 
 /// Journals of one command alone: its byte, how often it stands there, the place and the length.
-const ALIKE: [(u8, usize, u32, u32); 46] = [
+const ALIKE: [(u8, usize, u32, u32); 50] = [
     (0x01, 2, 2, 26),
     (0x01, 3, 3, 39),
     (0x01, 4, 4, 92),
@@ -119,6 +135,10 @@ const ALIKE: [(u8, usize, u32, u32); 46] = [
     (0x0B, 9_362, 65_534, 674_064),
     (0x0C, 4, 20, 20),
     (0x0C, 13_107, 65_535, 65_535),
+    (0x0D, 4, 28, 4),
+    (0x0D, 9_362, 65_534, 9_362),
+    (0x0E, 4, 12, 16),
+    (0x0E, 21_845, 65_535, 87_380),
     (0x0F, 4, 4, 12),
     (0x0F, 65_536, 65_536, 196_608),
 ];
@@ -127,7 +147,7 @@ const ALIKE: [(u8, usize, u32, u32); 46] = [
 /// answers and the report of its run.
 type Damaged = (&'static str, &'static str, [u32; 2], &'static str, [u32; 6]);
 
-const DAMAGED: [Damaged; 16] = [
+const DAMAGED: [Damaged; 20] = [
     ("02 00 00 alone", "02 00 00", [5, 0], "", [5, 0, 0, 0, 0, 0]),
     (
         "02 00 00 behind accepted commands",
@@ -162,12 +182,12 @@ const DAMAGED: [Damaged; 16] = [
     ),
     (
         "unknown byte behind a cabinet marked twice",
-        "01 09 0000 09 0000 0E",
+        "01 09 0000 09 0000 10",
         [4, 7],
         "81 0000 89",
         [12, 4, 2, 4, 1, 0],
     ),
-    ("unknown byte behind a full register", "01 01 0D", [4, 2], "81 0000", [9, 1, 1, 3, 1, 0]),
+    ("unknown byte behind a full register", "01 01 10", [4, 2], "81 0000", [9, 1, 1, 3, 1, 0]),
     (
         "unknown byte behind duct 0",
         "01 01 0B 0000 0001 0000 8B",
@@ -197,7 +217,29 @@ const DAMAGED: [Damaged; 16] = [
         "81 0000 81 0001",
         [14, 2, 2, 6, 2, 0],
     ),
-    ("0E is none yet", "01 0E 0000", [4, 1], "81 0000", [4, 1, 1, 3, 1, 0]),
+    (
+        "unknown byte behind a record of no span",
+        "0D 0000 0001 0005 8D",
+        [4, 7],
+        "",
+        [7, 0, 0, 0, 0, 0],
+    ),
+    (
+        "cut off behind a record of no span",
+        "0D 0000 0001 0005 0E 00",
+        [5, 7],
+        "",
+        [7, 0, 0, 0, 0, 0],
+    ),
+    (
+        "unknown byte behind a length of no span",
+        "01 0E 0000 8E",
+        [4, 4],
+        "81 0000",
+        [7, 1, 1, 3, 1, 0],
+    ),
+    ("metres of one byte", "01 0D 0000 0001 00", [5, 1], "81 0000", [5, 1, 1, 3, 1, 0]),
+    ("10 is none yet", "01 10 0000 0001", [4, 1], "81 0000", [4, 1, 1, 3, 1, 0]),
 ];
 
 /// What stands before a damaged place, and how many bytes that is: nothing, commands that a run
@@ -244,6 +286,9 @@ fn longest() -> Vec<Case> {
     let names = [repeated(0x01, 1), repeated(0x03, 21_845)].concat();
     let fed = [repeated(0x01, 1), repeated(0x09, 1), repeated(0x0A, 21_844)].concat();
     let shares = [repeated(0x01, 1), repeated(0x0F, 65_535)].concat();
+    let spans = [repeated(0x01, 2), repeated(0x02, 1)].concat();
+    let records = [spans.clone(), repeated(0x0D, 9_361), repeated(0x0F, 2)].concat();
+    let lengths = [spans, repeated(0x0E, 21_843)].concat();
     let lists = [repeated(0x01, 32_771), repeated(0x07, 6_553)].concat();
     let sole = [repeated(0x0B, 4_681), repeated(0x06, 6_553), repeated(0x01, 4)].concat();
     let routes = [repeated(0x02, 6_553), repeated(0x0C, 6_554), repeated(0x01, 1)].concat();
@@ -251,6 +296,10 @@ fn longest() -> Vec<Case> {
         Case::new("65,536 bytes", 1, 1, names).returns(0).forecasts([0, 65_536, 65_538]),
         Case::new("65,536 bytes, 0A", 1, 1, fed).returns(0).forecasts([0, 65_536, 43_692]),
         Case::new("65,536 bytes, 0F", 1, 1, shares).returns(0).forecasts([0, 65_536, 196_608]),
+        // 6, 7, 5 × 2 × 2, 9,361, and 2 × 3.
+        Case::new("65,536 bytes, 0D", 2, 1, records).returns(0).forecasts([0, 65_536, 9_400]),
+        // 6, 7, 5 × 2 × 2, and 21,843 × 4.
+        Case::new("65,536 bytes, 0E", 2, 1, lengths).returns(0).forecasts([0, 65_536, 87_405]),
         without_capacities("65,536 bytes, long lists", lists).forecasts([0, 65_536, 434_530_348]),
         without_capacities("65,536 bytes, 0B and 06", sole).forecasts([0, 65_536, 61_682_564]),
         // 3, 7 × 6,553, 5 × 6,553 × 12, and 6,554 × (5 + 2 × 6,553).

@@ -1,6 +1,6 @@
 //! The register by the method of the proved one, written by hand over ordinary arrays: names with
-//! sizes and ranges, one block forest, a count of exchanges for each ring, and searches for two routes
-//! over lists of the spans at each cabinet. Not proved.
+//! sizes and ranges, one block forest, a count of exchanges for each ring, one survey record for each
+//! span, and searches for two routes over lists of the spans at each cabinet. Not proved.
 
 mod forecast;
 mod forest;
@@ -9,7 +9,7 @@ mod routes;
 
 use crate::engine::{Call, Engine, REPORT_NUMBERS};
 use forecast::forecast;
-use forest::Forest;
+use forest::{Forest, Survey};
 use routes::Routes;
 
 pub struct Incremental;
@@ -103,9 +103,9 @@ impl Run<'_> {
         let byte = self.journal[self.place];
         let length = match byte {
             0x01 | 0x0F => 1,
-            0x03 | 0x04 | 0x08..=0x0A => 3,
+            0x03 | 0x04 | 0x08..=0x0A | 0x0E => 3,
             0x02 | 0x05..=0x07 | 0x0C => 5,
-            0x0B => 7,
+            0x0B | 0x0D => 7,
             _ => return Err(4),
         };
         if self.journal.len() - self.place < length {
@@ -133,6 +133,8 @@ impl Run<'_> {
             }
             0x0B => self.add_span(Some(self.operand(2)))?,
             0x0C => self.two_routes()?,
+            0x0D => self.record()?,
+            0x0E => self.length()?,
             _ => {
                 let share = thousandths(self.forest.fed(), self.forest.cabinets());
                 self.field_answer(0x8F, share)?;
@@ -188,10 +190,15 @@ impl Run<'_> {
     fn shared_mesh(&mut self) -> Result<(), u32> {
         let (a, b) = self.two_different()?;
         let name = self.forest.shared_mesh(a, b);
+        self.perhaps_answer(0x85, name)
+    }
+
+    /// One byte 1 and the value, or one byte 0 and 0000.
+    fn perhaps_answer(&mut self, first: u8, value: Option<u32>) -> Result<(), u32> {
         self.out.need(4)?;
-        self.out.byte(0x85);
-        self.out.byte(name.is_some() as u8);
-        self.out.field(name.unwrap_or(0));
+        self.out.byte(first);
+        self.out.byte(value.is_some() as u8);
+        self.out.field(value.unwrap_or(0));
         Ok(())
     }
 
@@ -225,12 +232,31 @@ impl Run<'_> {
         Ok(())
     }
 
-    fn is_sole(&mut self) -> Result<(), u32> {
+    fn one_span(&self) -> Result<u32, u32> {
         let span = self.operand(0);
         if span >= self.forest.spans() {
             return Err(7);
         }
+        Ok(span)
+    }
+
+    fn is_sole(&mut self) -> Result<(), u32> {
+        let span = self.one_span()?;
         self.flag_answer(0x88, self.forest.is_sole(span))
+    }
+
+    fn record(&mut self) -> Result<(), u32> {
+        let span = self.one_span()?;
+        self.out.need(1)?;
+        self.out.byte(0x8D);
+        let survey = Survey { day: self.operand(1), metres: self.operand(2) };
+        self.forest.record(span, survey);
+        Ok(())
+    }
+
+    fn length(&mut self) -> Result<(), u32> {
+        let span = self.one_span()?;
+        self.perhaps_answer(0x8E, self.forest.length(span))
     }
 
     fn mark(&mut self) -> Result<(), u32> {

@@ -6,10 +6,11 @@ use crate::layouts::{self, random_spans, Layout, DUCTS, MEDIUM, STYLES};
 use crate::literal::{of_one_duct, share_ring, Plant};
 use crate::random::Random;
 use crate::second::groups::{groups, Labels, Network};
+use crate::second::surveys::Record;
 use crate::spans::Span;
 
 /// The command bytes, each with the number of its operands.
-pub const COMMANDS: [(u8, usize); 13] = [
+pub const COMMANDS: [(u8, usize); 15] = [
     (0x01, 0),
     (0x02, 2),
     (0x03, 1),
@@ -22,6 +23,8 @@ pub const COMMANDS: [(u8, usize); 13] = [
     (0x0A, 1),
     (0x0B, 3),
     (0x0C, 2),
+    (0x0D, 3),
+    (0x0E, 1),
     (0x0F, 0),
 ];
 
@@ -31,10 +34,18 @@ pub fn operand_count(byte: u8) -> usize {
     known.expect("the byte is a command's").1
 }
 
-/// The bytes that are no command's: 00, 0D and 0E, and 10 to FF.
+/// The bytes that are no command's: 00, and 10 to FF.
 pub fn unknown_bytes() -> impl Iterator<Item = u8> {
     (0x00..=0xFF).filter(|&byte| COMMANDS.iter().all(|command| command.0 != byte))
 }
+
+/// Days to measure on: few at a time, so that several records are of one day, and a later day comes
+/// before an earlier one. Some differ in one byte or in the highest bit alone.
+const DAYS: [&[usize]; 6] =
+    [&[0], &[0, 1, 2], &[0, 65_535], &[255, 256, 257], &[0x7FFF, 0x8000], &[1, 0x0101, 0x0201]];
+
+/// Lengths to measure.
+const METRES: [usize; 8] = [0, 1, 5, 255, 256, 0x8000, 65_534, 65_535];
 
 /// Writes a journal, and keeps as much of the network as it takes to write commands that are
 /// accepted.
@@ -96,6 +107,31 @@ impl Writer {
         }
     }
 
+    /// Records a length of a span.
+    pub fn record(&mut self, record: Record) {
+        self.command(0x0D, &[record.span, record.day, record.metres]);
+    }
+
+    /// Records a length of some span, measured on one of these days, and asks for it now and then; nothing
+    /// if there is no span.
+    fn record_any(&mut self, random: &mut Random, days: &[usize]) {
+        if self.spans.is_empty() {
+            return;
+        }
+        let span = self.some_span(random);
+        self.record(Record { span, day: *random.pick(days), metres: *random.pick(&METRES) });
+        if random.chance(30) {
+            self.command(0x0E, &[span]);
+        }
+    }
+
+    /// A span: every other time one of the last three, so that one span has several records.
+    fn some_span(&self, random: &mut Random) -> usize {
+        let spans = self.spans.len();
+        let newest = if random.chance(50) { 3.min(spans) } else { spans };
+        spans - 1 - random.below(newest)
+    }
+
     /// A span, and before it the cabinets that it needs and that are not there yet.
     fn add_with_cabinets(&mut self, span: Span) {
         while self.cabinets <= span.a.max(span.b) {
@@ -148,7 +184,7 @@ impl Writer {
 
     /// A question that is accepted; nothing if the cabinets or spans for it are missing.
     pub fn question(&mut self, random: &mut Random) {
-        let byte = *random.pick(&[0x03, 0x04, 0x05, 0x06, 0x07, 0x08, 0x0A, 0x0C, 0x0F]);
+        let byte = *random.pick(&[0x03, 0x04, 0x05, 0x06, 0x07, 0x08, 0x0A, 0x0C, 0x0E, 0x0F]);
         if byte == 0x0F {
             return self.command(byte, &[]);
         }
@@ -160,15 +196,16 @@ impl Writer {
             0x05 if a == b => {}
             0x06 | 0x07 if !self.joined(a, b) => {}
             0x05..=0x07 => self.command(byte, &[a, b]),
-            0x08 if self.spans.is_empty() => {}
+            0x08 | 0x0E if self.spans.is_empty() => {}
             0x08 => self.command(byte, &[random.below(self.spans.len())]),
+            0x0E => self.command(byte, &[self.some_span(random)]),
             0x0C => self.ask_routes(random, a),
             _ => self.command(byte, &[a]),
         }
     }
 
     /// A command or question whose operands may be unknown, equal, in two districts or rings, an
-    /// exchange already, or duct 0.
+    /// exchange already, or duct 0; a span may be that behind the last.
     fn any(&mut self, random: &mut Random) {
         if random.chance(20) && !self.exchanges.is_empty() {
             return self.command(0x09, &[*random.pick(&self.exchanges)]);
@@ -184,6 +221,9 @@ impl Writer {
             operands[2] = 0;
         }
         let byte = if random.chance(20) { 0x0B } else { random.pick(&COMMANDS[1..]).0 };
+        if matches!(byte, 0x08 | 0x0D | 0x0E) {
+            operands[0] = random.below(self.spans.len() + 2);
+        }
         self.command(byte, &operands[..operand_count(byte)]);
     }
 
@@ -213,6 +253,7 @@ impl Writer {
         }
         for span in 0..self.spans.len() {
             self.command(0x08, &[span]);
+            self.command(0x0E, &[span]);
         }
         self.exchange_questions();
     }
@@ -228,12 +269,17 @@ fn layout(random: &mut Random) -> (&'static str, Layout) {
     (name, layout)
 }
 
-/// A journal of one of the styles, with marks and questions between, and the style's name.
+/// A journal of one of the styles, with marks, records and questions between, and the style's name.
 pub fn styled(random: &mut Random) -> (&'static str, Writer) {
     let (name, layout) = layout(random);
     let late = random.chance(50);
     let marks = *random.pick(&[0, 5, 15, 50]);
+    let records = *random.pick(&[0, 0, 10, 50, 150]);
+    let days = *random.pick(&DAYS);
     let questions = *random.pick(&[0, 0, 10, 50, 150]);
+    let often = |random: &mut Random, percent: usize| {
+        percent / 100 + usize::from(random.chance(percent % 100))
+    };
     let mut writer = Writer::new();
     if random.chance(10) {
         writer.command(0x0F, &[]);
@@ -246,8 +292,8 @@ pub fn styled(random: &mut Random) -> (&'static str, Writer) {
         if random.chance(marks) {
             writer.mark(random.below(writer.cabinets));
         }
-        let count = questions / 100 + usize::from(random.chance(questions % 100));
-        (0..count).for_each(|_| writer.question(random));
+        (0..often(random, records)).for_each(|_| writer.record_any(random, days));
+        (0..often(random, questions)).for_each(|_| writer.question(random));
     }
     while writer.cabinets < layout.cabinets {
         writer.cabinet();
@@ -373,7 +419,7 @@ pub fn every_list(cabinets: usize, spans: usize, each: &mut dyn FnMut(Case)) {
 pub fn every_list_in_ducts(cabinets: usize, spans: usize, each: &mut dyn FnMut(Case)) {
     let mut number = 0;
     layouts::every_list_in_ducts(&layouts::both_directions(cabinets), 2, spans, &mut |spans| {
-        each(with_exchange(number, Layout { cabinets, spans }));
+        each(with_record(number, Layout { cabinets, spans }));
         number += 1;
     });
 }
@@ -382,7 +428,7 @@ pub fn every_list_in_ducts(cabinets: usize, spans: usize, each: &mut dyn FnMut(C
 pub fn every_list_by_turns(cabinets: usize, spans: usize, each: &mut dyn FnMut(Case)) {
     let mut number = 0;
     layouts::every_list_by_turns(cabinets, 2, spans, &mut |spans| {
-        each(with_exchange(number, Layout { cabinets, spans }));
+        each(with_record(number, Layout { cabinets, spans }));
         number += 1;
     });
 }
@@ -392,22 +438,31 @@ pub fn every_list_with_mates(cabinets: usize, spans: usize, each: &mut dyn FnMut
     let mut number = 0;
     layouts::every_list_by_turns(cabinets, 1, spans, &mut |spans| {
         if has_mates(&spans) {
-            each(with_exchange(number, Layout { cabinets, spans }));
+            each(with_record(number, Layout { cabinets, spans }));
             number += 1;
         }
     });
 }
 
-fn has_mates(spans: &[Span]) -> bool {
+/// Has some span a mate?
+pub fn has_mates(spans: &[Span]) -> bool {
     let mates = |i: usize| spans[..i].iter().any(|&span| of_one_duct(span, spans[i]));
     (0..spans.len()).any(mates)
 }
 
-/// A layout of which one cabinet is an exchange, followed by every question.
-fn with_exchange(number: usize, layout: Layout) -> Case {
+/// A layout of which one cabinet is an exchange, and one span or none has a record, which is entered
+/// behind it and before the next span; followed by every question.
+fn with_record(number: usize, layout: Layout) -> Case {
     let (cabinets, count) = (layout.cabinets, layout.spans.len());
+    let (day, metres) = (number % 3, METRES[number % METRES.len()]);
     let mut writer = Writer::new();
-    writer.enter_marked(&layout, &[number % cabinets]);
+    writer.enter_marked(&Layout::of(cabinets), &[number % cabinets]);
+    for (number_of_span, &span) in layout.spans.iter().enumerate() {
+        writer.add(span);
+        if number_of_span == number % (count + 1) {
+            writer.record(Record { span: number_of_span, day, metres });
+        }
+    }
     writer.sweep();
     let label = format!("every list of {count} spans in ducts, number {number}");
     Case::new(&label, cabinets as u32, count.max(1) as u32, writer.bytes).returns(0)
@@ -472,27 +527,32 @@ pub fn small(seed: u64) -> Case {
     let mut layout = random_spans(&mut random, cabinets, count);
     let (percent, ducts) = (*random.pick(&[0, 50, 100]), *random.pick(&DUCTS));
     layout.lay(&mut random, percent, ducts);
+    let days = *random.pick(&DAYS);
     let mut writer = Writer::new();
     for &span in &layout.spans {
         writer.add_with_cabinets(span);
         if random.chance(30) {
             writer.mark(random.below(writer.cabinets));
         }
+        (0..random.below(3)).for_each(|_| writer.record_any(&mut random, days));
         (0..random.below(3)).for_each(|_| writer.question(&mut random));
     }
     if random.chance(20) {
-        writer.command(0x08, &[writer.spans.len()]);
+        let byte = *random.pick(&[0x08, 0x0D, 0x0E]);
+        let unknown = writer.spans.len();
+        writer.command(byte, &[unknown, 1, 1][..operand_count(byte)]);
     }
     let label = format!("small, seed {seed}");
     Case::new(&label, cabinets as u32, count.max(1) as u32, writer.bytes)
 }
 
-/// Networks of the greatest size, each with some exchanges, and with questions at the end.
+/// Networks of the greatest size, each with some exchanges, and with records and questions at the end.
 pub fn large(seed: u64, layout: &Layout) -> Vec<u8> {
     let mut random = Random::new(seed);
     let mut writer = Writer::new();
     let marked = [(); 20].map(|_| random.below(layout.cabinets));
     writer.enter_marked(layout, &marked);
+    (0..200).for_each(|_| writer.record_any(&mut random, &[0, 1, 2]));
     while writer.bytes.len() < 60_000 {
         writer.question(&mut random);
     }

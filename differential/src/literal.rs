@@ -1,9 +1,10 @@
-//! The definitions of document 01, with the exchanges, the ducts and the routes of document 02's
-//! requests 2, 3 and 5, word for word, for small networks: every loss is tried, every simple cycle and
-//! every route is searched for. Slow on purpose.
+//! The definitions of document 01, with the exchanges, the ducts, the routes and the survey lengths of
+//! document 02's requests 2, 3, 5 and 6, word for word, for small networks: every loss is tried, every
+//! simple cycle and every route is searched for, every two records are compared. Slow on purpose.
 
 use crate::pairs::Pair;
 use crate::second::groups::Network;
+use crate::second::surveys::Record;
 use crate::spans::Span;
 
 /// Which spans are mates.
@@ -256,6 +257,21 @@ pub fn pairs(plant: Plant, a: usize, b: usize) -> Vec<Pair> {
         apart.map(|other| [one.clone(), other.clone()]).collect::<Vec<Pair>>()
     };
     routes.iter().flat_map(beside).collect()
+}
+
+/// The length of a span by these records, in their order of entry: the metres of the record that holds;
+/// none while no record exists. A record holds if every other one of its span is of an earlier day, or
+/// of the same day and entered after it.
+pub fn length(records: &[Record], span: usize) -> Option<usize> {
+    let entered = || records.iter().enumerate().filter(|(_, record)| record.span == span);
+    let gives_way = |(j, other): (usize, &Record), (i, record): (usize, &Record)| {
+        other.day < record.day || (other.day == record.day && j >= i)
+    };
+    let mut holding = entered().filter(|&one| entered().all(|other| gives_way(other, one)));
+    let length = holding.next().map(|(_, record)| record.metres);
+    assert!(holding.next().is_none(), "one record holds");
+    assert_eq!(length.is_none(), entered().next().is_none(), "one holds where there is any");
+    length
 }
 
 /// The names after a span, of the items numbered from 0: `without` and `with` say whether two

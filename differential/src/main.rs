@@ -12,7 +12,8 @@ use differential::incremental::Incremental;
 use differential::second::routes::OTHER_CHOICES;
 use differential::second::Second;
 use differential::{
-    ducts, exchanges, faults, forecasts, histories, journals, program, refusals, routes,
+    ducts, exchanges, faults, forecasts, histories, journals, program, records, refusals, routes,
+    surveys,
 };
 use std::process::ExitCode;
 use std::time::{Duration, Instant};
@@ -117,6 +118,7 @@ impl Test {
         self.cases(&exchanges::known(), seed);
         self.cases(&ducts::known(), seed);
         self.cases(&routes::known(), seed);
+        self.cases(&surveys::known(), seed);
         self.cases(&refusals::all(), seed);
         self.cases(&refusals::empty_buffers(), seed);
         self.cases(&forecasts::known(), seed);
@@ -130,11 +132,13 @@ impl Test {
         for (cabinets, spans) in [(2, 2), (2, 3), (2, 4), (3, 3), (3, 4), (4, 3)] {
             journals::every_two_routes(cabinets, spans, &mut |case| self.given(&case, seed));
         }
+        self.every_record(seed);
         self.every_room(seed, SMALL_JOURNALS);
         self.random(seed, RANDOM_JOURNALS);
         self.cases(&histories::largest(), seed);
         self.cases(&ducts::chain_of_mates(), seed);
         self.cases(&routes::long_ladder(), seed);
+        self.given(&surveys::all_spans(), seed);
         self.every_number();
     }
 
@@ -163,6 +167,23 @@ impl Test {
         journals::every_list_with_mates(4, 5, &mut |case| self.given(&case, seed));
     }
 
+    /// Every list of a few records, every arrangement of some, and every choice of them between spans in
+    /// ducts.
+    fn every_record(&mut self, seed: u64) {
+        for (spans, most) in [(1, 5), (2, 4)] {
+            for count in 1..=most {
+                records::every_list(spans, count, &mut |case| self.given(&case, seed));
+            }
+        }
+        records::every_arrangement(&mut |case| self.given(&case, seed));
+        for (cabinets, ducts, spans) in
+            [(2, 2, 2), (2, 2, 3), (2, 2, 4), (2, 2, 5), (3, 2, 3), (3, 1, 4), (4, 1, 3)]
+        {
+            let each = &mut |case| self.given(&case, seed);
+            records::every_choice_in_ducts(cabinets, ducts, spans, each);
+        }
+    }
+
     fn soak(&mut self, seed: u64, time: Duration) {
         let start = Instant::now();
         let mut next = seed;
@@ -176,13 +197,15 @@ impl Test {
     }
 
     /// Every number that the table knows must have been returned by some run, and every one that
-    /// the forecast knows by some forecast, with runs in the room forecast unless it is 3.
+    /// the forecast knows by some forecast, with runs in the room forecast unless it is 3. 0E must have
+    /// been answered without a length and with one.
     fn every_number(&mut self) {
-        let Tally { returned, forecast, exact, .. } = &self.tally;
+        let Tally { returned, forecast, exact, lengths, .. } = &self.tally;
         let runs = (0..=14).map(|number| ("run", number, returned[number]));
         let forecasts = [0, 3, 4, 5].map(|number| ("forecast", number, forecast[number]));
         let exact = [0, 4, 5].map(|number| ("run in the room forecast", number, exact[number]));
-        let mut all = runs.chain(forecasts).chain(exact);
+        let lengths = [0, 1].map(|flag| ("answer 8E", flag, lengths[flag]));
+        let mut all = runs.chain(forecasts).chain(exact).chain(lengths);
         if let Some((what, number, _)) = all.find(|&(_, _, count)| count == 0) {
             self.fault.get_or_insert(format!("no {what} for number {number}"));
         }
@@ -192,15 +215,19 @@ impl Test {
         if let Some(fault) = &self.fault {
             return Err(fault.clone());
         }
-        let Tally { journals, returned, commands, notices, pairs, forecast, exact } = self.tally;
+        let Tally { journals, returned, commands, notices, pairs, lengths, forecast, exact } =
+            self.tally;
         Ok(format!(
             "{} equals second, every byte: {journals} journals ({} accepted to the end, refused by \
              1 to 14: {:?}), {commands} commands, {notices} notices; {pairs} pairs of routes, all \
-             of which serve; {} forecasts ({} accepted, refused by 3 to 5: {:?}), {} runs with \
-             exactly the room forecast, {} of them of damaged journals",
+             of which serve; {} lengths of spans told, and {} times that there is none; {} \
+             forecasts ({} accepted, refused by 3 to 5: {:?}), {} runs with exactly the room \
+             forecast, {} of them of damaged journals",
             self.engine.name(),
             returned[0],
             &returned[1..],
+            lengths[1],
+            lengths[0],
             forecast.iter().sum::<usize>(),
             forecast[0],
             &forecast[3..],
@@ -230,7 +257,7 @@ fn null_pointers(_: u64) -> Result<String, String> {
 /// fault, and must be accepted.
 fn seeded_bugs(seed: u64) -> Result<String, String> {
     let mut found = 0;
-    let known = [ducts::known(), routes::known(), refusals::all()].concat();
+    let known = [ducts::known(), routes::known(), surveys::known(), refusals::all()].concat();
     let runs = faults::engines().into_iter().map(|named| (", second ", named));
     let forecasts = faults::forecasts().into_iter().map(|named| ("the forecast is", named));
     for (said, (name, engine)) in runs.chain(forecasts) {
@@ -270,9 +297,30 @@ fn seeded_bugs(seed: u64) -> Result<String, String> {
         found_in(&known, said, &format!("{fault:?} in both"), test, seed)?;
         found += 1;
     }
+    for fault in faults::IN_SURVEYS {
+        let test = || in_both(|| Second::with_mismeasure(fault));
+        found_in(&surveys::known(), KNOWN, &format!("{fault:?} in both"), test(), seed)?;
+        found += 1;
+        if let Some(said) = faults::said_of_surveys(fault) {
+            found_by(said, &format!("{fault:?} in both"), test(), seed)?;
+            found += 1;
+        }
+    }
+    for (fault, said) in faults::IN_ROUTES_BY_RECORDS {
+        let test = || Test::new(Box::new(Second::with_mismeasure(fault)));
+        found_in(&surveys::known(), said, &format!("{fault:?}"), test(), seed)?;
+        found_by(said, &format!("{fault:?}"), test(), seed)?;
+        found += 2;
+    }
     for (name, misforecast) in faults::TOO_SMALL {
         let mut test = in_both(|| Second::with_misforecast(misforecast));
-        let known = [histories::marked(), exchanges::known(), ducts::known(), routes::known()];
+        let known = [
+            histories::marked(),
+            exchanges::known(),
+            ducts::known(),
+            routes::known(),
+            surveys::known(),
+        ];
         test.cases(&known.concat(), seed);
         found_by("bytes of room that are forecast", &format!("{name} in both"), test, seed)?;
         found += 1;

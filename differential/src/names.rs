@@ -1,9 +1,10 @@
 //! The planner's name list, fed the answers as bytes, and the whole of demand 3 checked beside a
-//! run of the second implementation; the answers about exchanges, those about sole spans and the
-//! routes, against what the planner knows.
+//! run of the second implementation; the answers about exchanges, those about sole spans, the routes
+//! and the survey lengths, against what the planner knows.
 
 mod marks;
 mod mates;
+mod surveys;
 
 use crate::kinds::{ByKind, Kind, KINDS};
 use crate::pairs::Pair;
@@ -12,6 +13,7 @@ use crate::second::command::Command;
 use crate::second::Accepted;
 use marks::Marks;
 use mates::Mates;
+use surveys::Lengths;
 
 /// A name for each cabinet (districts, rings) and for each span (meshes).
 #[derive(Default, PartialEq, Eq, Debug)]
@@ -42,6 +44,12 @@ pub enum Answer {
     /// The byte is 1 if the ring holds an exchange.
     Fed(u8),
     Routes(Pair),
+    Recorded,
+    /// The byte is 1 if there is a length.
+    Length {
+        flag: u8,
+        metres: usize,
+    },
     /// In thousandths.
     Share(usize),
     Other,
@@ -78,6 +86,8 @@ pub fn decode(bytes: &[u8]) -> Option<(Answer, usize)> {
             let length = 5 + 2 * (one.len() + other.len());
             Some((Answer::Routes([one, other]), length))
         }
+        0x8D => Some((Answer::Recorded, 1)),
+        0x8E => Some((Answer::Length { flag: *bytes.get(1)?, metres: field(2)? }, 4)),
         0x8F => Some((Answer::Share(field(1)?), 3)),
         _ => None,
     }
@@ -98,6 +108,8 @@ fn answering(command: Command) -> u8 {
         Command::Mark(_) => 0x89,
         Command::IsFed(_) => 0x8A,
         Command::Routes(..) => 0x8C,
+        Command::Record(_) => 0x8D,
+        Command::Length(_) => 0x8E,
         Command::Share => 0x8F,
     }
 }
@@ -142,10 +154,12 @@ fn append(names: &mut Vec<usize>, number: usize, name: usize) -> Result<(), Stri
     Ok(())
 }
 
-/// What a planner has read: commands answered, notices, and bytes.
+/// What a planner has read: commands answered, notices, answers 8E without a length and with one, and
+/// bytes.
 pub struct Read {
     pub commands: usize,
     pub notices: usize,
+    pub lengths: [usize; 2],
     pub bytes: usize,
 }
 
@@ -156,6 +170,7 @@ pub struct Planner<'a> {
     list: NameList,
     marks: Marks,
     mates: Mates,
+    lengths: Lengths,
     sent: ByKind<usize>,
     commands: usize,
     fault: Option<String>,
@@ -169,14 +184,15 @@ impl<'a> Planner<'a> {
             list: NameList::default(),
             marks: Marks::default(),
             mates: Mates::default(),
+            lengths: Lengths::default(),
             sent: ByKind::default(),
             commands: 0,
             fault: None,
         }
     }
 
-    /// Reads the answer to one more accepted command and checks demand 3, the exchanges, the mates and
-    /// the routes up to here.
+    /// Reads the answer to one more accepted command and checks demand 3, the exchanges, the mates, the
+    /// routes and the survey lengths up to here.
     pub fn watch(&mut self, accepted: &Accepted) {
         if self.fault.is_some() {
             return;
@@ -187,13 +203,15 @@ impl<'a> Planner<'a> {
         }
     }
 
-    /// What was read, or what demand 3, the exchanges, the mates or the routes do not bear.
+    /// What was read, or what demand 3, the exchanges, the mates, the routes or the survey lengths do not
+    /// bear.
     pub fn result(self) -> Result<Read, String> {
         if let Some(fault) = self.fault {
             return Err(fault);
         }
         let notices = KINDS.iter().map(|&kind| self.sent[kind]).sum();
-        Ok(Read { commands: self.commands, notices, bytes: self.read })
+        let lengths = self.lengths.told;
+        Ok(Read { commands: self.commands, notices, lengths, bytes: self.read })
     }
 
     fn check(&mut self, accepted: &Accepted) -> Result<(), String> {
@@ -212,7 +230,8 @@ impl<'a> Planner<'a> {
         }
         self.check_counts(accepted.after)?;
         self.marks.check(accepted.command, &answer, &self.list.names.ring)?;
-        self.mates.check(accepted.command, &answer, &self.list.names)
+        self.mates.check(accepted.command, &answer, &self.list.names)?;
+        self.lengths.check(accepted.command, &answer, self.list.names.mesh.len())
     }
 
     /// Each notice moves its item into a group at least twice the size of the one it left.

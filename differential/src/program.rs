@@ -11,6 +11,7 @@ use crate::second::command::Capacities;
 use crate::second::routes::Asked;
 use crate::second::Second;
 use crate::spans::Span;
+use crate::surveys;
 use std::fs::File;
 use std::io::Write;
 use std::process::{Command, Output, Stdio};
@@ -112,7 +113,8 @@ pub fn drive(path: &str, seed: u64) -> Result<usize, String> {
 }
 
 fn inputs(seed: u64) -> Vec<Vec<u8>> {
-    let known = [marked(), exchanges::known(), ducts::known(), routes::known()].concat();
+    let known =
+        [marked(), exchanges::known(), ducts::known(), routes::known(), surveys::known()].concat();
     let mut inputs: Vec<Vec<u8>> = known.into_iter().map(|case: Case| case.journal).collect();
     inputs.extend((seed..seed + 300).map(|seed| random_case(seed).journal));
     inputs.extend([CABINETS, CABINETS + 1].map(|count| vec![0x01; count]));

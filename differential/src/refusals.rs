@@ -2,7 +2,7 @@
 
 use crate::cases::{one_of, unhex, Case, OneOf, Room};
 use crate::engine::{work_needed, LONGEST_JOURNAL};
-use crate::journals::{unknown_bytes, Writer, COMMANDS};
+use crate::journals::{operand_count, unknown_bytes, Writer, COMMANDS};
 
 /// All of them.
 pub fn all() -> Vec<Case> {
@@ -95,6 +95,21 @@ const MATES: Beginning = Beginning {
 
 /// The same with a cabinet and a span to spare.
 const MATES_TO_SPARE: Beginning = Beginning { c: 4, s: 3, ..MATES };
+
+/// Two cabinets and two mates in duct 5. Span 0 has a record of 250 metres on day 3 and one of 7 metres on
+/// day 2; span 1 has none. C and S are full.
+const SURVEYED: Beginning = Beginning {
+    c: 2,
+    s: 2,
+    journal: "01 01 0B 0000 0001 0005 0D 0000 0003 00FA 0B 0001 0000 0005 0D 0000 0002 0007",
+    answers: "81 0000 81 0001 82 0000 0000 0001 01 0001 0000 8D 82 0001 0000 0000 8D",
+    commands: 6,
+    cabinets: 2,
+    spans: 2,
+};
+
+/// The same with a cabinet and spans to spare.
+const SURVEYED_TO_SPARE: Beginning = Beginning { c: 3, s: 8, ..SURVEYED };
 
 /// Three cabinets in a chain.
 const CHAIN: Beginning = Beginning {
@@ -220,6 +235,7 @@ fn cut_off() -> Vec<Case> {
                 cases.push(SMALL.stopped("cut off", &bytes, 5));
                 cases.push(MARKED.stopped("cut off behind exchanges", &bytes, 5));
                 cases.push(MATES.stopped("cut off behind mates", &bytes, 5));
+                cases.push(SURVEYED.stopped("cut off behind records", &bytes, 5));
             }
         }
     }
@@ -262,13 +278,29 @@ fn unknown_cabinets() -> Vec<Case> {
     cases
 }
 
+/// 7 comes before 11, and goes by the spans that are there: not by the capacities, nor by the cabinets.
+/// Neither days nor metres have a part in it.
 fn unknown_spans() -> Vec<Case> {
-    let mut cases = vec![
-        NOTHING.stopped_at("no span at all", 8, &[0], 7),
-        ONE_CABINET.stopped_at("a cabinet is no span", 8, &[0], 7),
-    ];
-    for unknown in [1, 2, 255, 256, 8192, 0xFFFF] {
-        cases.push(SMALL.stopped_at("span unknown", 8, &[unknown], 7));
+    let mut cases = Vec::new();
+    for (byte, day, metres) in
+        [(0x08, 0, 0), (0x0E, 0, 0), (0x0D, 0, 0), (0x0D, 3, 250), (0x0D, 0xFFFF, 0xFFFF)]
+    {
+        let stopped = |beginning: &Beginning, label, span| {
+            let operands = [span, day, metres];
+            beginning.stopped_at(label, byte, &operands[..operand_count(byte)], 7)
+        };
+        cases.push(stopped(&NOTHING, "no span at all", 0));
+        cases.push(stopped(&ONE_CABINET, "a cabinet is no span", 0));
+        for unknown in [1, 2, 255, 256, 8192, 0xFFFF] {
+            cases.push(stopped(&SMALL, "span unknown", unknown));
+            cases.push(stopped(&SMALL_TO_SPARE, "span unknown, one to spare", unknown));
+        }
+        for unknown in [2, 3, 7, 256, 0xFFFF] {
+            cases.push(stopped(&SURVEYED, "span unknown, with records", unknown));
+            cases.push(stopped(&SURVEYED_TO_SPARE, "span unknown, to spare", unknown));
+            cases.push(stopped(&SURVEYED_TO_SPARE, "span unknown", unknown).with_more(1));
+            cases.push(stopped(&SURVEYED_TO_SPARE, "span unknown", unknown).with_more(100));
+        }
     }
     cases
 }
@@ -388,7 +420,7 @@ fn no_shared_ring() -> Vec<Case> {
 /// A beginning, a command behind it, and its answer, or one of several.
 type Answered = (Beginning, u8, &'static [usize], &'static str);
 
-const ANSWERED: [Answered; 31] = [
+const ANSWERED: [Answered; 44] = [
     (SMALL_TO_SPARE, 0x01, &[], "81 0003"),
     (SMALL_TO_SPARE, 0x02, &[0, 2], "82 0001 0001 0001 01 0002 0000"),
     (SMALL_TO_SPARE, 0x02, &[0, 1], "82 0001 0000 0001 02 0001 0000"),
@@ -420,6 +452,19 @@ const ANSWERED: [Answered; 31] = [
     (MARKED, 0x0C, &[1, 0], "8C 0001 0000 0001 0001 | 8C 0001 0001 0001 0000"),
     (MARKED_TO_SPARE, 0x0C, &[0, 1], "8C 0001 0000 0001 0001 | 8C 0001 0001 0001 0000"),
     (MARKED_TO_SPARE, 0x0C, &[1, 0], "8C 0001 0000 0001 0001 | 8C 0001 0001 0001 0000"),
+    (SMALL, 0x0D, &[0, 0, 0], "8D"),
+    (SMALL, 0x0E, &[0], "8E 00 0000"),
+    (SMALL_TO_SPARE, 0x0D, &[0, 0xFFFF, 0xFFFF], "8D"),
+    (SMALL_TO_SPARE, 0x0E, &[0], "8E 00 0000"),
+    (SURVEYED, 0x0D, &[0, 3, 9], "8D"),
+    (SURVEYED, 0x0D, &[0, 1, 9], "8D"),
+    (SURVEYED, 0x0D, &[1, 3, 9], "8D"),
+    (SURVEYED, 0x0E, &[0], "8E 01 00FA"),
+    (SURVEYED, 0x0E, &[1], "8E 00 0000"),
+    (SURVEYED_TO_SPARE, 0x0E, &[0], "8E 01 00FA"),
+    (SURVEYED_TO_SPARE, 0x0B, &[0, 1, 5], "82 0002 0000 0000"),
+    (SURVEYED_TO_SPARE, 0x06, &[0, 1], "86 0001 0000"),
+    (SURVEYED_TO_SPARE, 0x08, &[1], "88 01"),
 ];
 
 /// Each command with every room that is too small for its answer, and with just enough.

@@ -86,7 +86,7 @@ const SECOND_TRIANGLE: Line = (
      82 0005 0003 0003 02 0003 0000 02 0004 0000 03 0004 0003",
 );
 
-const KNOWN: [Known; 25] = [
+const KNOWN: [Known; 24] = [
     (
         "two parallel spans of two ducts",
         &[
@@ -334,7 +334,6 @@ const KNOWN: [Known; 25] = [
     ),
     ("cut off", &[TWO_CABINETS, ("0C 0000 00", "")], [5, 2, 2, 6, 2, 0]),
     ("8C is no command", &[TWO_CABINETS, ("8C 0000 0001", "")], [4, 2, 2, 6, 2, 0]),
-    ("0D is none yet", &[TWO_CABINETS, ("0D 0000 0001 0001", "")], [4, 2, 2, 6, 2, 0]),
 ];
 
 /// All of them, each with room to the byte and, where a byte is needed, with one byte less.

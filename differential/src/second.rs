@@ -1,7 +1,8 @@
-//! A second implementation of document 01 and of document 02's requests 1, 2, 3 and 5, to compare
+//! A second implementation of document 01 and of document 02's requests 1, 2, 3, 5 and 6, to compare
 //! others with. After each command everything is computed anew from the list of spans; nothing is
-//! kept but the naming book and the list of exchanges. Which pair of routes 0C is answered with is not
-//! settled: a run takes the pairs from whoever asks for it, or makes its own choice.
+//! kept but the naming book, the list of exchanges and the list of survey records. Which pair of routes
+//! 0C is answered with is not settled: a run takes the pairs from whoever asks for it, or makes its own
+//! choice.
 
 pub mod book;
 pub mod command;
@@ -10,6 +11,7 @@ pub mod forecast;
 pub mod groups;
 pub mod mates;
 pub mod routes;
+pub mod surveys;
 
 use crate::engine::{Call, Engine, Forecast, REPORT_NUMBERS};
 use crate::pairs::Pair;
@@ -20,6 +22,7 @@ use forecast::forecast;
 use mates::Misduct;
 use routes::{Asked, Choice, Misroute};
 use std::rc::Rc;
+use surveys::{Mismeasure, Surveys};
 
 #[derive(Default)]
 pub struct Second {
@@ -28,6 +31,7 @@ pub struct Second {
     misduct: Option<Misduct>,
     choice: Choice,
     misroute: Option<Misroute>,
+    mismeasure: Option<Mismeasure>,
     misforecast: Option<Misforecast>,
 }
 
@@ -37,25 +41,42 @@ pub type Misforecast = fn(&[u8], Forecast) -> Forecast;
 /// Gives the pair that a 0C is answered with.
 pub type Choose<'a> = dyn FnMut(&Asked) -> Pair + 'a;
 
-/// The state of a run: the naming book, and the exchanges beside it.
+/// The state of a run: the naming book, and the exchanges and the survey records beside it.
+#[derive(Clone)]
 pub struct State {
     pub book: Rc<Book>,
     pub exchanges: Exchanges,
+    pub surveys: Surveys,
 }
 
 impl State {
     /// The state after a command that no line before 11 refuses; none if it is as it was.
     fn after(&self, command: Command) -> Option<State> {
-        let State { book, exchanges } = self;
+        let right = self.rightly_after(command);
+        match self.surveys.spoiled_by(command) {
+            Some(surveys) => Some(State { surveys, ..right.unwrap_or_else(|| self.clone()) }),
+            None => right,
+        }
+    }
+
+    /// The same where no fault is put into what other commands make of the survey records.
+    fn rightly_after(&self, command: Command) -> Option<State> {
+        let State { book, exchanges, surveys } = self;
         match command {
             Command::AddCabinet => {
-                Some(State { book: Rc::new(book.with_cabinet()), exchanges: exchanges.clone() })
+                Some(State { book: Rc::new(book.with_cabinet()), ..self.clone() })
             }
-            Command::Mark(a) => Some(State { book: book.clone(), exchanges: exchanges.with(a) }),
+            Command::Mark(a) => Some(State { exchanges: exchanges.with(a), ..self.clone() }),
+            Command::Record(record) => Some(State {
+                book: surveys.book_after(book, record),
+                exchanges: exchanges.clone(),
+                surveys: surveys.with(&book.network, record),
+            }),
             _ => command.span().map(|span| {
                 let after = Rc::new(book.with_span(span));
                 let exchanges = exchanges.after_span(&book.names.ring, &after.names.ring);
-                State { book: after, exchanges }
+                let surveys = surveys.after_span(book, &after);
+                State { book: after, exchanges, surveys }
             }),
         }
     }
@@ -111,6 +132,11 @@ impl Second {
         Second { misroute: Some(misroute), ..Second::default() }
     }
 
+    /// The same with a fault in the survey lengths.
+    pub fn with_mismeasure(mismeasure: Mismeasure) -> Second {
+        Second { mismeasure: Some(mismeasure), ..Second::default() }
+    }
+
     /// The same with a fault in the forecast.
     pub fn with_misforecast(misforecast: Misforecast) -> Second {
         Second { misforecast: Some(misforecast), ..Second::default() }
@@ -118,7 +144,8 @@ impl Second {
 
     /// Its own choice of a pair.
     pub fn own_pair(&self, asked: &Asked) -> Pair {
-        let right = self.choice.pair(asked.network, asked.a, asked.b).unwrap_or_default();
+        let network = asked.surveys.network_of_routes(asked.network);
+        let right = self.choice.pair(&network, asked.a, asked.b).unwrap_or_default();
         match self.misroute {
             Some(fault) => fault.pair(asked, right),
             None => right,
@@ -137,6 +164,7 @@ impl Second {
         let mut state = State {
             book: Rc::new(Book::empty(self.fault, self.misduct)),
             exchanges: Exchanges::none(self.misfeed),
+            surveys: Surveys::none(self.mismeasure),
         };
         let mut run = Run::default();
         while run.place < journal.len() {
@@ -193,17 +221,22 @@ impl Second {
     ) -> Result<Taken, u32> {
         let (command, length) = read(front.bytes)?;
         let right = refusal(command, state, capacities);
-        let refused = self.misroute.map_or(right, |f| f.refusal(command, &state.book, right));
+        let right = self.misroute.map_or(right, |f| f.refusal(command, &state.book, right));
+        let refused =
+            self.mismeasure.map_or(right, |f| f.refusal(command, state, capacities, right));
         if let Some(number) = refused {
             return Err(number);
         }
         let next = state.after(command);
-        let network = &state.book.network;
+        let (network, surveys) = (&state.book.network, &state.surveys);
         let Front { written, left, .. } = front;
-        let mut pair = |a, b| choose(&Asked { network, a, b, written, left });
+        let mut pair = |a, b| choose(&Asked { network, surveys, a, b, written, left });
         let mut answer = answer(command, state, next.as_ref().unwrap_or(state), &mut pair);
         if let Some(fault) = self.misroute {
             fault.spoil(&mut answer);
+        }
+        if let Some(fault) = self.mismeasure {
+            fault.spoil(command, &mut answer);
         }
         if answer.len() > left {
             return Err(11);

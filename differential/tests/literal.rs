@@ -5,12 +5,14 @@ use differential::layouts::{self, DUCTS};
 use differential::literal::{self, Plant};
 use differential::pairs::{serve, Pair};
 use differential::random::Random;
+use differential::records::arrangements;
 use differential::second::book::Book;
 use differential::second::exchanges::{counts, Exchanges};
 use differential::second::groups::{
     cut_cabinets, groups, is_sole, route, shared_mesh, sole_spans, Network,
 };
 use differential::second::routes::{Choice, OTHER_CHOICES};
+use differential::second::surveys::{Record, Surveys};
 use differential::spans::Span;
 
 fn check_groups(network: &Network) {
@@ -328,4 +330,67 @@ fn some_networks(count: usize, seed: u64, each: &mut dyn FnMut(&Network)) {
 fn random_networks() {
     some_networks(4000, 1, &mut check);
     some_networks(4000, 2, &mut check_reduced);
+}
+
+/// The length of each of three spans by these records.
+fn check_lengths(records: &[Record]) {
+    let surveys = Surveys::of(records);
+    for span in 0..3 {
+        let length = literal::length(records, span);
+        assert_eq!(surveys.length(span), length, "{records:?} {span}");
+    }
+}
+
+/// Every list of up to five records of two spans out of three, on one of three days each, every record
+/// with other metres.
+#[test]
+fn every_list_of_records() {
+    let choices = [[0, 0], [0, 1], [0, 2], [2, 0], [2, 1], [2, 2]];
+    for count in 0..=5 {
+        layouts::every_list(&choices, count, &mut |list| {
+            let measured = list.into_iter().zip([4, 0, 65_535, 2, 256]);
+            let records: Vec<Record> =
+                measured.map(|([span, day], metres)| Record { span, day, metres }).collect();
+            check_lengths(&records);
+        });
+    }
+}
+
+/// Records of different days give the same length however they are arranged: that of the latest day.
+#[test]
+fn every_arrangement_of_records() {
+    let days = [0, 1, 255, 256, 32_767, 32_768, 65_535];
+    for (count, &latest) in days.iter().enumerate() {
+        let record = |&day: &usize| Record { span: 1, day, metres: (7 * day + 3) % 65_536 };
+        let records: Vec<Record> = days[..=count].iter().map(record).collect();
+        arrangements(&records, &mut |arranged| {
+            check_lengths(arranged);
+            let length = literal::length(arranged, 1);
+            assert_eq!(length, Some(record(&latest).metres), "{arranged:?}");
+        });
+    }
+}
+
+/// However the records of a span are put in among those of others, its length is that by its own records
+/// in their order; and of the records of one day only the first has a part in it.
+#[test]
+fn random_records() {
+    let mut random = Random::new(3);
+    for _ in 0..20_000 {
+        let days = random.between(1, 4);
+        let mut records = Vec::new();
+        for _ in 0..random.below(12) {
+            let [span, day, metres] = [random.below(3), random.below(days), random.below(9)];
+            records.push(Record { span, day, metres });
+        }
+        check_lengths(&records);
+        for span in 0..3 {
+            let mut own: Vec<Record> = records.clone();
+            own.retain(|record| record.span == span);
+            assert_eq!(literal::length(&own, span), literal::length(&records, span), "{records:?}");
+            let is_first = |i: &usize| own[..*i].iter().all(|record| record.day != own[*i].day);
+            let firsts: Vec<Record> = (0..own.len()).filter(is_first).map(|i| own[i]).collect();
+            assert_eq!(literal::length(&firsts, span), literal::length(&own, span), "{records:?}");
+        }
+    }
 }

@@ -1,5 +1,5 @@
--- States that are alike: their networks are, and names and marks are the same. Every command is refused in both alike, and answered alike
--- under a choice that gives networks alike the same routes.
+-- States that are alike: their networks are, names and marks are the same, and for each span the same record of its length holds. Every
+-- command is refused in both alike, and answered alike under a choice that gives networks alike the same routes.
 use mathlib.Core.Bool.{true, not, _&&_, _||_}
 use mathlib.Core.Option.{Option, none, some}
 use mathlib.Core.Path.{_≡_, refl, _∙_, ap, ap₂, fun-ext}
@@ -14,13 +14,14 @@ use Rattle.graph.proofs.Truth.{and-left, ltb-lt}
 use Rattle.graph.proofs.Alike.{Alike, component-alike, bridge-alike, bridge-block-alike, shared-block-alike, bridges-between-alike, cuts-between-alike}
 use Rattle.naming.specs.Rename.{nameOf}
 use Rattle.naming.specs.Book.{Book, Addition, vertex, edge, neither, feed}
+use Rattle.naming.specs.Survey.{holding}
 use Rattle.naming.specs.State.{State}
 use Rattle.naming.proofs.AlikeBooks.{AlikeBooks}
 use Rattle.commands.specs.Field.{Field, cabinet, span, name, number, byte}
-use Rattle.commands.specs.Command.{Command, addCabinet, addSpan, districtName, ringName, sharedMesh, soleSpans, cutCabinets, isSole, markExchange, holdsExchange, addDuctSpan, routesBetween, exchangeShare}
+use Rattle.commands.specs.Command.{Command, addCabinet, addSpan, districtName, ringName, sharedMesh, soleSpans, cutCabinets, isSole, markExchange, holdsExchange, addDuctSpan, routesBetween, recordLength, spanLength, exchangeShare}
 use Rattle.commands.specs.Answer.{plain, districtNamed, ringNamed, soleSpansAre, cutCabinetsAre, soleIs, exchangeHeld, shareIs, cabinetAdded, notices}
 use Rattle.commands.specs.Exchange.{ringHoldsExchange, withExchange, thousandths, shareWithExchange}
-use Rattle.commands.specs.Facts.{Demand, differ, noExchange, someDuct, shareDistrict, shareRing, Facts, addsCabinet, addsSpan, addsNothing, facts, asks, meshAnswer, routesAnswer, operandsOf, demandsOf, additionOf, addition, spanAnswer, answerTo, answer}
+use Rattle.commands.specs.Facts.{Demand, differ, noExchange, someDuct, shareDistrict, shareRing, Facts, addsCabinet, addsSpan, addsNothing, facts, asks, meshAnswer, routesAnswer, lengthAnswer, operandsOf, demandsOf, additionOf, addition, spanAnswer, answerTo, answer}
 use Rattle.commands.specs.Refusal.{Refusal, equalCabinets, alreadyExchange, noDuct, twoDistricts, noSharedRing, refusalNumber, Capacities, cabinetKnown, spanKnown, cabinetsKnown, spansKnown, met, cause, meets, fullFor, isFull, lines, refusalOf}
 use Rattle.commands.proofs.Causes.{not-refused-exactly}
 
@@ -28,10 +29,11 @@ use Rattle.commands.proofs.Causes.{not-refused-exactly}
 abbrev pub SameRoutes : Choice → Type 0
 SameRoutes choice = (g h : Network) → Alike g h → (a b : ℕ) → choice h a b ≡ choice g a b
 
--- Two states with the same names and marks, over networks that are alike.
+-- Two states with the same names, marks and records that hold, over networks that are alike.
 pub record AlikeStates (s s′ : State) : Type 0 where
   pub books : AlikeBooks (s .book) (s′ .book)
   pub same-marks : (x : ℕ) → s′ .marked x ≡ s .marked x
+  pub same-records : (x : ℕ) → holding (s′ .surveys) x ≡ holding (s .surveys) x
 
 module _ {s s′ : State} (a : AlikeStates s s′) (rule : MateRule (s .book .network .rule)) (rule′ : MateRule (s′ .book .network .rule)) where
   abbrev networks : Alike (s .book .network) (s′ .book .network)
@@ -145,6 +147,8 @@ module _ {s s′ : State} (a : AlikeStates s s′) (rule : MateRule (s .book .ne
     question-alike proper (holdsExchange x) known = ap exchangeHeld (ring-holds-alike x)
     question-alike proper (addDuctSpan x y d) known = tt
     question-alike proper (routesBetween x y) known = ap routesAnswer (same-routes _ _ networks x y)
+    question-alike proper (recordLength x day metres) known = refl
+    question-alike proper (spanLength x) known = ap lengthAnswer (a .same-records x)
     question-alike proper exchangeShare known = ap shareIs share-alike
 
     -- so a command that is not refused is answered in one state as it is in the other, where the books after it are alike

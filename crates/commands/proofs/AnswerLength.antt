@@ -11,12 +11,13 @@ use Rattle.graph.specs.Block.{sharedBlock}
 use Rattle.graph.specs.Between.{bridgesBetween, cutsBetween}
 use Rattle.graph.specs.Route.{Choice, Serves}
 use Rattle.graph.proofs.Lengths.{few-bridges-between, few-cuts-between}
+use Rattle.naming.specs.Survey.{Survey, holding}
 use Rattle.naming.specs.State.{State}
 use Rattle.commands.specs.Bytes.{twoBytes}
 use Rattle.commands.specs.Field.{cabinet, span, fieldBytes, fieldsBytes}
-use Rattle.commands.specs.Command.{Command, addCabinet, addSpan, districtName, ringName, sharedMesh, soleSpans, cutCabinets, isSole, markExchange, holdsExchange, addDuctSpan, routesBetween, exchangeShare}
+use Rattle.commands.specs.Command.{Command, addCabinet, addSpan, districtName, ringName, sharedMesh, soleSpans, cutCabinets, isSole, markExchange, holdsExchange, addDuctSpan, routesBetween, recordLength, spanLength, exchangeShare}
 use Rattle.commands.specs.Answer.{Notice, spanAdded, plain, routesAre, plainFields, answerFields, answerBytes}
-use Rattle.commands.specs.Facts.{Facts, addsCabinet, addsSpan, addsNothing, asks, meshAnswer, routesAnswer, facts, spanAnswer, answerTo, answer}
+use Rattle.commands.specs.Facts.{Facts, addsCabinet, addsSpan, addsNothing, asks, meshAnswer, routesAnswer, lengthAnswer, facts, spanAnswer, answerTo, answer}
 use Rattle.commands.specs.Refusal.{Capacities, refusalOf}
 use Rattle.commands.specs.WholeRun.{noticesIn}
 use Rattle.commands.proofs.Bytes.{cabinets-in-two-bytes, spans-in-two-bytes, bytes-then-counted, length-two-bytes-each}
@@ -48,6 +49,12 @@ routes-length ss ts =
       length-two-bytes-each span spans-in-two-bytes ss,
       length-two-bytes-each span spans-in-two-bytes ts,
     ))
+
+-- 8E: the metres, or none
+told-length : (o : Option Survey) → length (answerBytes (plain (lengthAnswer o))) ≤ 4
+unfolding lengthAnswer answerBytes answerFields plainFields fieldsBytes fieldBytes twoBytes
+told-length none = omega arith
+told-length (some r) = omega arith
 
 -- A state with at most c cabinets and s spans.
 module _ (state : State) (c s : ℕ) (few-cabinets : state .book .network .vertices ≤ c) (few-spans : edgeCount (state .book .network) ≤ s) where
@@ -88,6 +95,8 @@ module _ (state : State) (c s : ℕ) (few-cabinets : state .book .network .verti
           routes-length (found .first) (found .second),
           given-served choice (state .book .network) (sound .laws .proper) serves x y (routes-asked caps state x y n) .short,
         )
+    plain-no-longer (recordLength x day metres) n = omega arith
+    plain-no-longer (spanLength x) n = omega (arith, told-length (holding (state .surveys) x))
     plain-no-longer exchangeShare n = omega arith
 
     -- no answer is longer than is said of it, but for its notices

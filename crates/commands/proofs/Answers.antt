@@ -1,5 +1,5 @@
--- Demand 2 of the answers, and what those about exchanges and routes say, at every point of every run; and that the two routes which the
--- answer buffer holds on return for a 0C serve.
+-- Demand 2 of the answers, and what those about exchanges, routes and lengths say, at every point of every run; and that the two routes which
+-- the answer buffer holds on return for a 0C serve.
 use mathlib.Core.Bool.{true}
 use mathlib.Core.List.{List, [], _∷_}
 use mathlib.Core.Option.{none, some}
@@ -12,6 +12,7 @@ use Rattle.graph.specs.Network.{Rule, MateRule}
 use Rattle.graph.specs.Route.{Choice, Serves, serve}
 use Rattle.naming.specs.Book.{emptyBook}
 use Rattle.naming.specs.State.{State, emptyState}
+use Rattle.commands.specs.Bytes.{allBytes}
 use Rattle.commands.specs.Command.{Command, routesBetween}
 use Rattle.commands.specs.Answer.{plain, routesAre}
 use Rattle.commands.specs.Refusal.{Capacities, refusalOf}
@@ -39,12 +40,12 @@ module _ (rule : Rule) (r : MateRule rule) (choice : Choice) (serves : Serves ru
       (unfold emptyState emptyBook in (subst (λ own. Serves own choice) (sym (rule-after-commands (emptyState rule) _)) serves))
 
   -- and the answers that the buffer holds are those: answer i is to command i from the state after the commands before it
-  pub answer-in-buffer : (i : ℕ) (c : Command) → getElem? (accepted rule choice caps journal lent) i ≡ some c
+  pub answer-in-buffer : allBytes journal ≡ true → (i : ℕ) (c : Command) → getElem? (accepted rule choice caps journal lent) i ≡ some c
       → getElem? (decodeFirst (length (accepted rule choice caps journal lent)) (answerBuffer rule choice caps journal lent)) i
       ≡ some (answer choice (stateAfter (emptyState rule) (take i (accepted rule choice caps journal lent))) c)
-  answer-in-buffer i c e =
+  answer-in-buffer are i c e =
       let cs = accepted rule choice caps journal lent in
-      rw (read-back rule choice caps journal lent r serves (length cs) (le-refl _), take-length cs) (answer-at choice (emptyState rule) cs i c e)
+      rw (read-back rule choice caps journal lent r serves are (length cs) (le-refl _), take-length cs) (answer-at choice (emptyState rule) cs i c e)
 
 -- of commands none of which is refused, each is not refused in the state after those before it
 not-refused-at : (caps : Capacities) (s : State) (cs : List Command) → NoneRefused caps s cs
@@ -69,13 +70,14 @@ RoutesServe rule commands buffer = (i a b : ℕ) → getElem? commands i ≡ som
 
 -- whichever routes a run is given, those that the answer buffer holds on return serve
 pub routes-in-buffer-serve : (rule : Rule) → MateRule rule → (choice : Choice) → Serves rule choice
-    → (caps : Capacities) (journal : List ℕ) (lent : Buffers)
+    → (caps : Capacities) (journal : List ℕ) → allBytes journal ≡ true
+    → (lent : Buffers)
     → RoutesServe
     rule
     (acceptedCommands (wholeRun rule choice caps journal (length (lent .work)) (length (lent .answers)) (length (lent .report))))
     (entryUnder rule choice caps journal lent .buffers .answers)
 unfolding routesAnswer
-routes-in-buffer-serve rule r choice serves caps journal lent i a b e =
+routes-in-buffer-serve rule r choice serves caps journal are lent i a b e =
     let commands = accepted rule choice caps journal lent in
     let s = stateAfter (emptyState rule) (take i commands) in
     let tell = run-answers-tell rule r choice serves caps journal lent i in
@@ -84,12 +86,13 @@ routes-in-buffer-serve rule r choice serves caps journal lent i a b e =
     record {
       first = choice (s .book .network) a b .first;
       second = choice (s .book .network) a b .second;
-      answer-is = answer-in-buffer rule r choice serves caps journal lent i (routesBetween a b) e ∙ ap some (tell .routes a b);
+      answer-is = answer-in-buffer rule r choice serves caps journal lent are i (routesBetween a b) e ∙ ap some (tell .routes a b);
       they-serve = rw (← book-after-commands rule (take i commands)) (tell .routes-serve a b asked _ _ (tell .routes a b));
     }
 
 -- so do those that the register gives
-pub register-routes-serve : (caps : Capacities) (journal : List ℕ) (lent : Buffers)
+pub register-routes-serve : (caps : Capacities) (journal : List ℕ) → allBytes journal ≡ true
+    → (lent : Buffers)
     → RoutesServe
     registerRule
     (acceptedCommands (wholeRun registerRule registerRoutes caps journal (length (lent .work)) (length (lent .answers)) (length (lent .report))))

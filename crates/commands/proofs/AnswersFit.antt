@@ -1,4 +1,5 @@
--- Every answer of an accepted command fits its bytes: within the capacities, every number in it is below 65,536.
+-- Every answer of an accepted command fits its bytes: every number in it is below 65,536, within the capacities, and where the numbers in
+-- the commands are.
 use mathlib.Core.Bool.{Bool, true, _&&_}
 use mathlib.Core.List.{List, [], _∷_, map}
 use mathlib.Core.Option.{Option, none, some}
@@ -21,16 +22,19 @@ use Rattle.graph.proofs.BridgesBetween.{bridges-between-exactly}
 use Rattle.graph.proofs.Lengths.{few-bridges-between, few-cuts-between}
 use Rattle.naming.specs.Rename.{nameOf}
 use Rattle.naming.specs.Book.{Book, edge, enterEdge, feed}
+use Rattle.naming.specs.Survey.{Survey, holding}
 use Rattle.naming.specs.State.{State, afterAddition, afterRecording}
 use Rattle.commands.specs.Field.{Kind, district, ring, mesh, Field, cabinet, span}
-use Rattle.commands.specs.Command.{Command, addCabinet, addSpan, districtName, ringName, sharedMesh, soleSpans, cutCabinets, isSole, markExchange, holdsExchange, addDuctSpan, routesBetween, exchangeShare}
+use Rattle.commands.specs.Command.{Command, addCabinet, addSpan, districtName, ringName, sharedMesh, soleSpans, cutCabinets, isSole, markExchange, holdsExchange, addDuctSpan, routesBetween, recordLength, spanLength, exchangeShare}
 use Rattle.commands.specs.Answer.{Notice, noticeFields, noticesFields, notices, plain, plainFields, answerFields}
-use Rattle.commands.specs.Facts.{Facts, addsCabinet, addsSpan, addsNothing, asks, meshAnswer, routesAnswer, facts, operandsOf, additionOf, addition, after, spanAnswer, answerTo, answer}
+use Rattle.commands.specs.Facts.{Facts, addsCabinet, addsSpan, addsNothing, asks, meshAnswer, routesAnswer, lengthAnswer, facts, operandsOf, additionOf, addition, after, spanAnswer, answerTo, answer}
 use Rattle.commands.specs.Refusal.{Capacities, cabinetKnown, cabinetsKnown, refusalOf}
 use Rattle.commands.specs.Run.{Accepted}
 use Rattle.commands.specs.WholeRun.{EachNotice, itemsOf}
 use Rattle.commands.proofs.Exchange.{share-at-most}
 use Rattle.commands.proofs.Bytes.{Small, FieldsFit, InTwoBytes, cabinets-in-two-bytes, spans-in-two-bytes, items-in-two-bytes, both-fit}
+use Rattle.commands.proofs.Spelled.{AllSpelled}
+use Rattle.commands.proofs.Surveys.{MetresFit, metres-fit-after}
 use Rattle.commands.proofs.Decode.{NoticeFits, Fits, AllFit}
 use Rattle.commands.proofs.Causes.{not-refused-exactly}
 use Rattle.commands.proofs.Start.{InRange}
@@ -119,6 +123,12 @@ module _ (choice : Choice) (caps : Capacities) (range : InRange caps) where
     mesh-fits x y none e = (tt, (tt, (omega arith, tt)))
     mesh-fits x y (some t) e = (tt, (tt, (small-name s sound mesh t (shared-block-some (s .book .network) x y t e .known), tt)))
 
+    -- the metres of the record that holds
+    length-fits : MetresFit (s .surveys) → (x : ℕ) (o : Option Survey) → holding (s .surveys) x ≡ o → Fits (plain (lengthAnswer o))
+    unfolding answerFields plainFields lengthAnswer
+    length-fits fit x none e = (tt, (tt, (omega arith, tt)))
+    length-fits fit x (some r) e = (tt, (tt, (fit x r e, tt)))
+
     -- a list of items of a kind fits
     items-fit : (f : ℕ → Field) → InTwoBytes f → (kind : Kind) (l : List ℕ) (p : ℕ → Bool)
         → ((x : ℕ) → isIn x l ≡ (ltb x (itemsOf kind (s .book .network)) && p x))
@@ -140,15 +150,15 @@ module _ (choice : Choice) (caps : Capacities) (range : InRange caps) where
     PlainFits (addsSpan e operands demands) = Unit
     PlainFits (addsNothing q) = Fits (plain (q .told choice s))
 
-    plain-fits : Serves (s .book .network .rule) choice → (c : Command) → refusalOf caps s c ≡ none → cabinetsKnown s c ≡ true
+    plain-fits : Serves (s .book .network .rule) choice → MetresFit (s .surveys) → (c : Command) → refusalOf caps s c ≡ none → cabinetsKnown s c ≡ true
         → PlainFits (facts c)
     unfolding facts asks routesAnswer answerFields plainFields cabinetsKnown operandsOf allIn cabinetKnown namesIn itemsOf
-    plain-fits serves addCabinet n known = tt
-    plain-fits serves (addSpan x y) n known = tt
-    plain-fits serves (districtName x) n known = (tt, (small-name s sound district x (ltb-lt _ _ (and-left _ true known)), tt))
-    plain-fits serves (ringName x) n known = (tt, (small-name s sound ring x (ltb-lt _ _ (and-left _ true known)), tt))
-    plain-fits serves (sharedMesh x y) n known = mesh-fits x y (sharedBlock (s .book .network) x y) refl
-    plain-fits serves (soleSpans x y) n known = (
+    plain-fits serves fit addCabinet n known = tt
+    plain-fits serves fit (addSpan x y) n known = tt
+    plain-fits serves fit (districtName x) n known = (tt, (small-name s sound district x (ltb-lt _ _ (and-left _ true known)), tt))
+    plain-fits serves fit (ringName x) n known = (tt, (small-name s sound ring x (ltb-lt _ _ (and-left _ true known)), tt))
+    plain-fits serves fit (sharedMesh x y) n known = mesh-fits x y (sharedBlock (s .book .network) x y) refl
+    plain-fits serves fit (soleSpans x y) n known = (
       tt,
       (
         omega (arith, few-bridges-between (s .book .network) x y, few-items s sound mesh),
@@ -156,7 +166,7 @@ module _ (choice : Choice) (caps : Capacities) (range : InRange caps) where
             (bridges-between-exactly (s .book .network) x y),
       ),
     )
-    plain-fits serves (cutCabinets x y) n known = (
+    plain-fits serves fit (cutCabinets x y) n known = (
       tt,
       (
         omega (arith, few-cuts-between (s .book .network) x y, few-items s sound district),
@@ -164,11 +174,11 @@ module _ (choice : Choice) (caps : Capacities) (range : InRange caps) where
             (cuts-between-exactly (s .book .network) x y),
       ),
     )
-    plain-fits serves (isSole x) n known = (tt, (tt, tt))
-    plain-fits serves (markExchange x) n known = (tt, tt)
-    plain-fits serves (holdsExchange x) n known = (tt, (tt, tt))
-    plain-fits serves (addDuctSpan x y d) n known = tt
-    plain-fits serves (routesBetween x y) n known =
+    plain-fits serves fit (isSole x) n known = (tt, (tt, tt))
+    plain-fits serves fit (markExchange x) n known = (tt, tt)
+    plain-fits serves fit (holdsExchange x) n known = (tt, (tt, tt))
+    plain-fits serves fit (addDuctSpan x y d) n known = tt
+    plain-fits serves fit (routesBetween x y) n known =
         let g = s .book .network in
         let given = choice g x y in
         let they = given-served choice g (sound .laws .proper) serves x y (routes-asked caps s x y n) in (
@@ -184,12 +194,14 @@ module _ (choice : Choice) (caps : Capacities) (range : InRange caps) where
             ),
           ),
         )
-    plain-fits serves exchangeShare n known = (tt, (omega (arith, share-at-most s), tt))
+    plain-fits serves fit (recordLength x day metres) n known = (tt, tt)
+    plain-fits serves fit (spanLength x) n known = length-fits fit x (holding (s .surveys) x) refl
+    plain-fits serves fit exchangeShare n known = (tt, (omega (arith, share-at-most s), tt))
 
     -- every number in the answer fits
-    pub answer-fits : Serves (s .book .network .rule) choice → (c : Command) → refusalOf caps s c ≡ none → Fits (answer choice s c)
+    pub answer-fits : Serves (s .book .network .rule) choice → MetresFit (s .surveys) → (c : Command) → refusalOf caps s c ≡ none → Fits (answer choice s c)
     unfolding answer answerTo additionOf
-    answer-fits serves c n = go (facts c) refl
+    answer-fits serves fit c n = go (facts c) refl
       where
         go : (f : Facts) → facts c ≡ f → Fits (answerTo choice s f)
         go addsCabinet q = unfold answerFields itemsOf in (tt, (omega (arith, few-items s sound district), tt))
@@ -198,18 +210,22 @@ module _ (choice : Choice) (caps : Capacities) (range : InRange caps) where
             (λ f. Fits (spanAnswer (s .book) (feed (s .book) (additionOf f))))
             q
             (unfold after afterAddition afterRecording addition in span-fits c e (ap additionOf q) n)
-        go (addsNothing question) q = subst PlainFits q (plain-fits serves c n (not-refused-exactly caps s c .0 n .cabinets-known))
+        go (addsNothing question) q = subst PlainFits q (plain-fits serves fit c n (not-refused-exactly caps s c .0 n .cabinets-known))
 
   -- so it is with every answer of a run
-  pub all-answers-fit : (s : State) (l : List Accepted) → Sound caps s → Serves (s .book .network .rule) choice → Answered choice caps s l
+  pub all-answers-fit : (s : State) (l : List Accepted) → Sound caps s → Serves (s .book .network .rule) choice → MetresFit (s .surveys)
+      → AllSpelled (map (λ a. a .command) l)
+      → Answered choice caps s l
       → AllFit l
-  all-answers-fit s [] sound serves w = tt
-  all-answers-fit s (a ∷ later) sound serves w = (
-    rw (w .1) (answer-fits s sound serves (a .command) (w .0)),
+  all-answers-fit s [] sound serves fit read w = tt
+  all-answers-fit s (a ∷ later) sound serves fit read w = (
+    rw (w .1) (answer-fits s sound serves fit (a .command) (w .0)),
     all-answers-fit
         (after s (a .command))
         later
         (sound-after caps s (a .command) sound (w .0))
         (serves-after choice s (a .command) serves)
+        (metres-fit-after s (a .command) fit (read .0))
+        (read .1)
         (w .2),
   )

@@ -1,7 +1,7 @@
--- Demand 2 of the answers, and what those about exchanges and routes say: what each answer says of the network, in every state whose book
+-- Demand 2 of the answers, and what those about exchanges, routes and lengths say: what each answer says of the network, in every state whose book
 -- keeps the laws of naming, under a choice of routes that serves.
 use mathlib.Core.Bool.{true, false}
-use mathlib.Core.List.{List}
+use mathlib.Core.List.{List, []}
 use mathlib.Core.Logic.{_↔_}
 use mathlib.Core.Option.{Option, none, some}
 use mathlib.Core.Path.{_≡_, refl, sym, _∙_, ap, subst₂}
@@ -16,12 +16,14 @@ use Rattle.graph.proofs.Truth.{false-of-not, not-both}
 use Rattle.graph.proofs.SharedBlock.{shared-block-some, shared-block-none, shared-block-found, shared-block-is}
 use Rattle.naming.specs.Rename.{nameOf}
 use Rattle.naming.specs.Book.{Book}
+use Rattle.naming.specs.Survey.{Survey, surveysOf, holding, Latest}
 use Rattle.naming.specs.State.{State}
 use Rattle.naming.proofs.Book.{BookLaws}
-use Rattle.commands.specs.Command.{districtName, ringName, sharedMesh, soleSpans, cutCabinets, isSole, holdsExchange, routesBetween, exchangeShare}
-use Rattle.commands.specs.Answer.{Plain, plain, districtNamed, ringNamed, meshShared, noMeshShared, soleSpansAre, cutCabinetsAre, soleIs, exchangeHeld, routesAre, shareIs}
+use Rattle.naming.proofs.Surveys.{holding-exactly, exactly-holding, holding-none, none-holding}
+use Rattle.commands.specs.Command.{districtName, ringName, sharedMesh, soleSpans, cutCabinets, isSole, holdsExchange, routesBetween, spanLength, exchangeShare}
+use Rattle.commands.specs.Answer.{Plain, plain, districtNamed, ringNamed, meshShared, noMeshShared, soleSpansAre, cutCabinetsAre, soleIs, exchangeHeld, routesAre, lengthIs, noLength, shareIs}
 use Rattle.commands.specs.Exchange.{ringHoldsExchange, withExchange, thousandths, shareWithExchange}
-use Rattle.commands.specs.Facts.{asks, meshAnswer, routesAnswer, facts, answerTo, answer}
+use Rattle.commands.specs.Facts.{asks, meshAnswer, routesAnswer, lengthAnswer, facts, answerTo, answer}
 use Rattle.commands.proofs.Cases.{impossible}
 use Rattle.commands.proofs.Exchange.{ExchangeWith, holds-exchange-exactly, rounded-down}
 use Rattle.commands.proofs.Routes.{InOneRing, given-served}
@@ -32,7 +34,7 @@ pub record OfSharedBlock (g : Network) (x y s : ℕ) : Type 0 where
   pub at-first : onBlock g s x ≡ true
   pub at-second : onBlock g s y ≡ true
 
--- What the answers to queries say of the state's network and its exchanges.
+-- What the answers to queries say of the state's network, its exchanges and its surveys.
 pub record AnswersTell (choice : Choice) (s : State) : Type 0 where
   -- two 03 answers agree exactly if the cabinets share a component
   pub districts : (x y : ℕ) → x < s .book .network .vertices → y < s .book .network .vertices
@@ -63,6 +65,11 @@ pub record AnswersTell (choice : Choice) (s : State) : Type 0 where
   pub routes-serve : (x y : ℕ) → InOneRing (s .book .network) x y → (first second : List ℕ)
       → answer choice s (routesBetween x y) ≡ plain (routesAre first second)
       → serve (s .book .network) x y (record { first = first; second = second }) ≡ true
+  -- the 0E answer has byte 1 and so many metres exactly if these are the metres of the span's record of the latest day, the first of that day
+  pub span-length : (x metres : ℕ)
+      → (answer choice s (spanLength x) ≡ plain (lengthIs metres)) ↔ ((r : Survey) × Latest (surveysOf x (s .surveys)) r × (r .metres ≡ metres))
+  -- it has byte 0 exactly while the span has no record
+  pub no-length : (x : ℕ) → (answer choice s (spanLength x) ≡ plain noLength) ↔ (surveysOf x (s .surveys) ≡ [])
   -- the 0F answer is the greatest number of thousandths of all cabinets that is within those whose ring holds an exchange
   pub share : (m : ℕ) → 0 < s .book .network .vertices → answer choice s exchangeShare ≡ plain (shareIs m)
       → (m * s .book .network .vertices ≤ 1000 * withExchange s) × (1000 * withExchange s < suc m * s .book .network .vertices)
@@ -107,9 +114,22 @@ module _ (b : Book) (laws : BookLaws b) (x y : ℕ) where
       go none e = (λ q t o. not-both (o .at-second) (shared-block-none (b .network) x y e t (o .at-first)), λ f. refl)
       go (some t) e = (λ q. impossible (cc), λ f. absurd (f t (found-shared (b .network) x y t e)))
 
+-- the metres that 0E tells are those of the record that holds
+told-of : (records : List Survey) (x metres : ℕ) (o : Option Survey) → holding records x ≡ o → lengthAnswer o ≡ lengthIs metres
+    → (r : Survey) × Latest (surveysOf x records) r × (r .metres ≡ metres)
+unfolding lengthAnswer
+told-of records x metres none e q = impossible (cc)
+told-of records x metres (some r) e q = (r, holding-exactly records x r e, cc)
+
+-- where it tells none, the span has no record
+not-told-of : (records : List Survey) (x : ℕ) (o : Option Survey) → holding records x ≡ o → lengthAnswer o ≡ noLength → surveysOf x records ≡ []
+unfolding lengthAnswer
+not-told-of records x none e q = holding-none records x e
+not-told-of records x (some r) e q = impossible (cc)
+
 -- so it is in every state whose book keeps the laws of naming, under every choice that serves
 pub answers-tell : (choice : Choice) (s : State) → BookLaws (s .book) → Serves (s .book .network .rule) choice → AnswersTell choice s
-unfolding answer answerTo facts asks routesAnswer told shareWithExchange thousandths
+unfolding answer answerTo facts asks routesAnswer lengthAnswer told shareWithExchange thousandths
 answers-tell choice s laws serves =
     record {
       districts = λ x y h k. (
@@ -146,6 +166,14 @@ answers-tell choice s laws serves =
           let same-second : choice (s .book .network) x y .second ≡ second = cc in
           subst₂ (λ f g. serve (s .book .network) x y (record { first = f; second = g }) ≡ true) same-first same-second
           (given-served choice (s .book .network) (laws .proper) serves x y asked .they-serve);
+      span-length = λ x metres. (
+        λ q. told-of (s .surveys) x metres (holding (s .surveys) x) refl (cc),
+        λ m. ap (λ o. plain (lengthAnswer o)) (exactly-holding (s .surveys) x (m .0) (m .1)) ∙ ap (λ n. plain (lengthIs n)) (m .2),
+      );
+      no-length = λ x. (
+        λ q. not-told-of (s .surveys) x (holding (s .surveys) x) refl (cc),
+        λ none. ap (λ o. plain (lengthAnswer o)) (none-holding (s .surveys) x none),
+      );
       share = λ m some q.
           let is : thousandths (withExchange s) (s .book .network .vertices) ≡ m = cc in
           rw is at (rounded-down (withExchange s) (s .book .network .vertices) some);

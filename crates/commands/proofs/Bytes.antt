@@ -1,15 +1,16 @@
 -- Numbers and fields as bytes: two bytes give back the number they stand for, every byte is below 256, and the bytes of fields.
-use mathlib.Core.Bool.{Bool, true}
+use mathlib.Core.Bool.{true}
 use mathlib.Core.List.{List, [], _∷_, _++_, map, map-append, append-assoc}
 use mathlib.Core.Logic.{_↔_}
 use mathlib.Core.Path.{_≡_, refl, sym, _∙_, ap, ap₂}
-use Prim.Native.Nat.{ℕ, _*_, _/_, _%_, _<_}
+use Prim.Native.Nat.{ℕ, zero, suc, _*_, _/_, _%_, _<_}
 use native.Mathlib.Omega.{arith}
 use lib.Dec.{ltb}
-use lib.ListN.{length}
+use lib.ListN.{length, getD}
 use Rattle.graph.specs.Lists.{allIn}
-use Rattle.graph.proofs.Truth.{and-left, and-right, ltb-lt}
-use Rattle.commands.specs.Bytes.{number as numberOfBytes, twoBytes}
+use Rattle.graph.proofs.Members.{all-in-behind}
+use Rattle.graph.proofs.Truth.{and-left, and-right, and-both, ltb-lt, lt-ltb}
+use Rattle.commands.specs.Bytes.{number as numberOfBytes, twoBytes, allBytes}
 use Rattle.commands.specs.Field.{Kind, district, ring, mesh, Field, cabinet, span, name, number, byte, fieldBytes, fieldsBytes}
 use Rattle.commands.specs.Answer.{itemField}
 
@@ -28,10 +29,6 @@ pub two-bytes-of-number : (high low : ℕ) → high < 256 → low < 256 → twoB
 unfolding numberOfBytes twoBytes
 two-bytes-of-number high low h l = ap₂ (λ (x y : ℕ). x ∷ y ∷ []) (omega arith) (omega arith)
 
--- every number of the list is a byte: it is below 256
-pub allBytes : List ℕ → Bool
-allBytes = allIn (λ b. ltb b 256)
-
 -- the first of them is one
 pub first-is-byte : (x : ℕ) (xs : List ℕ) → allBytes (x ∷ xs) ≡ true → x < 256
 unfolding allBytes allIn
@@ -39,9 +36,21 @@ first-is-byte x xs p = ltb-lt x 256 (and-left (ltb x 256) (allBytes xs) p)
 
 -- and those behind are
 pub all-bytes-behind : (xs ys : List ℕ) → allBytes (xs ++ ys) ≡ true → allBytes ys ≡ true
+unfolding allBytes
+all-bytes-behind xs ys p = all-in-behind (λ b. ltb b 256) xs ys p
+
+-- and so is that at every place, beyond the last 0
+pub byte-at : (l : List ℕ) → allBytes l ≡ true → (i : ℕ) → getD l i 0 < 256
 unfolding allBytes allIn
-all-bytes-behind [] ys p = p
-all-bytes-behind (x ∷ xs) ys p = all-bytes-behind xs ys (and-right (ltb x 256) (allBytes (xs ++ ys)) p)
+byte-at [] p i = omega arith
+byte-at (x ∷ xs) p zero = first-is-byte x xs p
+byte-at (x ∷ xs) p (suc i) = byte-at xs (and-right (ltb x 256) (allBytes xs) p) i
+
+-- numbers that are bytes at every place are bytes
+pub bytes-by-place : (l : List ℕ) → ((i : ℕ) → i < length l → getD l i 0 < 256) → allBytes l ≡ true
+unfolding allBytes allIn
+bytes-by-place [] f = refl
+bytes-by-place (x ∷ xs) f = and-both (lt-ltb x 256 (f 0 (omega arith))) (bytes-by-place xs (λ i h. f (suc i) (omega (arith, h))))
 
 -- the number fits into two bytes
 abbrev pub Small : ℕ → Type 0

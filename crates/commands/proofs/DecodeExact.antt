@@ -7,13 +7,13 @@ use mathlib.Core.Path.{_≡_, refl, sym, _∙_, ap, subst, subst₂}
 use Prim.Native.Nat.{ℕ, zero, suc, _+_, _-_, _≤_, _<_}
 use native.Mathlib.Omega.{arith}
 use lib.ListN.{length, getD}
-use Rattle.commands.specs.Bytes.{number, twoBytes}
+use Rattle.commands.specs.Bytes.{allBytes, number, twoBytes}
 use Rattle.commands.specs.Field.{Kind, district, ring, mesh, Field, cabinet, span, fieldBytes, fieldsBytes}
-use Rattle.commands.specs.Answer.{kindByte, boolByte, Notice, noticeFields, noticesFields, Plain, Answer, cabinetAdded, spanAdded, plain, districtNamed, ringNamed, meshShared, noMeshShared, soleSpansAre, cutCabinetsAre, soleIs, exchangeMarked, exchangeHeld, routesAre, shareIs, plainFields, answerFields, answerBytes}
+use Rattle.commands.specs.Answer.{kindByte, boolByte, Notice, noticeFields, noticesFields, Plain, Answer, cabinetAdded, spanAdded, plain, districtNamed, ringNamed, meshShared, noMeshShared, soleSpansAre, cutCabinetsAre, soleIs, exchangeMarked, exchangeHeld, routesAre, lengthRecorded, lengthIs, noLength, shareIs, plainFields, answerFields, answerBytes}
 use Rattle.commands.specs.Decode.{Decoded, malformed, decoded, Then, byteThen, fieldThen, fieldsThen, kindOf, kindThen, noticeThen, noticesThen, flagThen, noughtThen, bodies, decodeBody, decode}
 use Rattle.commands.proofs.Cases.{le-or-gt, impossible}
 use Rattle.commands.proofs.ByPlace.{each-at, _also_}
-use Rattle.commands.proofs.Bytes.{allBytes, all-bytes-behind, first-is-byte, number-below, number-of-two-bytes, two-bytes-of-number, Small, FieldsFit, InTwoBytes, cabinets-in-two-bytes, spans-in-two-bytes, items-in-two-bytes, both-fit, bytes-of-first, bytes-then-counted}
+use Rattle.commands.proofs.Bytes.{all-bytes-behind, first-is-byte, number-below, number-of-two-bytes, two-bytes-of-number, Small, FieldsFit, InTwoBytes, cabinets-in-two-bytes, spans-in-two-bytes, items-in-two-bytes, both-fit, bytes-of-first, bytes-then-counted}
 use Rattle.commands.proofs.NoticeBytes.{notice-bytes, bytes-of-first-notice}
 use Rattle.commands.proofs.Decode.{NoticeFits, Fits, decode-answer}
 
@@ -192,14 +192,20 @@ module _ (all : List ℕ) where
   abbrev BodySpelled : ℕ → (List ℕ → Decoded) → Type 0
   BodySpelled i d = (more : List ℕ) → Read all ((0x80 + i) ∷ []) more → Spelled (d more)
 
-  shared : BodySpelled 5 (flagThen (fieldThen (λ name. decoded (plain (meshShared name)))) (noughtThen (decoded (plain noMeshShared))))
-  unfolding answerBytes answerFields plainFields fieldsBytes fieldBytes twoBytes
-  shared more r =
-      then-flag all Spelled bad _ _ (0x85 ∷ []) more r
+  -- an answer with a number, or with 0 where there is none
+  one-or-none : (byte : ℕ) (f : ℕ → Plain) (none′ : Plain) → ((n : ℕ) → byte ∷ 1 ∷ twoBytes n ≡ answerBytes (plain (f n)))
+      → byte ∷ 0 ∷ twoBytes 0 ≡ answerBytes (plain none′)
+      → ((n : ℕ) → Small n → Fits (plain (f n)))
+      → Fits (plain none′)
+      → (more : List ℕ) → Read all (byte ∷ []) more → Spelled (flagThen (fieldThen (λ n. decoded (plain (f n)))) (noughtThen (decoded (plain none′))) more)
+  unfolding twoBytes
+  one-or-none byte f none′ are none-is fit none-fits more r =
+      then-flag all Spelled bad _ _ (byte ∷ []) more r
       (λ rest r₁.
-      then-field all Spelled bad (λ name. decoded (plain (meshShared name))) (0x85 ∷ 1 ∷ []) rest r₁
-      (λ name rest₁ s r₂. spelled (plain (meshShared name)) rest₁ r₂ (tt, (tt, (s, tt)))))
-      (λ rest r₁. then-nought all Spelled bad (decoded (plain noMeshShared)) (0x85 ∷ 0 ∷ []) rest r₁ (λ rest₁ r₂. spelled (plain noMeshShared) rest₁ r₂ (tt, (tt, (omega arith, tt)))))
+      then-field all Spelled bad (λ n. decoded (plain (f n))) (byte ∷ 1 ∷ []) rest r₁
+      (λ n rest₁ s r₂. spelled (plain (f n)) rest₁ (rw (are n) at r₂) (fit n s)))
+      (λ rest r₁.
+      then-nought all Spelled bad (decoded (plain none′)) (byte ∷ 0 ∷ []) rest r₁ (λ rest₁ r₂. spelled (plain none′) rest₁ (rw none-is at r₂) none-fits))
 
   routes : BodySpelled
       0x0C
@@ -243,7 +249,7 @@ module _ (all : List ℕ) where
       also added
       also one-field 0x83 (λ n. plain (districtNamed n)) (λ n. refl) (λ n s. (tt, (s, tt)))
       also one-field 0x84 (λ n. plain (ringNamed n)) (λ n. refl) (λ n s. (tt, (s, tt)))
-      also shared
+      also one-or-none 0x85 meshShared noMeshShared (λ n. refl) refl (λ n s. (tt, (tt, (s, tt)))) (tt, (tt, (omega arith, tt)))
       also counted 0x86 span spans-in-two-bytes (λ ns. plain (soleSpansAre ns)) (λ ns. refl) (λ ns s f. (tt, (s, f)))
       also counted 0x87 cabinet cabinets-in-two-bytes (λ ns. plain (cutCabinetsAre ns)) (λ ns. refl) (λ ns s f. (tt, (s, f)))
       also yes-or-no 0x88 soleIs (λ b. refl) (λ b. (tt, (tt, tt)))
@@ -251,8 +257,8 @@ module _ (all : List ℕ) where
       also yes-or-no 0x8A exchangeHeld (λ b. refl) (λ b. (tt, (tt, tt)))
       also (λ more r. bad)
       also routes
-      also (λ more r. bad)
-      also (λ more r. bad)
+      also (λ more r. spelled (plain lengthRecorded) more r (tt, tt))
+      also one-or-none 0x8E lengthIs noLength (λ n. refl) refl (λ n s. (tt, (tt, (s, tt)))) (tt, (tt, (omega arith, tt)))
       also one-field 0x8F (λ n. plain (shareIs n)) (λ n. refl) (λ n s. (tt, (s, tt)))
       also tt)
       (λ i h more r. bad)

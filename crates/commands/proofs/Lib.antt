@@ -12,6 +12,7 @@ pub mod Over
 pub mod Placed
 pub mod TextSteps
 pub mod ReadFront
+pub mod Behind
 pub mod Table
 pub mod Causes
 pub mod TextPlaces
@@ -26,6 +27,7 @@ pub mod Report
 pub mod Bytes
 pub mod NoticeBytes
 pub mod Spelled
+pub mod ReadFits
 pub mod Decode
 pub mod DecodeExact
 pub mod SizedBook
@@ -44,6 +46,8 @@ pub mod WithoutDucts
 pub mod AnswersTell
 pub mod Answers
 pub mod Marks
+pub mod Surveys
+pub mod Agree
 pub mod AnswerLength
 pub mod PerByte
 pub mod ForecastFits

@@ -17,11 +17,11 @@ use Rattle.graph.specs.Route.{Choice}
 use Rattle.graph.proofs.Truth.{false-of-not, false-of-not-true, not-both, and-left, or-left, or-right, or-cases, eqb-eq, eq-eqb, ltb-lt}
 use Rattle.graph.proofs.BridgeBlock.{bridge-block-equivalence}
 use Rattle.naming.specs.Book.{Book, Addition, vertex, edge, neither, emptyBook, enterVertex, enterEdge, feed}
-use Rattle.naming.specs.State.{State, emptyState, afterAddition, Recording, recordsNothing, recordsMark, marksAfter, afterRecording, marksWith}
+use Rattle.naming.specs.State.{State, emptyState, afterAddition, Recording, recordsNothing, recordsMark, recordsSurvey, marksAfter, afterRecording, marksWith}
 use Rattle.naming.proofs.Count.{count-last-out, count-with}
 use Rattle.naming.proofs.Equivalent.{equivalent-of}
 use Rattle.naming.proofs.GroupSum.{groups-add-up}
-use Rattle.commands.specs.Command.{Command, addCabinet, addSpan, districtName, ringName, sharedMesh, soleSpans, cutCabinets, isSole, markExchange, holdsExchange, addDuctSpan, routesBetween, exchangeShare, commandByte}
+use Rattle.commands.specs.Command.{Command, addCabinet, addSpan, districtName, ringName, sharedMesh, soleSpans, cutCabinets, isSole, markExchange, holdsExchange, addDuctSpan, routesBetween, recordLength, spanLength, exchangeShare, commandByte}
 use Rattle.commands.specs.Facts.{asks, facts, operandsOf, demandsOf, addition, recordingOf, recording, after, stateAfter}
 use Rattle.commands.specs.Refusal.{Capacities, refusalNumber, cabinetKnown, cabinetsKnown, met, cause, meets, refusalOf}
 use Rattle.commands.specs.Entry.{wholeRun, acceptedCommands}
@@ -29,10 +29,11 @@ use Rattle.commands.specs.Marks.{markCommands, exchangesOfRings, Exchang
 use Rattle.commands.proofs.Causes.{not-refused-exactly}
 use Rattle.commands.proofs.RunBooks.{NoneRefused, first-not-refused, whole-run-not-refused}
 
--- what a command records: a mark of a cabinet if it is 09 of that cabinet, and else nothing
+-- what a command records: a mark of a cabinet if it is 09 of that cabinet, and else none
 abbrev Records : Command → Recording → Type 0
 Records c recordsNothing = eqb (commandByte c) 0x09 ≡ false
 Records c (recordsMark x) = c ≡ markExchange x
+Records c (recordsSurvey r) = eqb (commandByte c) 0x09 ≡ false
 
 records-marks : (c : Command) → Records c (recording c)
 unfolding facts asks recording recordingOf commandByte
@@ -48,6 +49,8 @@ records-marks (markExchange a) = refl
 records-marks (holdsExchange a) = refl
 records-marks (addDuctSpan a b d) = refl
 records-marks (routesBetween a b) = refl
+records-marks (recordLength x day metres) = refl
+records-marks (spanLength x) = refl
 records-marks exchangeShare = refl
 
 -- the byte of a mark is 09
@@ -62,6 +65,7 @@ marked-by-one s c x = go (recording c) (records-marks c)
   where
     go : (r : Recording) → Records c r → (marksAfter (s .marked) r x ≡ true) ↔ ((s .marked x ≡ true) ⊎ (markExchange x ≡ c))
     go recordsNothing other = (inl, ⊎-elim (λ m. m) (λ e. absurd (not-both (mark-byte x) (rw e other))))
+    go (recordsSurvey r) other = (inl, ⊎-elim (λ m. m) (λ e. absurd (not-both (mark-byte x) (rw e other))))
     go (recordsMark y) is = (
       λ m. ⊎-elim (λ e. inr (ap markExchange (eqb-eq x y e) ∙ sym is)) inl (or-cases (eqb x y) (s .marked x) m),
       ⊎-elim
@@ -98,6 +102,7 @@ marked-exactly rule cs x =
 abbrev New : State → Recording → Type 0
 New s recordsNothing = Unit
 New s (recordsMark x) = (x < s .book .network .vertices) × (s .marked x ≡ false)
+New s (recordsSurvey r) = Unit
 
 -- a 09 that is not refused names a cabinet that is known, and is no exchange
 new-mark : (caps : Capacities) (s : State) (x : ℕ) → refusalOf caps s (markExchange x) ≡ none → New s (recordsMark x)
@@ -112,6 +117,7 @@ new-recording caps s c e = go (recording c) (records-marks c)
     go : (r : Recording) → Records c r → New s r
     go recordsNothing other = tt
     go (recordsMark x) is = new-mark caps s x (subst (λ d. refusalOf caps s d ≡ none) is e)
+    go (recordsSurvey r) other = tt
 
 -- every exchange is a cabinet of the network
 abbrev MarksKnown : State → Type 0
@@ -132,6 +138,7 @@ more-cabinets b neither = omega arith
 known-after : (s : State) (a : Addition) (r : Recording) → MarksKnown s → New s r → MarksKnown (afterRecording (afterAddition s a) r)
 unfolding afterRecording afterAddition marksAfter
 known-after s a recordsNothing known new x m = omega (arith, known x m, more-cabinets (s .book) a)
+known-after s a (recordsSurvey r) known new x m = omega (arith, known x m, more-cabinets (s .book) a)
 known-after s a (recordsMark y) known new x m = omega (arith, more-cabinets (s .book) a, below)
   where
     below : x < s .book .network .vertices
@@ -153,6 +160,7 @@ one-exchange-more : (s : State) (c : Command) (r : Recording) → Records c r �
     → exchanges (afterRecording s r) ≡ cond (eqb (commandByte c) 0x09) (suc (exchanges s)) (exchanges s)
 unfolding afterRecording marksAfter
 one-exchange-more s c recordsNothing other new = rw other
+one-exchange-more s c (recordsSurvey r) other new = rw other
 one-exchange-more s c (recordsMark x) is new =
     rw (is, mark-byte x) (count-with (s .book .network .vertices) (λ y. true) (s .marked) x (new .0) (new .1))
 
@@ -160,6 +168,7 @@ one-exchange-more s c (recordsMark x) is new =
 new-still : (s : State) (a : Addition) (r : Recording) → New s r → New (afterAddition s a) r
 unfolding afterAddition
 new-still s a recordsNothing new = tt
+new-still s a (recordsSurvey r) new = tt
 new-still s a (recordsMark x) new = (omega (arith, new .0, more-cabinets (s .book) a), new .1)
 
 -- after commands that are not refused there are as many exchanges more as commands of 09

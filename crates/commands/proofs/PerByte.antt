@@ -43,8 +43,8 @@ form-pays =
     also (λ x c s. omega arith)
     also (λ x. omega arith)
     also (λ x c s. omega arith)
-    also tt
-    also tt
+    also (λ x c s. omega arith)
+    also (λ x c s. omega arith)
     also (λ x c s. omega arith)
     also tt)
     (λ byte h. tt)

@@ -1,4 +1,5 @@
 -- The answers that a planner reads from the answer buffer on return are the definition's answers to the accepted commands.
+use mathlib.Core.Bool.{true}
 use mathlib.Core.List.{List, [], _∷_, _++_, map}
 use mathlib.Core.Logic.{_⊎_, inl, inr}
 use mathlib.Core.Option.{some}
@@ -9,6 +10,7 @@ use Rattle.graph.specs.Network.{Rule, MateRule}
 use Rattle.graph.specs.Route.{Choice, Serves}
 use Rattle.naming.specs.Book.{emptyBook}
 use Rattle.naming.specs.State.{State, emptyState}
+use Rattle.commands.specs.Bytes.{allBytes}
 use Rattle.commands.specs.Command.{Command}
 use Rattle.commands.specs.Refusal.{Refusal, Capacities}
 use Rattle.commands.specs.Facts.{after, answer, stateAfter}
@@ -21,6 +23,8 @@ use Rattle.commands.proofs.Cases.{impossible}
 use Rattle.commands.proofs.Decode.{AllFit, decode-first}
 use Rattle.commands.proofs.NameList.{answersFrom, first-answers}
 use Rattle.commands.proofs.RunBooks.{empty-sound, Answered, run-answered, answers-of-run}
+use Rattle.commands.proofs.ReadFits.{run-fits}
+use Rattle.commands.proofs.Surveys.{empty-metres-fit}
 use Rattle.commands.proofs.AnswersFit.{all-answers-fit}
 
 -- there are as many answers as commands
@@ -56,10 +60,10 @@ module _ (rule : Rule) (choice : Choice) (caps : Capacities) (journal : List ℕ
   answerBuffer = entryUnder rule choice caps journal lent .buffers .answers
 
   -- the first k answers that the buffer holds are those to the first k commands
-  pub read-back : MateRule rule → Serves rule choice → (k : ℕ) → k ≤ length accepted
+  pub read-back : MateRule rule → Serves rule choice → allBytes journal ≡ true → (k : ℕ) → k ≤ length accepted
       → decodeFirst k answerBuffer ≡ answersFrom choice (emptyState rule) (take k accepted)
   unfolding entryUnder outcome over acceptedCommands commandsOf bytesOfAnswers
-  read-back r serves k h = go (refused-or-ran rule choice caps journal (length (lent .work)) (length (lent .answers)) (length (lent .report))) h
+  read-back r serves are k h = go (refused-or-ran rule choice caps journal (length (lent .work)) (length (lent .answers)) (length (lent .report))) h
     where
       start : State
       start = emptyState rule
@@ -75,6 +79,7 @@ module _ (rule : Rule) (choice : Choice) (caps : Capacities) (journal : List ℕ
       go (inr well) h =
           let w = run-answered (length (lent .answers)) choice caps start journal in
           let range = good-exactly caps .0 (well .good-capacities) in
-          let fit = all-answers-fit choice caps range start taken (empty-sound caps rule r) (unfold emptyState emptyBook in serves) w in
+          let read = run-fits (length (lent .answers)) choice caps start journal are in
+          let fit = all-answers-fit choice caps range start taken (empty-sound caps rule r) (unfold emptyState emptyBook in serves) (empty-metres-fit rule) read w in
           let runs = ran-exactly rule choice caps journal (length (lent .work)) (length (lent .answers)) (length (lent .report)) .1 well in
           rw runs (read-accepted choice caps start taken w fit (drop (length (bytesOfAnswers taken)) (lent .answers)) k (rw runs at h))

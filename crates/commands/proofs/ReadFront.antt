@@ -9,7 +9,7 @@ use native.Mathlib.Omega.{arith}
 use lib.ListN.{length, getD, take, drop, length-take}
 use lib.Seq.{getD-take, take-take, take-add, length-take-le, drop-at}
 use Rattle.commands.specs.Bytes.{number}
-use Rattle.commands.specs.Command.{Command, addCabinet, addSpan, districtName, ringName, sharedMesh, soleSpans, cutCabinets, isSole, markExchange, holdsExchange, addDuctSpan, routesBetween, exchangeShare, Form, unknown, takes, forms, form, operand, command, readForm, readCommand, commandByte}
+use Rattle.commands.specs.Command.{Command, addCabinet, addSpan, districtName, ringName, sharedMesh, soleSpans, cutCabinets, isSole, markExchange, holdsExchange, addDuctSpan, routesBetween, recordLength, spanLength, exchangeShare, Form, unknown, takes, forms, form, operand, command, readForm, readCommand, commandByte}
 use Rattle.commands.specs.Refusal.{Refusal}
 use Rattle.commands.specs.Text.{Read, textOf, placeBehind}
 use Rattle.commands.proofs.ByPlace.{each-at, _also_}
@@ -57,8 +57,8 @@ command-by-operands =
     also one-operand holdsExchange
     also three-operands addDuctSpan
     also two-operands routesBetween
-    also tt
-    also tt
+    also three-operands recordLength
+    also one-operand spanLength
     also no-operand exchangeShare
     also tt)
     (λ byte h. tt)
@@ -88,8 +88,8 @@ form-has-byte =
     also (λ x. refl)
     also (λ x. refl)
     also (λ x. refl)
-    also tt
-    also tt
+    also (λ x. refl)
+    also (λ x. refl)
     also (λ x. refl)
     also tt)
     (λ byte h. tt)

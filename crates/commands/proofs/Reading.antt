@@ -1,13 +1,13 @@
 -- What is read at a place of a journal: an unknown byte, operands cut off, or a command with all its operands.
-use mathlib.Core.Bool.{Bool, true, false, _&&_, _||_, and-false, true≢false}
+use mathlib.Core.Bool.{Bool, true, false, _&&_, and-false, true≢false}
 use mathlib.Core.List.{List}
 use mathlib.Core.Logic.{_↔_, Iff·trans, _⊎_, inl, inr}
 use mathlib.Core.Path.{_≡_, refl, sym, ap}
 use Prim.Native.Nat.{ℕ, _*_, _≤_, _<_}
 use native.Mathlib.Omega.{arith}
-use lib.Dec.{eqb, leb}
+use lib.Dec.{leb}
 use lib.ListN.{length}
-use Rattle.graph.proofs.Truth.{ne-eqb, le-leb}
+use Rattle.graph.proofs.Truth.{le-leb}
 use Rattle.commands.specs.Command.{Command, Form, unknown, takes, forms, form, operand, Reading, unknownByte, cutOff, command, readForm, readCommand}
 use Rattle.commands.proofs.Cases.{le-or-gt, gt-leb, impossible}
 use Rattle.commands.proofs.ByPlace.{each-at, _also_}
@@ -26,12 +26,12 @@ unfoldable pub widthOf : Form → ℕ
 widthOf unknown = 0
 widthOf (takes n make) = 2 * n
 
--- the commands' bytes are 01 to 0C, and 0F
-pub known-bytes : (byte : ℕ) → isCommand byte ≡ ((leb 0x01 byte && leb byte 0x0C) || eqb byte 0x0F)
+-- the commands' bytes are 01 to 0F
+pub known-bytes : (byte : ℕ) → isCommand byte ≡ (leb 0x01 byte && leb byte 0x0F)
 unfolding isCommand form forms isKnown
 known-bytes =
     each-at
-    (λ byte f. isKnown f ≡ ((leb 0x01 byte && leb byte 0x0C) || eqb byte 0x0F))
+    (λ byte f. isKnown f ≡ (leb 0x01 byte && leb byte 0x0F))
     forms
     unknown
     (refl
@@ -51,7 +51,7 @@ known-bytes =
     also refl
     also refl
     also tt)
-    (λ byte h. sym (rw (gt-leb byte 0x0C (omega arith), ne-eqb byte 0x0F (λ e. omega arith), and-false (leb 0x01 byte))))
+    (λ byte h. sym (rw (gt-leb byte 0x0F (omega arith), and-false (leb 0x01 byte))))
 
 -- the form of the other bytes, and of no others, is unknown
 pub unknown-exactly : (byte : ℕ) → (form byte ≡ unknown) ↔ (isCommand byte ≡ false)

@@ -1,5 +1,5 @@
--- The marked histories, those with exchanges, with ducts and with routes, the calls of the run's entry and the forecasts hold of the
--- definitions: each table is computed at once.
+-- The marked histories, those with exchanges, with ducts, with routes and with survey lengths, the calls of the run's entry and the
+-- forecasts hold of the definitions: each table is computed at once.
 use mathlib.Core.List.{List, [], _∷_, _++_, map}
 use mathlib.Core.Path.{_≡_, refl, ap}
 use lib.ListN.{replicate}
@@ -17,6 +17,8 @@ use Rattle.commands.specs.DuctHistories
 use Rattle.commands.specs.DuctHistories.{ductHistories}
 use Rattle.commands.specs.RouteHistories
 use Rattle.commands.specs.RouteHistories.{routeHistories, offers, judged}
+use Rattle.commands.specs.SurveyHistories
+use Rattle.commands.specs.SurveyHistories.{surveyHistories}
 use Rattle.commands.specs.Calls.{sevens, call, atStart, startCalls, stopCalls, cabinetAnswers, acceptedCalls, entered, foretold, forecasts}
 use Rattle.commands.proofs.Computed.{computed}
 
@@ -50,6 +52,11 @@ route-histories-made : map made routeHistories ≡ routeHistories
 unfolding computed Histories.output Histories.accepted Histories.refusedWith Histories.notice RouteHistories.routesInTwoDucts RouteHistories.triangleSpans RouteHistories.routesInTriangle RouteHistories.ladderSpans RouteHistories.rungGivenBack RouteHistories.twoMeshesSpans RouteHistories.routesThroughCut RouteHistories.matesAndASpan RouteHistories.routeBesideMates RouteHistories.matesOnTheWaySpans RouteHistories.matesOnTheWay RouteHistories.onlyMates RouteHistories.acrossRings RouteHistories.routesAcrossDistricts RouteHistories.routesToItself RouteHistories.routesToNowhere RouteHistories.routesFromNowhere RouteHistories.routeHistories
 route-histories-made = refl
 
+-- and of the one with survey lengths
+survey-histories-made : map made surveyHistories ≡ surveyHistories
+unfolding computed Histories.output Histories.accepted Histories.refusedWith Histories.notice SurveyHistories.oneSpan SurveyHistories.oneSpanAnswers SurveyHistories.measuredOnce SurveyHistories.earlierAfterLater SurveyHistories.oneDayTwice SurveyHistories.dayNought SurveyHistories.lastDay SurveyHistories.eachSpanItsOwn SurveyHistories.measuredInADuct SurveyHistories.measuredNowhere SurveyHistories.lengthNowhere SurveyHistories.surveyHistories
+survey-histories-made = refl
+
 -- every marked history holds of the definitions
 pub histories-shown : EachShown histories
 histories-shown = each-shown histories histories-made
@@ -65,6 +72,10 @@ duct-histories-shown = each-shown ductHistories duct-histories-made
 -- and every history with routes
 pub route-histories-shown : EachShown routeHistories
 route-histories-shown = each-shown routeHistories route-histories-made
+
+-- and every history with survey lengths
+pub survey-histories-shown : EachShown surveyHistories
+survey-histories-shown = each-shown surveyHistories survey-histories-made
 
 -- The pairs that are said to serve do, and the others do not.
 pub offers-judged : map judged offers ≡ map (λ o. o .serves) offers

@@ -1,5 +1,6 @@
 -- Demand 3: the whole-run claim holds of every run of the definitions, for every rule of mates, every choice of routes that
--- serves, every capacity, journal and buffer.
+-- serves, every capacity, journal of bytes and buffer.
+use mathlib.Core.Bool.{true}
 use mathlib.Core.List.{List}
 use mathlib.Core.Path.{_≡_, sym, _∙_}
 use Prim.Native.Nat.{ℕ, suc, _≤_}
@@ -10,6 +11,7 @@ use Rattle.graph.specs.Route.{Choice, Serves}
 use Rattle.graph.proofs.Ducts.{same-duct-mates}
 use Rattle.ways.proofs.TwoRoutes.{two-routes-serve}
 use Rattle.naming.specs.State.{State, emptyState}
+use Rattle.commands.specs.Bytes.{allBytes}
 use Rattle.commands.specs.Command.{Command}
 use Rattle.commands.specs.Facts.{stateAfter}
 use Rattle.commands.specs.Refusal.{Capacities}
@@ -26,13 +28,14 @@ use Rattle.commands.proofs.ReadBack.{length-answers, accepted, answerBu
 
 -- the whole-run claim holds of every run: refused at the start, refused later, or accepted
 pub whole-run : (rule : Rule) → MateRule rule → (choice : Choice) → Serves rule choice
-    → (caps : Capacities) (journal : List ℕ) (lent : Buffers)
+    → (caps : Capacities) (journal : List ℕ) → allBytes journal ≡ true
+    → (lent : Buffers)
     → WholeRunClaim
     rule
     (acceptedCommands (wholeRun rule choice caps journal (length (lent .work)) (length (lent .answers)) (length (lent .report))))
     (entryUnder rule choice caps journal lent .buffers .answers)
 unfolding emptyState
-whole-run rule r choice serves caps journal lent =
+whole-run rule r choice serves caps journal are lent =
     record {
       holds-after = λ k h.
           record {
@@ -61,7 +64,7 @@ whole-run rule r choice serves caps journal lent =
 
     read : (k : ℕ) → k ≤ length commands
         → decodeFirst k (answerBuffer rule choice caps journal lent) ≡ answersFrom choice start (take k commands)
-    read = read-back rule choice caps journal lent r serves
+    read = read-back rule choice caps journal lent r serves are
 
 -- the register's is a rule of mates
 pub register-mates : MateRule registerRule
@@ -74,7 +77,8 @@ unfolding registerRoutes
 register-serves = two-routes-serve registerRule register-mates
 
 -- so the claim holds of every run of the register
-pub register-whole-run : (caps : Capacities) (journal : List ℕ) (lent : Buffers)
+pub register-whole-run : (caps : Capacities) (journal : List ℕ) → allBytes journal ≡ true
+    → (lent : Buffers)
     → WholeRunClaim
     registerRule
     (acceptedCommands (wholeRun registerRule registerRoutes caps journal (length (lent .work)) (length (lent .answers)) (length (lent .report))))

@@ -1,6 +1,6 @@
 -- A journal without 0B is run as document 01 has it: whether a span is lost with the spans of its duct or no span with another, everything
 -- that is returned and left is the same.
-use mathlib.Core.Bool.{Bool, true, not, _||_, false≢true}
+use mathlib.Core.Bool.{true, not, false≢true}
 use mathlib.Core.List.{List, [], _∷_, map}
 use mathlib.Core.Option.{Option, none, some}
 use mathlib.Core.Path.{_≡_, refl, sym, _∙_, ap, ap₂}
@@ -17,9 +17,10 @@ use Rattle.graph.proofs.Never.{never-mates, no-mate-never}
 use Rattle.graph.proofs.Ducts.{same-duct-mates, no-duct-no-mate}
 use Rattle.ways.proofs.RoutesAlike.{alike-routes}
 use Rattle.naming.specs.Book.{Book, emptyBook, enterVertex, enterEdge, feed, feedAll}
-use Rattle.naming.specs.State.{State, emptyState, afterAddition, Recording, recordsNothing, recordsMark, marksAfter, afterRecording}
+use Rattle.naming.specs.Survey.{holding}
+use Rattle.naming.specs.State.{State, emptyState, afterAddition, surveysAfter, afterRecording}
 use Rattle.naming.proofs.AlikeBooks.{AlikeBooks, alike-vertex, alike-edge}
-use Rattle.commands.specs.Command.{Command, addCabinet, addSpan, districtName, ringName, sharedMesh, soleSpans, cutCabinets, isSole, markExchange, holdsExchange, addDuctSpan, routesBetween, exchangeShare, commandByte}
+use Rattle.commands.specs.Command.{Command, addCabinet, addSpan, districtName, ringName, sharedMesh, soleSpans, cutCabinets, isSole, markExchange, holdsExchange, addDuctSpan, routesBetween, recordLength, spanLength, exchangeShare, commandByte}
 use Rattle.commands.specs.Facts.{Facts, addsCabinet, addsSpan, addsNothing, facts, asks, additionOf, addition, recording, after}
 use Rattle.commands.specs.Refusal.{Refusal, Capacities, refusalOf}
 use Rattle.commands.specs.Text.{Read, Text, followedBy, textOf}
@@ -29,6 +30,7 @@ use Rattle.commands.specs.NameList.{namesOf}
 use Rattle.commands.specs.Register.{registerRule, registerRoutes, register}
 use Rattle.commands.specs.Ducts.{ductless, ductlessJournal}
 use Rattle.commands.proofs.Steps.{run-refuses, run-accepts}
+use Rattle.commands.proofs.Agree.{marks-same}
 use Rattle.commands.proofs.AlikeStates.{SameRoutes, AlikeStates, refusal-alike, answer-alike}
 use Rattle.commands.proofs.RunBooks.{Sound, empty-sound, sound-after}
 use Rattle.commands.proofs.Report.{report-is}
@@ -54,6 +56,8 @@ in-no-duct (markExchange x) other = tt
 in-no-duct (holdsExchange x) other = tt
 in-no-duct (addDuctSpan x y d) other = absurd (false≢true other)
 in-no-duct (routesBetween x y) other = tt
+in-no-duct (recordLength x day metres) other = tt
+in-no-duct (spanLength x) other = tt
 in-no-duct exchangeShare other = tt
 
 -- Two books alike, the first of which loses each span alone and the second with those of its duct.
@@ -127,16 +131,11 @@ names-without-ducts cs free =
     let a = paired-after paired-empty cs free .alike in
     rw (a .networks .as-many-vertices, a .networks .as-many-edges, a .same-components, a .same-bridge-blocks, a .same-blocks)
 
--- the marks after what a command records are the same where they were
-marks-same : (r : Recording) {marked marked′ : ℕ → Bool} → ((x : ℕ) → marked′ x ≡ marked x) → (x : ℕ) → marksAfter marked′ r x ≡ marksAfter marked r x
-unfolding marksAfter
-marks-same recordsNothing same x = same x
-marks-same (recordsMark y) same x = ap (λ is. eqb x y || is) (same x)
-
--- Two states, of which the books are a pair and the marks the same.
+-- Two states, of which the books are a pair, and the marks and the surveys the same.
 record PairedStates (s s′ : State) : Type 0 where
   books : Paired (s .book) (s′ .book)
   same-marks : (x : ℕ) → s′ .marked x ≡ s .marked x
+  same-surveys : s′ .surveys ≡ s .surveys
 
 -- a command other than 0B keeps them so
 paired-states-after : {s s′ : State} → PairedStates s s′ → (c : Command) → not (eqb (commandByte c) 0x0B) ≡ true
@@ -146,6 +145,7 @@ paired-states-after p c other =
     record {
       books = paired-fed (p .books) (facts c) (in-no-duct c other);
       same-marks = marks-same (recording c) (p .same-marks);
+      same-surveys = ap (λ surveys. surveysAfter surveys (recording c)) (p .same-surveys);
     }
 
 -- so texts without 0B run alike from both, under a choice that gives networks alike the same routes
@@ -168,7 +168,12 @@ run-without-ducts choice same caps s s′ p sound (r ∷ later) end free =
     other = and-left _ _ free
 
     alike : AlikeStates s s′
-    alike = record { books = p .books .alike; same-marks = p .same-marks }
+    alike =
+        record {
+          books = p .books .alike;
+          same-marks = p .same-marks;
+          same-records = λ x. ap (λ surveys. holding surveys x) (p .same-surveys);
+        }
 
     rule : MateRule (s .book .network .rule)
     rule = rw (p .books .alone) never-mates
@@ -201,7 +206,7 @@ pub whole-run-without-ducts : (choice : Choice) → SameRoutes choice
 unfolding registerRule wholeRun ductlessJournal runWithin emptyState
 whole-run-without-ducts choice same caps journal workLength answersLength reportLength free =
     rw
-    (run-without-ducts choice same caps (emptyState never) (emptyState sameDuct) (record { books = paired-empty; same-marks = λ x. refl })
+    (run-without-ducts choice same caps (emptyState never) (emptyState sameDuct) (record { books = paired-empty; same-marks = λ x. refl; same-surveys = refl })
     (empty-sound caps never never-mates) (textOf journal .commands) (textOf journal .refusal) free)
 
 -- and so whatever the capacities and the buffers, the same is returned and left.

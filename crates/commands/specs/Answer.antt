@@ -58,6 +58,9 @@ pub data Plain : Type 0 where
   exchangeMarked : Plain
   exchangeHeld : Bool → Plain
   routesAre : List ℕ → List ℕ → Plain
+  lengthRecorded : Plain
+  lengthIs : ℕ → Plain
+  noLength : Plain
   shareIs : ℕ → Plain
 
 -- An added span is answered with its number, its mesh name and the notices.
@@ -81,6 +84,9 @@ plainFields (soleIs sole) = byte 0x88 ∷ byte (boolByte sole) ∷ []
 plainFields exchangeMarked = byte 0x89 ∷ []
 plainFields (exchangeHeld held) = byte 0x8A ∷ byte (boolByte held) ∷ []
 plainFields (routesAre ss ts) = byte 0x8C ∷ number (length ss) ∷ map span ss ++ number (length ts) ∷ map span ts
+plainFields lengthRecorded = byte 0x8D ∷ []
+plainFields (lengthIs metres) = byte 0x8E ∷ byte 1 ∷ number metres ∷ []
+plainFields noLength = byte 0x8E ∷ byte 0 ∷ number 0 ∷ []
 plainFields (shareIs n) = byte 0x8F ∷ number n ∷ []
 
 unfoldable pub answerFields : Answer → List Field

@@ -53,27 +53,30 @@ startCalls =
 -- Stopped: W numbers of the working table are 0, the report is filled, earlier answers stand, and the rest is as it was.
 unfoldable pub stopCalls : List Call
 stopCalls =
-    -- 4: a byte that is no command's: not 01 to 0C, nor 0F
+    -- 4: a byte that is no command's: not 01 to 0F
     call 1 1 96 2 6 (replicate 65536 0x00) 4 (replicate 96 0) (7 ∷ 7 ∷ []) (4 ∷ 0 ∷ 0 ∷ 0 ∷ 0 ∷ 0 ∷ [])
-    ∷ call 1 1 98 5 8 (0x01 ∷ 0x0D ∷ []) 4
+    ∷ call 1 1 98 5 8 (0x01 ∷ 0x10 ∷ []) 4
     (replicate 96 0 ++ 7 ∷ 7 ∷ [])
     (0x81 ∷ 0 ∷ 0 ∷ 7 ∷ 7 ∷ [])
     (4 ∷ 1 ∷ 1 ∷ 3 ∷ 1 ∷ 0 ∷ 7 ∷ 7 ∷ [])
-    ∷ call 1 1 96 2 6 (0x0E ∷ []) 4 (replicate 96 0) (7 ∷ 7 ∷ []) (4 ∷ 0 ∷ 0 ∷ 0 ∷ 0 ∷ 0 ∷ [])
-    ∷ call 1 1 96 2 6 (0x10 ∷ []) 4 (replicate 96 0) (7 ∷ 7 ∷ []) (4 ∷ 0 ∷ 0 ∷ 0 ∷ 0 ∷ 0 ∷ [])
+    ∷ call 1 1 96 2 6 (0xFF ∷ []) 4 (replicate 96 0) (7 ∷ 7 ∷ []) (4 ∷ 0 ∷ 0 ∷ 0 ∷ 0 ∷ 0 ∷ [])
     -- 5: operands cut off by the journal's end, of cabinets not yet given
     ∷ call 1 1 96 2 6 (0x02 ∷ 0 ∷ 0 ∷ 0 ∷ []) 5 (replicate 96 0) (7 ∷ 7 ∷ []) (5 ∷ 0 ∷ 0 ∷ 0 ∷ 0 ∷ 0 ∷ [])
     ∷ call 1 1 96 2 6 (0x09 ∷ 0 ∷ []) 5 (replicate 96 0) (7 ∷ 7 ∷ []) (5 ∷ 0 ∷ 0 ∷ 0 ∷ 0 ∷ 0 ∷ [])
     ∷ call 1 1 96 2 6 (0x0A ∷ 0 ∷ []) 5 (replicate 96 0) (7 ∷ 7 ∷ []) (5 ∷ 0 ∷ 0 ∷ 0 ∷ 0 ∷ 0 ∷ [])
     ∷ call 1 1 96 2 6 (0x0B ∷ 0 ∷ 0 ∷ 0 ∷ 0 ∷ 0 ∷ []) 5 (replicate 96 0) (7 ∷ 7 ∷ []) (5 ∷ 0 ∷ 0 ∷ 0 ∷ 0 ∷ 0 ∷ [])
     ∷ call 1 1 96 2 6 (0x0C ∷ 0 ∷ 0 ∷ 0 ∷ []) 5 (replicate 96 0) (7 ∷ 7 ∷ []) (5 ∷ 0 ∷ 0 ∷ 0 ∷ 0 ∷ 0 ∷ [])
+    ∷ call 1 1 96 2 6 (0x0D ∷ 0 ∷ 0 ∷ 0 ∷ 0 ∷ 0 ∷ []) 5 (replicate 96 0) (7 ∷ 7 ∷ []) (5 ∷ 0 ∷ 0 ∷ 0 ∷ 0 ∷ 0 ∷ [])
+    ∷ call 1 1 96 2 6 (0x0E ∷ 0 ∷ []) 5 (replicate 96 0) (7 ∷ 7 ∷ []) (5 ∷ 0 ∷ 0 ∷ 0 ∷ 0 ∷ 0 ∷ [])
     -- 6: a cabinet number not yet given; in the second and the fourth, equal to the other; in the third, with duct 0
     ∷ call 1 1 96 3 6 (0x01 ∷ 0x02 ∷ 0 ∷ 0 ∷ 0 ∷ 1 ∷ []) 6 (replicate 96 0) (0x81 ∷ 0 ∷ 0 ∷ []) (6 ∷ 1 ∷ 1 ∷ 3 ∷ 1 ∷ 0 ∷ [])
     ∷ call 1 1 96 3 6 (0x01 ∷ 0x05 ∷ 0 ∷ 1 ∷ 0 ∷ 1 ∷ []) 6 (replicate 96 0) (0x81 ∷ 0 ∷ 0 ∷ []) (6 ∷ 1 ∷ 1 ∷ 3 ∷ 1 ∷ 0 ∷ [])
     ∷ call 1 1 96 3 6 (0x01 ∷ 0x0B ∷ 0 ∷ 1 ∷ 0 ∷ 1 ∷ 0 ∷ 0 ∷ []) 6 (replicate 96 0) (0x81 ∷ 0 ∷ 0 ∷ []) (6 ∷ 1 ∷ 1 ∷ 3 ∷ 1 ∷ 0 ∷ [])
     ∷ call 1 1 96 3 6 (0x01 ∷ 0x0C ∷ 0 ∷ 1 ∷ 0 ∷ 1 ∷ []) 6 (replicate 96 0) (0x81 ∷ 0 ∷ 0 ∷ []) (6 ∷ 1 ∷ 1 ∷ 3 ∷ 1 ∷ 0 ∷ [])
-    -- 7: a span number not yet given, equal to a cabinet's
+    -- 7: a span number not yet given, equal to a cabinet's, and no room for the answer
     ∷ call 1 1 96 3 6 (0x01 ∷ 0x08 ∷ 0 ∷ 0 ∷ []) 7 (replicate 96 0) (0x81 ∷ 0 ∷ 0 ∷ []) (7 ∷ 1 ∷ 1 ∷ 3 ∷ 1 ∷ 0 ∷ [])
+    ∷ call 1 1 96 3 6 (0x01 ∷ 0x0D ∷ 0 ∷ 0 ∷ 0 ∷ 1 ∷ 0 ∷ 2 ∷ []) 7 (replicate 96 0) (0x81 ∷ 0 ∷ 0 ∷ []) (7 ∷ 1 ∷ 1 ∷ 3 ∷ 1 ∷ 0 ∷ [])
+    ∷ call 1 1 96 3 6 (0x01 ∷ 0x0E ∷ 0 ∷ 0 ∷ []) 7 (replicate 96 0) (0x81 ∷ 0 ∷ 0 ∷ []) (7 ∷ 1 ∷ 1 ∷ 3 ∷ 1 ∷ 0 ∷ [])
     -- 8: 05 and 0C with equal cabinets; 02 too, with S spans present; 0B too, with duct 0
     ∷ call 1 1 96 3 6 (0x01 ∷ 0x0C ∷ 0 ∷ 0 ∷ 0 ∷ 0 ∷ []) 8 (replicate 96 0) (0x81 ∷ 0 ∷ 0 ∷ []) (8 ∷ 1 ∷ 1 ∷ 3 ∷ 1 ∷ 0 ∷ [])
     ∷ call 1 1 96 3 6 (0x01 ∷ 0x05 ∷ 0 ∷ 0 ∷ 0 ∷ 0 ∷ []) 8 (replicate 96 0) (0x81 ∷ 0 ∷ 0 ∷ []) (8 ∷ 1 ∷ 1 ∷ 3 ∷ 1 ∷ 0 ∷ [])
@@ -143,6 +146,14 @@ stopCalls =
     ∷ 0x82 ∷ 0 ∷ 1 ∷ 0 ∷ 0 ∷ 0 ∷ 1 ∷ 0x02 ∷ 0 ∷ 1 ∷ 0 ∷ 0
     ∷ replicate 8 7)
     (11 ∷ 12 ∷ 4 ∷ 30 ∷ 2 ∷ 2 ∷ [])
+    ∷ call 2 1 120 18 6 (0x01 ∷ 0x01 ∷ 0x02 ∷ 0 ∷ 0 ∷ 0 ∷ 1 ∷ 0x0D ∷ 0 ∷ 0 ∷ 0 ∷ 0 ∷ 0 ∷ 0 ∷ []) 11
+    (replicate 120 0)
+    (0x81 ∷ 0 ∷ 0 ∷ 0x81 ∷ 0 ∷ 1 ∷ 0x82 ∷ 0 ∷ 0 ∷ 0 ∷ 0 ∷ 0 ∷ 1 ∷ 0x01 ∷ 0 ∷ 1 ∷ 0 ∷ 0 ∷ [])
+    (11 ∷ 7 ∷ 3 ∷ 18 ∷ 2 ∷ 1 ∷ [])
+    ∷ call 2 1 120 21 6 (0x01 ∷ 0x01 ∷ 0x02 ∷ 0 ∷ 0 ∷ 0 ∷ 1 ∷ 0x0E ∷ 0 ∷ 0 ∷ []) 11
+    (replicate 120 0)
+    (0x81 ∷ 0 ∷ 0 ∷ 0x81 ∷ 0 ∷ 1 ∷ 0x82 ∷ 0 ∷ 0 ∷ 0 ∷ 0 ∷ 0 ∷ 1 ∷ 0x01 ∷ 0 ∷ 1 ∷ 0 ∷ 0 ∷ 7 ∷ 7 ∷ 7 ∷ [])
+    (11 ∷ 7 ∷ 3 ∷ 18 ∷ 2 ∷ 1 ∷ [])
     ∷ []
 
 -- The answers to the first cabinets, up to 256 of them.
@@ -236,6 +247,17 @@ acceptedCalls =
     ∷ 0x8C ∷ 0 ∷ 1 ∷ 0 ∷ 1 ∷ 0 ∷ 1 ∷ 0 ∷ 0
     ∷ [])
     (0 ∷ 17 ∷ 5 ∷ 39 ∷ 2 ∷ 2 ∷ [])
+    -- 8E without a record, 8D, and 8E with one, that fit to the byte, with C cabinets and S spans present
+    ∷ call 2 1 120 27 6 (0x01 ∷ 0x01 ∷ 0x02 ∷ 0 ∷ 0 ∷ 0 ∷ 1 ∷ 0x0E ∷ 0 ∷ 0 ∷ 0x0D ∷ 0 ∷ 0 ∷ 0x12 ∷ 0x34 ∷ 0x56 ∷ 0x78 ∷ 0x0E ∷ 0 ∷ 0 ∷ []) 0
+    (replicate 120 0)
+    (0x81 ∷ 0 ∷ 0
+    ∷ 0x81 ∷ 0 ∷ 1
+    ∷ 0x82 ∷ 0 ∷ 0 ∷ 0 ∷ 0 ∷ 0 ∷ 1 ∷ 0x01 ∷ 0 ∷ 1 ∷ 0 ∷ 0
+    ∷ 0x8E ∷ 0 ∷ 0 ∷ 0
+    ∷ 0x8D
+    ∷ 0x8E ∷ 1 ∷ 0x56 ∷ 0x78
+    ∷ [])
+    (0 ∷ 20 ∷ 6 ∷ 27 ∷ 2 ∷ 1 ∷ [])
     -- a number from 256 on, answered and asked for
     ∷ call 257 1 6240 774 6 (replicate 257 0x01 ++ 0x03 ∷ 1 ∷ 0 ∷ []) 0
     (replicate 6240 0)
@@ -287,6 +309,8 @@ forecasts =
     ∷ foretold (0x09 ∷ 0 ∷ 0 ∷ []) 0 3 1
     ∷ foretold (0x0A ∷ 0 ∷ 0 ∷ []) 0 3 2
     ∷ foretold (0x0C ∷ 0 ∷ 0 ∷ 0 ∷ 1 ∷ []) 0 5 5
+    ∷ foretold (0x0D ∷ 0 ∷ 0 ∷ 0 ∷ 1 ∷ 0 ∷ 2 ∷ []) 0 7 1
+    ∷ foretold (0x0E ∷ 0 ∷ 0 ∷ []) 0 3 4
     ∷ foretold (0x0F ∷ []) 0 1 3
     -- two cabinets and a span, and 09, 0A and 0F: 33 and 6
     ∷ foretold (0x01 ∷ 0x01 ∷ 0x02 ∷ 0 ∷ 0 ∷ 0 ∷ 1 ∷ 0x09 ∷ 0 ∷ 0 ∷ 0x0A ∷ 0 ∷ 0 ∷ 0x0F ∷ []) 0 14 39
@@ -299,6 +323,8 @@ forecasts =
     -- 0C before a span, and before two, one of them of 0B: 5 and 2 for each, 7 and 24 for the spans themselves
     ∷ foretold (0x0C ∷ 0 ∷ 0 ∷ 0 ∷ 1 ∷ 0x02 ∷ 0 ∷ 0 ∷ 0 ∷ 1 ∷ []) 0 10 14
     ∷ foretold (0x0C ∷ 0 ∷ 0 ∷ 0 ∷ 1 ∷ 0x02 ∷ 0 ∷ 0 ∷ 0 ∷ 1 ∷ 0x0B ∷ 0 ∷ 0 ∷ 0 ∷ 1 ∷ 0 ∷ 9 ∷ []) 0 17 33
+    -- two cabinets and a span, and 0D, 0E and 0E: 33 and 9
+    ∷ foretold (0x01 ∷ 0x01 ∷ 0x02 ∷ 0 ∷ 0 ∷ 0 ∷ 1 ∷ 0x0D ∷ 0 ∷ 0 ∷ 0 ∷ 1 ∷ 0 ∷ 2 ∷ 0x0E ∷ 0 ∷ 0 ∷ 0x0E ∷ 0 ∷ 0 ∷ []) 0 20 42
     -- the longest journal, whose last question has no operands, and one byte less
     ∷ foretold (replicate 65536 0x03) 5 65535 0
     ∷ foretold (replicate 65535 0x03) 0 65535 65535
@@ -306,11 +332,13 @@ forecasts =
     ∷ foretold (replicate 65537 0x00) 3 0 0
     -- 4: an unknown byte, alone, behind a command, and behind one that a run refuses with 7
     ∷ foretold (0x00 ∷ []) 4 0 0
-    ∷ foretold (0x01 ∷ 0x0D ∷ 0x01 ∷ []) 4 1 0
+    ∷ foretold (0x01 ∷ 0x10 ∷ 0x01 ∷ []) 4 1 0
     ∷ foretold (0x08 ∷ 0 ∷ 5 ∷ 0xFF ∷ []) 4 3 0
     -- 5: operands cut off, alone, and behind a command that a run refuses with 8
     ∷ foretold (0x02 ∷ 0 ∷ 0 ∷ []) 5 0 0
     ∷ foretold (0x0B ∷ 0 ∷ 0 ∷ 0 ∷ 1 ∷ 0 ∷ []) 5 0 0
     ∷ foretold (0x0C ∷ 0 ∷ 0 ∷ 0 ∷ []) 5 0 0
+    ∷ foretold (0x0D ∷ 0 ∷ 0 ∷ 0 ∷ 0 ∷ 0 ∷ []) 5 0 0
+    ∷ foretold (0x0E ∷ 0 ∷ []) 5 0 0
     ∷ foretold (0x01 ∷ 0x02 ∷ 0 ∷ 0 ∷ 0 ∷ 0 ∷ 0x07 ∷ 0 ∷ 0 ∷ 0 ∷ []) 5 6 0
     ∷ []

@@ -19,6 +19,8 @@ pub data Command : Type 0 where
   holdsExchange : ℕ → Command
   addDuctSpan : ℕ → ℕ → ℕ → Command
   routesBetween : ℕ → ℕ → Command
+  recordLength : ℕ → ℕ → ℕ → Command
+  spanLength : ℕ → Command
   exchangeShare : Command
 
 -- What a command byte makes of what follows it: so many operands, and the command that they give, by their place from 0 on.
@@ -26,7 +28,7 @@ pub data Form : Type 0 where
   unknown : Form
   takes : ℕ → ((ℕ → ℕ) → Command) → Form
 
--- The commands by their byte, from 00 on: 01 to 0C, and 0F.
+-- The commands by their byte, from 00 on: 01 to 0F.
 unfoldable pub forms : List Form
 forms =
     unknown
@@ -42,8 +44,8 @@ forms =
     ∷ takes 1 (λ x. holdsExchange (x 0))
     ∷ takes 3 (λ x. addDuctSpan (x 0) (x 1) (x 2))
     ∷ takes 2 (λ x. routesBetween (x 0) (x 1))
-    ∷ unknown
-    ∷ unknown
+    ∷ takes 3 (λ x. recordLength (x 0) (x 1) (x 2))
+    ∷ takes 1 (λ x. spanLength (x 0))
     ∷ takes 0 (λ x. exchangeShare)
     ∷ []
 
@@ -84,4 +86,6 @@ commandByte (markExchange a) = 0x09
 commandByte (holdsExchange a) = 0x0A
 commandByte (addDuctSpan a b d) = 0x0B
 commandByte (routesBetween a b) = 0x0C
+commandByte (recordLength s day metres) = 0x0D
+commandByte (spanLength s) = 0x0E
 commandByte exchangeShare = 0x0F

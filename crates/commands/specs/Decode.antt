@@ -6,7 +6,7 @@ use Prim.Native.Nat.{ℕ, zero, suc, _-_}
 use lib.ListN.{getD}
 use Rattle.commands.specs.Bytes.{number}
 use Rattle.commands.specs.Field.{Kind, district, ring, mesh}
-use Rattle.commands.specs.Answer.{Notice, Answer, cabinetAdded, spanAdded, plain, districtNamed, ringNamed, meshShared, noMeshShared, soleSpansAre, cutCabinetsAre, soleIs, exchangeMarked, exchangeHeld, routesAre, shareIs}
+use Rattle.commands.specs.Answer.{Notice, Answer, cabinetAdded, spanAdded, plain, districtNamed, ringNamed, meshShared, noMeshShared, soleSpansAre, cutCabinetsAre, soleIs, exchangeMarked, exchangeHeld, routesAre, lengthRecorded, lengthIs, noLength, shareIs}
 
 -- An answer and the bytes that follow it.
 pub data Decoded : Type 0 where
@@ -52,7 +52,7 @@ flagThen one none′ = byteThen (λ byte. getD (none′ ∷ one ∷ []) byte (λ
 unfoldable pub noughtThen : (List ℕ → Decoded) → List ℕ → Decoded
 noughtThen k = fieldThen (λ n. getD (k ∷ []) n (λ bytes. malformed))
 
--- What follows the byte of an answer, by that byte from 80 on: 81 to 8A, 8C and 8F.
+-- What follows the byte of an answer, by that byte from 80 on: 81 to 8A, and 8C to 8F.
 unfoldable pub bodies : List (List ℕ → Decoded)
 bodies =
     (λ bytes. malformed)
@@ -68,8 +68,8 @@ bodies =
     ∷ flagThen (decoded (plain (exchangeHeld true))) (decoded (plain (exchangeHeld false)))
     ∷ (λ bytes. malformed)
     ∷ fieldThen (λ n. fieldsThen n (λ ss. fieldThen (λ m. fieldsThen m (λ ts. decoded (plain (routesAre ss ts))))))
-    ∷ (λ bytes. malformed)
-    ∷ (λ bytes. malformed)
+    ∷ decoded (plain lengthRecorded)
+    ∷ flagThen (fieldThen (λ metres. decoded (plain (lengthIs metres)))) (noughtThen (decoded (plain noLength)))
     ∷ fieldThen (λ n. decoded (plain (shareIs n)))
     ∷ []
 

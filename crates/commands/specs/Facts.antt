@@ -9,10 +9,11 @@ use Rattle.graph.specs.Between.{bridgesBetween, cutsBetween}
 use Rattle.graph.specs.Route.{Routes, Choice}
 use Rattle.naming.specs.Rename.{nameOf}
 use Rattle.naming.specs.Book.{Book, Addition, vertex, edge, neither, feed}
-use Rattle.naming.specs.State.{State, afterAddition, Recording, recordsNothing, recordsMark, afterRecording}
+use Rattle.naming.specs.Survey.{Survey, holding}
+use Rattle.naming.specs.State.{State, afterAddition, Recording, recordsNothing, recordsMark, recordsSurvey, afterRecording}
 use Rattle.commands.specs.Field.{Field, cabinet, span, number, byte, fieldsBytes}
-use Rattle.commands.specs.Command.{Command, addCabinet, addSpan, districtName, ringName, sharedMesh, soleSpans, cutCabinets, isSole, markExchange, holdsExchange, addDuctSpan, routesBetween, exchangeShare, commandByte}
-use Rattle.commands.specs.Answer.{Plain, districtNamed, ringNamed, meshShared, noMeshShared, soleSpansAre, cutCabinetsAre, soleIs, exchangeMarked, exchangeHeld, routesAre, shareIs, Answer, cabinetAdded, spanAdded, plain, notices}
+use Rattle.commands.specs.Command.{Command, addCabinet, addSpan, districtName, ringName, sharedMesh, soleSpans, cutCabinets, isSole, markExchange, holdsExchange, addDuctSpan, routesBetween, recordLength, spanLength, exchangeShare, commandByte}
+use Rattle.commands.specs.Answer.{Plain, districtNamed, ringNamed, meshShared, noMeshShared, soleSpansAre, cutCabinetsAre, soleIs, exchangeMarked, exchangeHeld, routesAre, lengthRecorded, lengthIs, noLength, shareIs, Answer, cabinetAdded, spanAdded, plain, notices}
 use Rattle.commands.specs.Exchange.{ringHoldsExchange, shareWithExchange}
 
 -- What must hold of what a command names: two cabinets differ, a cabinet is no exchange, a duct is not 0, two cabinets share a district,
@@ -54,6 +55,11 @@ meshAnswer b (some s) = meshShared (nameOf (b .blocks) s)
 -- The answer to 0C: the two routes.
 unfoldable pub routesAnswer : Routes → Plain
 routesAnswer r = routesAre (r .first) (r .second)
+
+-- The answer to 0E: the metres of the record that holds, if there is one.
+unfoldable pub lengthAnswer : Option Survey → Plain
+lengthAnswer none = noLength
+lengthAnswer (some r) = lengthIs (r .metres)
 
 -- The facts of each command. The choice is asked by 0C alone, for the routes between its two cabinets.
 unfoldable pub facts : Command → Facts
@@ -102,6 +108,16 @@ facts (routesBetween a b) =
       records = recordsNothing;
       longest = λ cabinets spans. 5 + 2 * spans;
     })
+facts (recordLength x day metres) =
+    addsNothing
+    (record {
+      operands = span x ∷ number day ∷ number metres ∷ [];
+      demands = [];
+      told = λ choice s. lengthRecorded;
+      records = recordsSurvey (record { measured = x; day = day; metres = metres });
+      longest = λ cabinets spans. 1;
+    })
+facts (spanLength x) = asks (span x ∷ []) [] (λ s. lengthAnswer (holding (s .surveys) x)) (λ cabinets spans. 4)
 facts exchangeShare = asks [] [] (λ s. shareIs (shareWithExchange s)) (λ cabinets spans. 3)
 
 -- The operands, in their order.

@@ -6,6 +6,7 @@ pub mod Exchange
 pub mod Facts
 pub mod Refusal
 pub mod Marks
+pub mod Surveys
 pub mod Text
 pub mod Run
 pub mod Entry
@@ -19,4 +20,5 @@ pub mod Histories
 pub mod ExchangeHistories
 pub mod DuctHistories
 pub mod RouteHistories
+pub mod SurveyHistories
 pub mod Calls

@@ -6,7 +6,7 @@ use native.Mathlib.Nat.{add-zero}
 use native.Mathlib.Omega.{arith}
 use Rattle.graph.specs.Network.{Edge}
 use Rattle.commands.specs.Field.{Field}
-use Rattle.commands.specs.Command.{Command, addCabinet, addSpan, districtName, ringName, sharedMesh, soleSpans, cutCabinets, isSole, markExchange, holdsExchange, addDuctSpan, routesBetween, exchangeShare, commandByte}
+use Rattle.commands.specs.Command.{Command, addCabinet, addSpan, districtName, ringName, sharedMesh, soleSpans, cutCabinets, isSole, markExchange, holdsExchange, addDuctSpan, routesBetween, recordLength, spanLength, exchangeShare, commandByte}
 use Rattle.commands.specs.Facts.{Demand, PlainCommand, addsCabinet, addsSpan, addsNothing, asks, facts, additionOf}
 use Rattle.commands.specs.Forecast.{isCabinet, isSpan, longestPlain}
 use Rattle.reading.specs.Inside.Reads.{entryOf}
@@ -54,6 +54,8 @@ counted-by-byte (markExchange a) = answer-counted 1 0 0 (omega arith) (omega ari
 counted-by-byte (holdsExchange a) = answer-counted 2 0 0 (omega arith) (omega arith) (omega arith) (λ c s. omega arith)
 counted-by-byte {t} (addDuctSpan a b d) = rw (span-entry t) span-counted
 counted-by-byte (routesBetween a b) = answer-counted 5 1 0 (omega arith) (omega arith) (omega arith) (λ c s. omega arith)
+counted-by-byte (recordLength x day metres) = answer-counted 1 0 0 (omega arith) (omega arith) (omega arith) (λ c s. omega arith)
+counted-by-byte (spanLength x) = answer-counted 4 0 0 (omega arith) (omega arith) (omega arith) (λ c s. omega arith)
 counted-by-byte exchangeShare = answer-counted 3 0 0 (omega arith) (omega arith) (omega arith) (λ c s. omega arith)
 
 -- and the tables have an entry for it
@@ -71,6 +73,8 @@ byte-in-tables (markExchange a) = omega arith
 byte-in-tables (holdsExchange a) = omega arith
 byte-in-tables (addDuctSpan a b d) = omega arith
 byte-in-tables (routesBetween a b) = omega arith
+byte-in-tables (recordLength x day metres) = omega arith
+byte-in-tables (spanLength x) = omega arith
 byte-in-tables exchangeShare = omega arith
 
 -- an entry of a table is one of sixteen numbers

@@ -68,7 +68,7 @@ module _ (new : EdgeToAdd) where
       rw (to .table-is)
       record {
         holds = rw add-one (sound-after named);
-        state-is = rw add-one (state-is (grows .book-after) (grows .marked-after));
+        state-is = rw add-one (state-is (grows .book-after) (grows .marked-after) (grows .surveys-after));
         components-changed = changes-written (vertexArea limits) n n (growth .components) t after (le-refl n) components;
         bridge-blocks-changed = changes-written (bridgeBlockArea limits) n n (growth .«bridge_blocks») t after (le-refl n) bridge-blocks;
         blocks-changed = rw add-one (changes-written (edgeArea limits) m (suc m) (growth .blocks) t after (omega arith) blocks);

@@ -39,6 +39,7 @@ use Rattle.forest.proofs.Beyond.{frame-beyond}
 use Rattle.forest.proofs.KindWords.{SameWords, names-same, kind-same, kind-agree, kind-new, names-new, new-group-other, new-group-name, counts-new}
 use Rattle.forest.proofs.Networks.{component-groups, bridge-block-groups, edge-count, vertex-count, book-is, state-is}
 use Rattle.forest.proofs.Frames.{Frame, _then_, frame-more, frame-vertex, frame-component, frame-bridge-block, same-components, same-bridge-blocks, same-blocks, same-above, same-edges}
+use Rattle.forest.proofs.KeptSurveys.{same-surveys}
 use Rattle.forest.proofs.MarkWords.{marked-unknown, marked-same, marked-more, marksStored, frame-marks, marks-elsewhere, stored-marks, stored-mark}
 
 -- one vertex more changes no edge, and no vertex is on another block
@@ -362,6 +363,6 @@ module _ (limits : Limits) (n m : ℕ) (t : List ℕ) (valid : Valid limits n m 
   vertex-added named =
       record {
         holds = rw add-one record { valid = valid-after; bridges-named = rw book (bridges-named-vertex (bookOf limits n m t) named) };
-        state-is = rw add-one (state-is book marked-after);
+        state-is = rw add-one (state-is book marked-after (same-surveys whole m (valid .edges-fit) refl));
         same-beyond = frame-beyond whole;
       }

@@ -47,6 +47,10 @@ blockColumns = columnsFrom 0 Column.perBlock
 abbrev pub edgeColumns : List ℕ
 edgeColumns = Column.ends ∷ Column.duct ∷ []
 
+-- The columns in which surveys are kept: whether one is, in the word of the duct, and its day and metres.
+abbrev pub surveyColumns : List ℕ
+surveyColumns = Column.duct ∷ Column.survey ∷ []
+
 -- The columns of marks: of how many marks bridge-blocks have, and of which vertices are marked.
 abbrev pub markColumns : List ℕ
 markColumns = Column.ofBridgeBlocks Column.markCount ∷ Column.mark ∷ []

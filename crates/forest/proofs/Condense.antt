@@ -23,7 +23,7 @@ use Rattle.forest.proofs.Networks.{edge-count, book-is}
 use Rattle.forest.proofs.NamesStay.{rename-stays}
 use Rattle.forest.proofs.Frames.{Frame, same-components, same-bridge-blocks}
 use Rattle.forest.proofs.MarkWords.{same-marked}
-use Rattle.forest.proofs.EdgeToAdd.{EdgeToAdd, edgeOf, before, after, Within, edgeStored, Grows, network-after, valid-with-edge}
+use Rattle.forest.proofs.EdgeToAdd.{EdgeToAdd, edgeOf, before, after, Within, edgeStored, Grows, network-after, surveys-with-edge, valid-with-edge}
 use Rattle.forest.proofs.Beyond.{frame-beyond}
 use Rattle.forest.proofs.Changes.{ChangesListed, changes-around, no-names-changed}
 use Rattle.forest.proofs.CondenseTables.{bridge-blocks-law, blocks-law, block-words, bridge-block-words, behind-bridge-blocks, behind-stored, whole}
@@ -131,6 +131,7 @@ module _ (new : EdgeToAdd) (within : Within new) where
         valid-after = valid-with-edge new network-more (all .same-length) components bridge-blocks marks blocks forest;
         book-after = book-is network-more component-names bridge-block-names block-names;
         marked-after = same-marked all n (valid .vertices-fit) refl;
+        surveys-after = surveys-with-edge new (behind-stored new within) refl;
         components = no-names-changed (vertexArea limits) n n t t′ (le-refl n) (λ x h. component-words Column.name x refl h);
         bridge-blocks = bridge-blocks-changed;
         blocks = blocks-changed;

@@ -23,9 +23,8 @@ use Rattle.naming.proofs.Equivalent.{Equivalent}
 use Rattle.naming.proofs.Listed.{tabulate-first, map-tabulate}
 use Rattle.naming.proofs.Merge.{inMerged}
 use Rattle.numbers.specs.declared.Limits.{Limits}
-use Rattle.table.specs.Inside.Column
-use Rattle.table.specs.Inside.Layout.{cell, edgeArea}
 use Rattle.forest.specs.Rule.{table-rule}
+use Rattle.forest.specs.Inside.Words.{ductOf}
 use Rattle.forest.specs.Inside.Climb.{pathVertex, pathEdge}
 use Rattle.forest.specs.Inside.Route.{stepAt, stepsOf}
 use Rattle.forest.specs.Inside.Tree.{inStepDuct, mergedVertices}
@@ -71,11 +70,11 @@ module _ {new : EdgeToAdd} {t : List ℕ} {k : ℕ} (w : PathWritten new t k)
   rule-is = table-rule
 
   -- the table has the new edge's duct, and that of the path's first edge
-  duct-new : cell t (edgeArea limits) Column.duct m ≡ d
+  duct-new : ductOf t limits m ≡ d
   unfolding storedEdge edgeInDuct
   duct-new = ap (λ (e : Edge). e .duct) (kept m (omega arith) ∙ stored-new new)
 
-  duct-first : cell t (edgeArea limits) Column.duct first ≡ edge g first .duct
+  duct-first : ductOf t limits first ≡ edge g first .duct
   unfolding storedEdge edgeInDuct
   duct-first =
       ap (λ (e : Edge). e .duct)

@@ -2,8 +2,9 @@
 -- behind it.
 use mathlib.Core.Bool.{true, false}
 use mathlib.Core.List.{List}
-use mathlib.Core.Path.{_≡_, refl, _∙_, ap₂, subst}
+use mathlib.Core.Path.{_≡_, refl, _∙_, ap, ap₂, subst}
 use Prim.Native.Nat.{ℕ, suc, _+_, _*_, _/_, _%_, _<_}
+use native.Mathlib.Nat.{mod-eq-of-lt}
 use native.Mathlib.Omega.{arith}
 use lib.ListN.{length}
 use lib.Dec.{eqb}
@@ -24,11 +25,12 @@ use Rattle.table.specs.Inside.KindValid.{KindValid, Counts}
 use Rattle.table.proofs.Cells.{length-put, cell-put-same, cell-put-other-column, cell-put-elsewhere}
 use Rattle.table.proofs.Halves.{high-half, low-half}
 use Rattle.forest.specs.Inside.Tree.{Grown, edgeTable}
-use Rattle.forest.specs.Inside.Valid.{storedEdge, networkOf, bookOf, markedIn, ForestValid, Valid}
+use Rattle.forest.specs.Inside.Valid.{storedEdge, networkOf, bookOf, markedIn, surveysIn, ForestValid, Valid}
 use Rattle.forest.specs.Promise.{SameBeyond}
-use Rattle.forest.proofs.Columns.{within, apart, edgeColumns, within-among}
+use Rattle.forest.proofs.Columns.{within, apart, edgeColumns, surveyColumns, within-among}
 use Rattle.forest.proofs.Networks.{SameEdges, network-same, vertex-count, edge-count}
 use Rattle.forest.proofs.Frames.{Frame, _then_, frame-edge, same-edges}
+use Rattle.forest.proofs.KeptSurveys.{kept-same, none-kept, surveys-same, surveys-more, same-surveys}
 use Rattle.forest.proofs.Changes.{ChangesListed}
 
 -- A valid table of n vertices and m edges that has room for one edge more, and that edge: its ends, two different vertices of the table,
@@ -46,9 +48,10 @@ pub record EdgeToAdd : Type 0 where
   pub a-known : a < n
   pub b-known : b < n
   pub differ : a ≡ b → ⊥
+  pub duct-small : d < 65536
 
 module _ (new : EdgeToAdd) where
-  open EdgeToAdd new using (limits, n, m, t, valid, room, a, b, d, a-known, b-known, differ)
+  open EdgeToAdd new using (limits, n, m, t, valid, room, a, b, d, a-known, b-known, differ, duct-small)
 
   -- The edge; the network without it, and with it.
   abbrev pub edgeOf : Edge
@@ -77,6 +80,7 @@ module _ (new : EdgeToAdd) where
     pub valid-after : Valid limits n (suc m) (grown .table)
     pub book-after : bookOf limits n (suc m) (grown .table) ≡ enterEdge (bookOf limits n m t) edgeOf
     pub marked-after : (x : ℕ) → markedIn limits n (grown .table) x ≡ markedIn limits n t x
+    pub surveys-after : surveysIn limits (suc m) (grown .table) ≡ surveysIn limits m t
     -- the items of each kind that change their name are written down
     pub components : ChangesListed (vertexArea limits) n n (grown .components) t (grown .table)
     pub bridge-blocks : ChangesListed (bridgeBlockArea limits) n n (grown .bridgeBlocks) t (grown .table)
@@ -108,21 +112,31 @@ module _ (new : EdgeToAdd) where
       frame-edge limits vs es t Column.ends m _ (omega arith) room (within-among edgeColumns es q Column.ends refl)
       then frame-edge limits vs es _ Column.duct m d (omega arith) room (within-among edgeColumns es q Column.duct refl)
 
-  -- the old edges stay
+  -- the words of the old edges stay
+  old-word : (c s : ℕ) → s < m → cell edgeStored (edgeArea limits) c s ≡ cell t (edgeArea limits) c s
+  unfolding edgeTable
+  old-word c s h =
+      cell-put-elsewhere _ (edgeArea limits) Column.duct m d c s room (omega (arith, room)) (λ q. omega arith)
+      ∙ cell-put-elsewhere t (edgeArea limits) Column.ends m _ c s room (omega (arith, room)) (λ q. omega arith)
+
+  -- so do those edges
   pub stored-old : SameEdges limits m t edgeStored
-  unfolding storedEdge edgeTable
-  stored-old s h = ap₂ (λ (e d : ℕ). edgeInDuct (e / 65536) (e % 65536) d) (word Column.ends) (word Column.duct)
-    where
-      word : (c : ℕ) → cell edgeStored (edgeArea limits) c s ≡ cell t (edgeArea limits) c s
-      word c =
-          cell-put-elsewhere _ (edgeArea limits) Column.duct m d c s room (omega (arith, room)) (λ q. omega arith)
-          ∙ cell-put-elsewhere t (edgeArea limits) Column.ends m _ c s room (omega (arith, room)) (λ q. omega arith)
+  unfolding storedEdge
+  stored-old s h =
+      ap₂ (λ (e d : ℕ). edgeInDuct (e / 65536) (e % 65536) (d % 65536)) (old-word Column.ends s h) (old-word Column.duct s h)
+
+  -- the new edge's duct is its whole word
+  duct-word : cell edgeStored (edgeArea limits) Column.duct m ≡ d
+  unfolding edgeTable
+  duct-word =
+      cell-put-same _ (edgeArea limits) Column.perEdge Column.duct m d
+      (omega (arith, valid .long, length-put t (edgeArea limits) Column.ends m (a % 65536 * 65536 + b % 65536))) (omega arith) room
 
   -- the new edge is read as it was stored
   pub stored-new : storedEdge edgeStored limits m ≡ edgeOf
   unfolding storedEdge edgeTable
   stored-new =
-      ap₂ (λ (e d : ℕ). edgeInDuct (e / 65536) (e % 65536) d) ends duct
+      ap₂ (λ (e d : ℕ). edgeInDuct (e / 65536) (e % 65536) d) ends (ap (λ (w : ℕ). w % 65536) duct-word ∙ mod-eq-of-lt duct-small)
       ∙ ap₂ (λ (x y : ℕ). edgeInDuct x y d) (high-half a b a-small b-small) (low-half a b a-small b-small)
     where
       a-small : a < 65536
@@ -136,11 +150,6 @@ module _ (new : EdgeToAdd) where
           cell-put-other-column _ (edgeArea limits) Column.duct m d Column.ends m room room (λ q. omega arith)
           ∙ cell-put-same t (edgeArea limits) Column.perEdge Column.ends m _ (omega (arith, valid .long)) (omega arith) room
 
-      duct : cell edgeStored (edgeArea limits) Column.duct m ≡ d
-      duct =
-          cell-put-same _ (edgeArea limits) Column.perEdge Column.duct m d
-          (omega (arith, valid .long, length-put t (edgeArea limits) Column.ends m (a % 65536 * 65536 + b % 65536))) (omega arith) room
-
   network-stored : networkOf limits n (suc m) edgeStored ≡ after
   unfolding networkOf addEdge tabulate
   network-stored = rw (stored-new, tabulate-same m (storedEdge edgeStored limits) (storedEdge t limits) stored-old)
@@ -148,6 +157,18 @@ module _ (new : EdgeToAdd) where
   -- so a table that keeps the stored edges holds the network with the new one
   pub network-after : {vs es t′ : List ℕ} → Frame limits vs es edgeStored t′ → apart edgeColumns es ≡ true → networkOf limits n (suc m) t′ ≡ after
   network-after {vs} {es} {t′} f q = network-same limits n (suc m) edgeStored t′ (same-edges f (suc m) room q) ∙ network-stored
+
+  -- nothing is kept of the new edge, and of the old ones what was
+  surveys-stored : surveysIn limits (suc m) edgeStored ≡ surveysIn limits m t
+  surveys-stored =
+      surveys-more limits m edgeStored (none-kept limits edgeStored m (rw duct-word duct-small))
+      ∙ surveys-same limits m t edgeStored
+      (λ s h. kept-same limits t edgeStored s (old-word Column.duct s h) (old-word Column.survey s h))
+
+  -- so a table that keeps those words has the surveys from before
+  pub surveys-with-edge : {vs es t′ : List ℕ} → Frame limits vs es edgeStored t′ → apart surveyColumns es ≡ true
+      → surveysIn limits (suc m) t′ ≡ surveysIn limits m t
+  surveys-with-edge f q = same-surveys f (suc m) room q ∙ surveys-stored
 
   -- it is valid if the names, sizes, marks and forest that it holds are
   pub valid-with-edge : {t′ : List ℕ} → networkOf limits n (suc m) t′ ≡ after → length t′ ≡ length t

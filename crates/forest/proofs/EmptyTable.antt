@@ -20,7 +20,7 @@ use Rattle.table.specs.Inside.Column
 use Rattle.table.specs.Inside.Layout.{bridgeBlockArea}
 use Rattle.table.specs.Inside.KindValid.{namesIn, KindValid, Counts}
 use Rattle.forest.specs.Rule.{tableRule}
-use Rattle.forest.specs.Inside.Valid.{networkOf, bookOf, markedIn, ForestValid}
+use Rattle.forest.specs.Inside.Valid.{networkOf, bookOf, markedIn, surveysIn, ForestValid}
 use Rattle.forest.specs.Promise.{wordsNeeded, Holds, stateOf, Begun}
 use Rattle.forest.proofs.Networks.{edge-count, state-is}
 
@@ -66,7 +66,7 @@ proper-none g e =
 -- any table that is long enough holds no vertices and no edges, and the empty state
 pub begun : (limits : Limits) (t : List ℕ) → wordsNeeded limits ≤ length t → limits .vertices ≤ 4096 → limits .edges ≤ 8192
     → Begun limits t (record { limits = limits; vertices = 0; edges = 0 })
-unfolding wordsNeeded Holds stateOf bookOf markedIn emptyState emptyBook networkOf namesIn tabulate
+unfolding wordsNeeded Holds stateOf bookOf markedIn surveysIn emptyState emptyBook networkOf namesIn tabulate
 begun limits t long vertices edges =
     record {
       shape-is = refl;
@@ -88,5 +88,5 @@ begun limits t long vertices edges =
                 };
             bridges-named = bridges-named-empty tableRule;
           };
-      state-is = state-is refl (λ x. rw (ge-ltb x 0 (omega arith)));
+      state-is = state-is refl (λ x. rw (ge-ltb x 0 (omega arith))) refl;
     }

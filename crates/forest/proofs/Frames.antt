@@ -174,7 +174,9 @@ module _ {limits : Limits} {vs es : List ℕ} {t t′ : List ℕ} (f : Frame lim
   pub same-edges : (m : ℕ) → m ≤ limits .edges → apart edgeColumns es ≡ true → SameEdges limits m t t′
   unfolding storedEdge
   same-edges m h a s k =
-      ap₂ (λ (e d : ℕ). edgeInDuct (e / 65536) (e % 65536) d) (word Column.ends (omega arith) refl) (word Column.duct (omega arith) refl)
+      ap₂ (λ (e d : ℕ). edgeInDuct (e / 65536) (e % 65536) (d % 65536))
+      (word Column.ends (omega arith) refl)
+      (word Column.duct (omega arith) refl)
     where
       word : (d : ℕ) → d < Column.perEdge → among edgeColumns d ≡ true → cell t′ (edgeArea limits) d s ≡ cell t (edgeArea limits) d s
       word d l i = f .edge-word d s l (omega arith) (apart-among edgeColumns es a d i)

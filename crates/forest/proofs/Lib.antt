@@ -27,6 +27,7 @@ pub mod EdgeToAdd
 pub mod EmptyTable
 pub mod Columns
 pub mod Frames
+pub mod KeptSurveys
 pub mod KindWords
 pub mod Link
 pub mod LinkDepth
@@ -48,6 +49,8 @@ pub mod QuerySteps
 pub mod Raise
 pub mod Roots
 pub mod Scratch
+pub mod Surveys
+pub mod SurveyWords
 pub mod TreeSteps
 pub mod Turn
 pub mod TurnSteps

@@ -26,7 +26,7 @@ use Rattle.forest.proofs.Networks.{network-rule, edge-count, book-is}
 use Rattle.forest.proofs.NamesStay.{rename-stays}
 use Rattle.forest.proofs.Frames.{Frame, _then_, same-components, same-bridge-blocks}
 use Rattle.forest.proofs.MarkWords.{same-marks, same-marked}
-use Rattle.forest.proofs.EdgeToAdd.{EdgeToAdd, edgeOf, before, after, Apart, edgeStored, Grows, stored-frame, network-after, valid-with-edge}
+use Rattle.forest.proofs.EdgeToAdd.{EdgeToAdd, edgeOf, before, after, Apart, edgeStored, Grows, stored-frame, network-after, surveys-with-edge, valid-with-edge}
 use Rattle.forest.proofs.Beyond.{frame-beyond}
 use Rattle.forest.proofs.Changes.{ChangesListed, changes-around, no-names-changed}
 use Rattle.forest.proofs.LinkMerge.{endsListed, merge, before-merge, law}
@@ -186,6 +186,7 @@ module _ (new : EdgeToAdd) (apart : Apart new) where
         valid-after = valid-with-edge new network-more (whole .same-length) components bridge-blocks-named marks blocks forest;
         book-after = book-is network-more component-names bridge-block-names block-names;
         marked-after = marked-stays;
+        surveys-after = surveys-with-edge new from-stored refl;
         components = components-changed;
         bridge-blocks =
             no-names-changed (bridgeBlockArea limits) n n t t′ (le-refl n) (λ x h. same-bridge-block-words Column.name x refl h);

@@ -11,7 +11,7 @@ use Rattle.graph.specs.Groups.{bridgeBlock}
 use Rattle.graph.proofs.Truth.{true-or-false, not-both, eqb-eq, eqb-ne}
 use Rattle.graph.proofs.Below.{count-same}
 use Rattle.naming.specs.BridgeNames.{BridgesNamed}
-use Rattle.naming.specs.State.{marksAfter, afterRecording, marksWith}
+use Rattle.naming.specs.State.{marksAfter, surveysAfter, afterRecording, marksWith}
 use Rattle.naming.proofs.Count.{count-at-most, count-with}
 use Rattle.numbers.specs.declared.Limits.{Limits}
 use Rattle.table.specs.Inside.Column
@@ -29,6 +29,7 @@ use Rattle.forest.proofs.Beyond.{frame-beyond}
 use Rattle.forest.proofs.Networks.{SameEdges, state-is}
 use Rattle.forest.proofs.Frames.{Frame, frame-more, same-bridge-blocks, same-edges}
 use Rattle.forest.proofs.MarkWords.{marked-known, marked-same, marksStored, frame-marks, other-marks, other-mark, stored-marks, stored-mark}
+use Rattle.forest.proofs.KeptSurveys.{same-surveys}
 use Rattle.forest.proofs.ValidFrame.{valid-with-marks, same-book}
 
 module _ (limits : Limits) (n m : ℕ) (t : List ℕ) (valid : Valid limits n m t) (x : ℕ) (known : x < n)
@@ -143,11 +144,11 @@ module _ (limits : Limits) (n m : ℕ) (t : List ℕ) (valid : Valid limits n m 
 
   -- marking the vertex keeps the promise
   pub vertex-marked : BridgesNamed (bookOf limits n m t) → VertexMarked (record { limits = limits; vertices = n; edges = m }) x t (markTable t limits x)
-  unfolding Holds stateOf afterRecording marksAfter
+  unfolding Holds stateOf afterRecording marksAfter surveysAfter
   vertex-marked named =
       record {
         holds = record { valid = valid-with-marks valid (frame-more frame refl refl) edges marks; bridges-named = rw book named };
-        state-is = state-is book marked-after;
+        state-is = state-is book marked-after (same-surveys frame m (valid .edges-fit) refl);
         same-beyond = frame-beyond frame;
       }
 

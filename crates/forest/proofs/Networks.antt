@@ -60,6 +60,6 @@ pub book-is : {b b′ : Book} → b .network ≡ b′ .network → b .components
     → b ≡ b′
 book-is p q r s = λ i. record { network = p i; components = q i; bridgeBlocks = r i; blocks = s i }
 
--- two states with the same book and the same marked vertices are one
-pub state-is : {s s′ : State} → s .book ≡ s′ .book → ((x : ℕ) → s .marked x ≡ s′ .marked x) → s ≡ s′
-state-is p q = λ i. record { book = p i; marked = λ x. q x i }
+-- two states with the same book, the same marked vertices and the same surveys are one
+pub state-is : {s s′ : State} → s .book ≡ s′ .book → ((x : ℕ) → s .marked x ≡ s′ .marked x) → s .surveys ≡ s′ .surveys → s ≡ s′
+state-is p q r = λ i. record { book = p i; marked = λ x. q x i; surveys = r i }

@@ -22,12 +22,14 @@ use Rattle.forest.proofs.KindWords.{names-same, kind-same, counts-same}
 use Rattle.forest.proofs.Networks.{SameEdges, edge-count, network-same, book-is, state-is}
 use Rattle.forest.proofs.Frames.{Frame, frame-more, same-components, same-bridge-blocks, same-blocks, same-above, same-edges}
 use Rattle.forest.proofs.MarkWords.{same-marks, same-marked}
+use Rattle.forest.proofs.KeptSurveys.{same-surveys}
 use Rattle.forest.proofs.ClimbTable.{Scratched}
 use Rattle.forest.proofs.Beyond.{frame-beyond}
 
--- Only scratch columns and those of marks change, and the words of edges that are not entered yet.
+-- Only scratch columns and those of marks and surveys change, and the words of edges that are not entered yet.
 module _ {limits : Limits} {n m : ℕ} {t t′ : List ℕ} (valid : Valid limits n m t)
-    (f : Frame limits (markColumns ++ Column.changed ∷ Column.ofBridgeBlocks Column.changed ∷ scratch) (Column.changed ∷ edgeColumns) t t′)
+    (f : Frame limits (markColumns ++ Column.changed ∷ Column.ofBridgeBlocks Column.changed ∷ scratch)
+    (Column.changed ∷ Column.survey ∷ edgeColumns) t t′)
     (edges : SameEdges limits m t t′) where
   abbrev g : Network
   g = networkOf limits n m t
@@ -101,9 +103,9 @@ module _ {limits : Limits} {n m : ℕ} {t t′ : List ℕ} (valid : Valid limits
       (names-same t t′ (bridgeBlockArea limits) n (same-bridge-blocks f n (valid .vertices-fit) refl))
       (names-same t t′ (edgeArea limits) m (same-blocks f m (valid .edges-fit) refl))
 
--- Only scratch columns change, and the words of edges that are not entered yet: a table stays valid.
+-- Only scratch columns and those of surveys change, and the words of edges that are not entered yet: a table stays valid.
 pub valid-kept : {limits : Limits} {n m : ℕ} {t t′ : List ℕ} → Valid limits n m t
-    → Frame limits (Column.changed ∷ Column.ofBridgeBlocks Column.changed ∷ scratch) (Column.changed ∷ edgeColumns) t t′
+    → Frame limits (Column.changed ∷ Column.ofBridgeBlocks Column.changed ∷ scratch) (Column.changed ∷ Column.survey ∷ edgeColumns) t t′
     → SameEdges limits m t t′
     → Valid limits n m t′
 valid-kept {limits} {n} {m} {t} {t′} valid f edges =
@@ -148,7 +150,11 @@ module _ (shape : Shape) {t t′ : List ℕ} (holds : Holds shape t) (f : Scratc
 
   pub scratch-state : stateOf shape t′ ≡ stateOf shape t
   unfolding Holds stateOf
-  scratch-state = state-is (frame-book (holds .valid) f) (same-marked f (shape .vertices) (holds .valid .vertices-fit) refl)
+  scratch-state =
+      state-is
+      (frame-book (holds .valid) f)
+      (same-marked f (shape .vertices) (holds .valid .vertices-fit) refl)
+      (same-surveys f (shape .edges) (holds .valid .edges-fit) refl)
 
   -- so a list is written down there
   pub list-written : (at : ℕ → ℕ) (count : ℕ) (list : List ℕ) → tabulate count at ≡ list → ListWritten shape t t′ at count list

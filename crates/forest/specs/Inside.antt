@@ -4,4 +4,5 @@ pub mod Climb
 pub mod Route
 pub mod Tree
 pub mod Queries
+pub mod Surveys
 pub mod Valid

@@ -12,7 +12,8 @@ use Rattle.graph.specs.Network.{Network, edgeInDuct, Proper, edgeCount, mates}
 use Rattle.graph.specs.Groups.{component, bridgeBlock}
 use Rattle.naming.specs.Rename.{Grouping, Change, nameOf, changesBetween}
 use Rattle.naming.specs.Book.{Book, vertex, edge}
-use Rattle.naming.specs.State.{State, emptyState, afterAddition, recordsMark, afterRecording}
+use Rattle.naming.specs.Survey.{Survey}
+use Rattle.naming.specs.State.{State, Agree, emptyState, afterAddition, recordsMark, recordsSurvey, afterRecording}
 use Rattle.numbers.specs.declared.Limits.{Limits}
 use Rattle.table.specs.Inside.Column
 use Rattle.table.specs.Inside.Layout.{cell, vertexArea, edgeArea}
@@ -20,11 +21,13 @@ use Rattle.forest.specs.declared.Shape.{Shape}
 use Rattle.forest.specs.declared.VertexGroups.{VertexGroups}
 use Rattle.forest.specs.declared.VertexGroups.the-variants as G
 use Rattle.forest.specs.declared.Growth.{Growth}
+use Rattle.forest.specs.declared.Length.{Length}
+use Rattle.forest.specs.declared.Length.the-variants as H
 use Rattle.forest.specs.declared.Shared.{Shared}
 use Rattle.forest.specs.declared.Shared.the-variants.{Block, Nothing}
 pub use Rattle.forest.specs.Rule.{tableRule, table-rule}
 use Rattle.forest.specs.Inside.Words.{groupArea}
-use Rattle.forest.specs.Inside.Valid.{Sound, storedEdge, networkOf, bookOf, markedIn}
+use Rattle.forest.specs.Inside.Valid.{Sound, storedEdge, networkOf, bookOf, markedIn, surveysIn}
 
 -- How many words a table takes for so many vertices and edges.
 unfoldable pub wordsNeeded : Limits → ℕ
@@ -39,12 +42,13 @@ words-needed limits = refl
 unfoldable pub Holds : Shape → List ℕ → Type 0
 Holds shape t = Sound (shape .limits) (shape .vertices) (shape .edges) t
 
--- The state that it holds.
+-- The state that it holds. Of each edge's surveys it keeps one.
 unfoldable pub stateOf : Shape → List ℕ → State
 stateOf shape t =
     record {
       book = bookOf (shape .limits) (shape .vertices) (shape .edges) t;
       marked = markedIn (shape .limits) (shape .vertices) t;
+      surveys = surveysIn (shape .limits) (shape .edges) t;
     }
 
 abbrev pub bookIn : Shape → List ℕ → Book
@@ -166,6 +170,17 @@ pub record VertexMarked (shape : Shape) (x : ℕ) (old new : List ℕ) : Type 0 
   pub holds : Holds shape new
   pub state-is : stateOf shape new ≡ afterRecording (stateOf shape old) (recordsMark x)
   pub same-beyond : SameBeyond (shape .limits) old new
+
+-- A survey of an edge is entered: what is kept agrees with the whole list of them.
+pub record SurveyEntered (shape : Shape) (r : Survey) (old new : List ℕ) : Type 0 where
+  pub holds : Holds shape new
+  pub agrees : Agree (stateOf shape new) (afterRecording (stateOf shape old) (recordsSurvey r))
+  pub same-beyond : SameBeyond (shape .limits) old new
+
+-- The length that a survey gives, if there is one.
+abbrev pub lengthGiven : Option Survey → Length
+lengthGiven none = H.Nothing
+lengthGiven (some r) = H.Metres (r .metres)
 
 -- An edge has no mate beside itself.
 abbrev pub Alone : Network → ℕ → Type 0

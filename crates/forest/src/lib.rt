@@ -1,5 +1,6 @@
-// The working table of the register: names and sizes of components, bridge-blocks and blocks, the marks of vertices, and one block
-// forest, in words that the caller lends. The operations below are all that a caller needs; what they promise stands in specs/Promise.
+// The working table of the register: names and sizes of components, bridge-blocks and blocks, the marks of vertices, the surveys of edges,
+// and one block forest, in words that the caller lends. The operations below are all that a caller needs; what they promise stands in
+// specs/Promise.
 ghost use mathlib.Core.Bool.{true, false};
 ghost use mathlib.Core.List.{_++_};
 ghost use mathlib.Core.Path.{_≡_};
@@ -10,23 +11,25 @@ ghost use Rattle.graph.specs.Groups.{component, bridge, bridgeBlock};
 ghost use Rattle.graph.specs.Block.{sharedBlock};
 ghost use Rattle.graph.specs.Between.{bridgesBetween, cutsBetween};
 ghost use Rattle.naming.specs.Rename.{size, nameOf};
+ghost use Rattle.naming.specs.Survey.{holding};
 ghost use Rattle.naming.specs.State.{marksWith};
 ghost use Rattle.forest.specs.Inside.Words.{groupArea};
-ghost use Rattle.forest.specs.Promise.{wordsNeeded, Holds, stateOf, bookIn, networkIn, Begun, VertexAdded, EdgeAdded, VertexMarked, Alone, ListWritten};
+ghost use Rattle.forest.specs.Promise.{wordsNeeded, Holds, stateOf, bookIn, networkIn, Begun, VertexAdded, EdgeAdded, VertexMarked, SurveyEntered, lengthGiven, Alone, ListWritten};
 ghost use Rattle.forest.specs.Promise.{vertexNames, vertexGroups, vertexChangeAt, edgeChangeAt, sharedName, bridgeAt, cutAt};
 ghost use Rattle.forest.specs.Promise.{scratchWords, vertexScratch, edgeScratch, VertexScratchStored, EdgeScratchStored};
 
 pub mod climb;
 pub mod query;
+pub mod survey;
 pub mod tree;
 
 use numbers::Duct;
 use numbers::Edge;
 use numbers::Limits;
+use numbers::Measure;
 use numbers::Vertex;
 use table::words::Area;
 use table::words::CHANGED;
-use table::words::DUCT;
 use table::words::ENDS;
 use table::words::MARK;
 use table::words::MARK_COUNT;
@@ -85,6 +88,12 @@ pub struct Growth {
 // The block that two vertices share, by its name, or that there is none.
 pub enum Shared {
     Block(Edge),
+    Nothing,
+}
+
+// The length of an edge in metres, or that there is none.
+pub enum Length {
+    Metres(u32),
     Nothing,
 }
 
@@ -170,6 +179,24 @@ pub fn marks_with(t: &[u32], shape: Shape, x: Vertex) -> u32
     let limits = shape.limits;
     let name = word(t, bridge_block_area(limits), NAME, x.0);
     word(t, bridge_block_area(limits), MARK_COUNT, name)
+}
+
+// Enters a survey of an edge.
+pub fn enter_survey(t: &mut [u32], shape: Shape, s: Edge, measure: Measure)
+    requires { ⌜ Holds shape (now t) × (s .0 < shape .edges) ⌝ }
+    ensures { λ r. ⌜ SurveyEntered shape (record { measured = s .0; day = measure .day; metres = measure .metres }) (now (t .entry)) (now (t .exit)) ⌝ }
+{
+    let limits = shape.limits;
+    survey::keep_survey(t, limits, s, measure);
+}
+
+// The length of an edge, by the survey that holds.
+pub fn length_of(t: &[u32], shape: Shape, s: Edge) -> Length
+    requires { ⌜ Holds shape (now t) × (s .0 < shape .edges) ⌝ }
+    ensures { λ r. ⌜ r ≡ lengthGiven (holding (stateOf shape (now (t .entry)) .surveys) (s .0)) ⌝ }
+{
+    let limits = shape.limits;
+    survey::kept_length(t, limits, s)
 }
 
 // The words of a kind of groups of vertices.
@@ -258,7 +285,7 @@ pub fn may_have_mates(t: &[u32], shape: Shape, s: Edge) -> bool
     ensures { λ r. ⌜ (r ≡ false → Alone (networkIn shape (now (t .entry))) (s .0)) ⌝ }
 {
     let limits = shape.limits;
-    word(t, edge_area(limits), DUCT, s.0) != 0
+    survey::duct_of(t, limits, s) != 0
 }
 
 // The block that has an edge at each of two different vertices.

@@ -9,10 +9,10 @@ use crate::climb::block_of;
 use crate::climb::climb;
 use crate::climb::top;
 use crate::climb::up;
+use crate::survey::duct_of;
 use numbers::Edge;
 use numbers::Limits;
 use numbers::Vertex;
-use table::words::DUCT;
 use table::words::ENDS;
 use table::words::NAME;
 use table::words::PATH_EDGE;
@@ -67,11 +67,11 @@ fn ends_agree(ends: u32, other: u32) -> bool
 pub(crate) fn lost_together(t: &[u32], limits: Limits, s: Edge, other: Edge) -> bool
     ensures { λ r. ⌜ r ≡ lostTogether (now (t .entry)) limits (s .0) (other .0) ⌝ }
 {
-    let duct = word(t, edge_area(limits), DUCT, s.0);
+    let duct = duct_of(t, limits, s);
     if duct == 0 {
         return false;
     }
-    if word(t, edge_area(limits), DUCT, other.0) != duct {
+    if duct_of(t, limits, other) != duct {
         return false;
     }
     let ends = word(t, edge_area(limits), ENDS, s.0);

@@ -12,6 +12,7 @@ use crate::climb::climb;
 use crate::climb::depth;
 use crate::climb::top;
 use crate::climb::up;
+use crate::survey::duct_of;
 use numbers::Duct;
 use numbers::Edge;
 use numbers::Limits;
@@ -228,12 +229,12 @@ fn in_step_duct(t: &[u32], limits: Limits, e: Edge, steps: u32) -> bool
     if steps != 1 {
         return false;
     }
-    let duct = word(t, edge_area(limits), DUCT, e.0);
+    let duct = duct_of(t, limits, e);
     if duct == 0 {
         return false;
     }
     let other = word(t, vertex_area(limits), PATH_EDGE, 0);
-    word(t, edge_area(limits), DUCT, other) == duct
+    duct_of(t, limits, Edge(other)) == duct
 }
 
 // How many of the path's vertices have their bridge-blocks merged: only the first, which changes nothing, where e lies in the step's duct.
@@ -288,7 +289,7 @@ fn store_edge(t: &mut [u32], limits: Limits, e: Edge, a: Vertex, b: Vertex, duct
 {
     let ends = (a.0 % 65536) * 65536 + b.0 % 65536;
     set_word(t, edge_area(limits), ENDS, e.0, ends);
-    set_word(t, edge_area(limits), DUCT, e.0, duct.0);
+    set_word(t, edge_area(limits), DUCT, e.0, duct.0 as u32);
 }
 
 // One edge more, between two different vertices, in a duct or in none.

@@ -1,5 +1,5 @@
 -- Laws of lists of numbers: their members, no number twice, in order; one number more at the end, turned round, and the list of
--- the numbers below n that pass a test.
+-- the numbers below n that pass a test. And of tests that all in a list pass, whatever it is a list of.
 use mathlib.Core.Bool.{Bool, true, false, not, cond, _||_, _&&_, false≢true, or-true, and-false}
 use mathlib.Core.List.{List, [], _∷_, _++_, reverse, reverse-cons}
 use mathlib.Core.Logic.{_⊎_, inl, inr, ⊎-elim}
@@ -31,6 +31,18 @@ is-in-tail x y l e = or-right (eqb x y) e
 pub is-in-cases : (x y : ℕ) (l : List ℕ) → isIn x (y ∷ l) ≡ true → (x ≡ y) ⊎ (isIn x l ≡ true)
 unfolding isIn
 is-in-cases x y l e = ⊎-elim (λ k. inl (eqb-eq x y k)) inr (or-cases (eqb x y) (isIn x l) e)
+
+-- a test that all of two lists pass, all of the two on end pass
+pub all-in-append : {A : Type 0} (f : A → Bool) (l m : List A) → allIn f l ≡ true → allIn f m ≡ true → allIn f (l ++ m) ≡ true
+unfolding allIn
+all-in-append f [] m a b = b
+all-in-append f (x ∷ l) m a b = and-both (and-left (f x) (allIn f l) a) (all-in-append f l m (and-right (f x) (allIn f l) a) b)
+
+-- and those of the second pass one that all pass
+pub all-in-behind : {A : Type 0} (f : A → Bool) (l m : List A) → allIn f (l ++ m) ≡ true → allIn f m ≡ true
+unfolding allIn
+all-in-behind f [] m a = a
+all-in-behind f (x ∷ l) m a = all-in-behind f l m (and-right (f x) (allIn f (l ++ m)) a)
 
 -- all members pass a test if each does
 pub all-in : (f : ℕ → Bool) (l : List ℕ) → ((x : ℕ) → isIn x l ≡ true → f x ≡ true) → allIn f l ≡ true

@@ -15,8 +15,8 @@ use Rattle.graph.specs.Cycle.{Step, leads, anyStep}
 use Rattle.graph.specs.Travel.{visited}
 use Rattle.graph.specs.Route.{stepsAlong, isRoute, apart, Routes, serve}
 use Rattle.graph.proofs.Truth.{true-or-false, false-of-not, not-both, not-of-false, false-of-not-true, and-left, and-right, and-both}
-use Rattle.graph.proofs.Truth.{or-cases, or-neither, or-neither-left, or-neither-right, eqb-swap, ltb-lt, lt-ltb}
-use Rattle.graph.proofs.Members.{all-in, each-in, is-in-head, is-in-tail, is-in-cases, distinct-head, distinct-tail, distinct-cons}
+use Rattle.graph.proofs.Truth.{or-neither, or-neither-left, or-neither-right, eqb-swap, ltb-lt, lt-ltb}
+use Rattle.graph.proofs.Members.{all-in, all-in-append, each-in, is-in-head, is-in-tail, is-in-cases, distinct-head, distinct-tail, distinct-cons}
 use Rattle.graph.proofs.Mates.{mates-refl, mates-sym, mates-trans}
 use Rattle.graph.proofs.Walks.{FirstStep, leads-first, walk-joined, leads-component}
 use Rattle.graph.proofs.Joins.{joins-touches, joins-other, touches-no-third}
@@ -53,11 +53,6 @@ distinct-append [] m d e w = e
 distinct-append (x ∷ l) m d e w = distinct-cons x (l ++ m)
     (is-in-append x l m ∙ or-neither (distinct-head x l d) (w x (is-in-head x l)))
     (distinct-append l m (distinct-tail x l d) e (λ y k. w y (is-in-tail y x l k)))
-
--- what passes a test in both of two lists passes it in the two on end
-all-in-append : (f : ℕ → Bool) (l m : List ℕ) → allIn f l ≡ true → allIn f m ≡ true → allIn f (l ++ m) ≡ true
-all-in-append f l m a b = all-in f (l ++ m) (λ x e. ⊎-elim (each-in f l a x) (each-in f m b x)
-    (or-cases (isIn x l) (isIn x m) (sym (is-in-append x l m) ∙ e)))
 
 module _ (g : Network) where
   -- the steps of a walk are those along its edges

@@ -1,5 +1,5 @@
 -- The entry in code: refused at the start, or run, cleared and reported, it leaves what the register leaves.
-use mathlib.Core.Bool.{not}
+use mathlib.Core.Bool.{true, not}
 use mathlib.Core.List.{List, _++_}
 use mathlib.Core.Logic.{_⊎_, inl, inr}
 use mathlib.Core.Option.{Option, none, some}
@@ -10,6 +10,7 @@ use lib.Dec.{leb, ltb}
 use lib.ListN.{length, drop, replicate, length-replicate}
 use lib.Seq.{drop-drop}
 use Rattle.graph.proofs.Truth.{le-leb, lt-ltb, ltb-ge, ge-ltb, or-neither-left, or-neither-right}
+use Rattle.commands.specs.Bytes.{allBytes}
 use Rattle.commands.specs.Refusal.{Refusal, Capacities, firstThatApplies}
 use Rattle.commands.specs.Entry.{workNeeded, shortBuffers, startLines, ran, wholeUnless, wholeRun, numberOf, reportOf, over, Buffers, Outcome, outcome, entryUnder}
 use Rattle.commands.specs.Register.{registerRule, registerRoutes, register}
@@ -56,15 +57,15 @@ cleared-over limits old new same long =
     )
 
 -- what the register leaves is promised
-promised : (caps : Capacities) (journal : List ℕ) (lent : Buffers) (returned : ℕ) (left : Buffers)
+promised : (caps : Capacities) (journal : List ℕ) → allBytes journal ≡ true → (lent : Buffers) (returned : ℕ) (left : Buffers)
     → register caps journal lent ≡ record { returned = returned; buffers = left } → RegisterPromise caps journal lent returned left
-promised caps journal lent returned left e =
+promised caps journal are lent returned left e =
     record {
       returned-is = sym (ap (λ (o : Outcome). o .returned) e);
       work-is = sym (ap (λ (o : Outcome). o .buffers .work) e);
       answers-are = sym answers;
       report-is = sym (ap (λ (o : Outcome). o .buffers .report) e);
-      whole-run = rw answers at (register-whole-run caps journal lent);
+      whole-run = rw answers at (register-whole-run caps journal are lent);
       serves = register-serves;
     }
   where
@@ -85,13 +86,13 @@ module _ (caps : Capacities) (journal : List ℕ) (lent : Buffers) where
   firstLine = firstThatApplies (startLines caps (length journal) (length (lent .work)) (length (lent .report)))
 
   -- a refusal at the start leaves the buffers as they were lent
-  pub promised-at-start : (number : ℕ) → number ≡ numberOf firstLine → (number ≡ 0 → ⊥) → RegisterPromise caps journal lent number lent
+  pub promised-at-start : allBytes journal ≡ true → (number : ℕ) → number ≡ numberOf firstLine → (number ≡ 0 → ⊥) → RegisterPromise caps journal lent number lent
   unfolding register entryUnder wholeRun wholeUnless outcome numberOf
-  promised-at-start number e n = go firstLine refl e
+  promised-at-start are number e n = go firstLine refl e
     where
       go : (o : Option Refusal) → firstLine ≡ o → number ≡ numberOf o → RegisterPromise caps journal lent number lent
       go none d e = absurd (n e)
-      go (some r) d e = promised caps journal lent number lent (rw (d, e))
+      go (some r) d e = promised caps journal are lent number lent (rw (d, e))
 
   ran-whole : (number : ℕ) → number ≡ numberOf firstLine → number ≡ 0
       → wholeRun registerRule registerRoutes caps journal (length (lent .work)) (length (lent .answers)) (length (lent .report))
@@ -117,7 +118,7 @@ module _ (caps : Capacities) (journal : List ℕ) (lent : Buffers) where
       }
 
 -- a run that was cleared behind and reported leaves what the register leaves
-pub promised-by-run : (limits : Limits) (journal : List ℕ) (lent : Buffers) (number : ℕ)
+pub promised-by-run : (limits : Limits) (journal : List ℕ) → allBytes journal ≡ true → (lent : Buffers) (number : ℕ)
     → number ≡ numberOf (firstLine (capacitiesOf limits) journal lent) → number ≡ 0
     → (p : Progress) (work newWork newAnswers report : List ℕ)
     → RunPromise limits (wholeOf (capacitiesOf limits) journal (lent .answers)) p (lent .work) work (lent .answers) newAnswers
@@ -125,10 +126,10 @@ pub promised-by-run : (limits : Limits) (journal : List ℕ) (lent : Buffers) (n
     → report ≡ over (sixNumbers p) (lent .report)
     → RegisterPromise (capacitiesOf limits) journal lent (p .refusal) (record { work = newWork; answers = newAnswers; report = report })
 unfolding register entryUnder outcome reportOf sixNumbers
-promised-by-run limits journal lent number e z p work newWork newAnswers report w worked reported =
+promised-by-run limits journal are lent number e z p work newWork newAnswers report w worked reported =
     let whole = wholeOf (capacitiesOf limits) journal (lent .answers) in
     let refusal-is : p .refusal ≡ numberOf (whole .refusal) = cc (w .numbers-are) in
-    promised (capacitiesOf limits) journal lent (p .refusal) (record { work = newWork; answers = newAnswers; report = report })
+    promised (capacitiesOf limits) journal are lent (p .refusal) (record { work = newWork; answers = newAnswers; report = report })
     (rw (
       ran-whole (capacitiesOf limits) journal lent number e z,
       worked,

@@ -12,6 +12,10 @@ pub mod Advance
 pub mod Log
 pub mod Bound
 pub mod GroupSum
+pub mod Held
+pub mod Surveys
+pub mod SurveyOrder
+pub mod Agree
 pub mod Book
 pub mod BridgeNames
 pub mod AlikeBooks

@@ -2,6 +2,7 @@ pub mod Rename
 pub mod Naming
 pub mod Book
 pub mod BridgeNames
+pub mod Survey
 pub mod State
 pub mod Log
 pub mod Total

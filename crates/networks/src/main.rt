@@ -99,15 +99,15 @@ fn grow(t: &mut [u32], shape: Shape, a: Vertex, b: Vertex, d: Duct) -> Shape
 }
 
 // Adds edges, each given by its two ends and its duct.
-fn grow_all(t: &mut [u32], apart: Shape, edges: &[u32]) -> Shape
+fn grow_all(t: &mut [u32], apart: Shape, edges: &[u16]) -> Shape
     requires { ⌜ Holds apart (now t) ⌝ }
     ensures { λ r. ⌜ Holds r (now (t .exit)) ⌝ }
 {
     let mut shape = apart;
     let mut i: usize = 0;
     while i < edges.len() / 3 {
-        let a = edges[i * 3];
-        let b = edges[i * 3 + 1];
+        let a = edges[i * 3] as u32;
+        let b = edges[i * 3 + 1] as u32;
         let d = edges[i * 3 + 2];
         shape = grow(t, shape, Vertex(a), Vertex(b), Duct(d));
         i += 1;
@@ -238,7 +238,7 @@ fn tell(t: &mut [u32], shape: Shape)
 
 // A network of as many vertices as there is room for, the first and the last of them marked, and the edges with these ends and ducts: makes
 // it in a table, where a table of 256 words is enough, and prints what it tells.
-fn show(title: &[u8], vertices: u16, most: u16, edges: &[u32]) {
+fn show(title: &[u8], vertices: u16, most: u16, edges: &[u16]) {
     let limits = Limits {
         vertices: vertices,
         edges: most,

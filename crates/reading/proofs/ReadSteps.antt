@@ -1,4 +1,4 @@
--- What is read of a command by its byte: the bytes of commands with one operand and with two, and where the operands stand.
+-- What is read of a command by its byte: the bytes of commands with one operand, with two and with three, and where the operands stand.
 use mathlib.Core.Bool.{true, false, _&&_, and-false}
 use mathlib.Core.List.{List}
 use mathlib.Core.Logic.{_⊎_, inl, inr, ⊎-elim, _≢_}
@@ -11,11 +11,11 @@ use lib.ListN.{length, getD, drop}
 use lib.Seq.{getD-drop}
 use Rattle.commands.specs.Bytes.{number}
 use Rattle.graph.proofs.Truth.{true-or-false, eqb-eq, eq-eqb, ne-eqb}
-use Rattle.commands.specs.Command.{Command, addDuctSpan, Form, unknown, takes, forms, form, operand, Reading, unknownByte, cutOff, command, readForm, readCommand}
+use Rattle.commands.specs.Command.{Command, Form, unknown, takes, forms, form, operand, Reading, unknownByte, cutOff, command, readForm, readCommand}
 use Rattle.commands.proofs.Cases.{le-or-gt, gt-leb, impossible}
 use Rattle.commands.proofs.ByPlace.{each-at, _also_}
 use Rattle.commands.proofs.Reading.{widthOf, long-enough, too-short, cut-off, unknown-byte, unknown-exactly, known-bytes}
-use Rattle.reading.specs.Inside.Reads.{OneOperand, TwoOperands, made, formWidth, entryOf, widths, entryWidth, noCommand, cutShort, whole, passOver}
+use Rattle.reading.specs.Inside.Reads.{OneOperand, TwoOperands, ThreeOperands, made, formWidth, entryOf, widths, entryWidth, noCommand, cutShort, whole, passOver}
 
 -- a number from low on that is not low is above it
 pub above : (low n : ℕ) → low ≤ n → n ≢ low → low < n
@@ -39,7 +39,8 @@ width-one byte (inl e) = rw e refl
 width-one byte (inr (inl e)) = rw e refl
 width-one byte (inr (inr (inl e))) = rw e refl
 width-one byte (inr (inr (inr (inl e)))) = rw e refl
-width-one byte (inr (inr (inr (inr e)))) = rw e refl
+width-one byte (inr (inr (inr (inr (inl e))))) = rw e refl
+width-one byte (inr (inr (inr (inr (inr e))))) = rw e refl
 
 pub width-two : (byte : ℕ) → TwoOperands byte → widthOf (form byte) ≡ 2 * 2
 unfolding forms form widthOf
@@ -48,6 +49,11 @@ width-two byte (inr (inl e)) = rw e refl
 width-two byte (inr (inr (inl e))) = rw e refl
 width-two byte (inr (inr (inr (inl e)))) = rw e refl
 width-two byte (inr (inr (inr (inr e)))) = rw e refl
+
+pub width-three : (byte : ℕ) → ThreeOperands byte → widthOf (form byte) ≡ 2 * 3
+unfolding forms form widthOf
+width-three byte (inl e) = rw e refl
+width-three byte (inr e) = rw e refl
 
 module _ (byte : ℕ) (bytes : List ℕ) where
   -- operands that are cut off
@@ -75,19 +81,13 @@ module _ (byte : ℕ) (bytes : List ℕ) where
               impossible (cc)
 
   -- a byte that is no command's
-  pub read-unknown : (byte < 1) ⊎ (12 < byte) → byte ≢ 15 → readCommand byte bytes ≡ unknownByte
+  pub read-unknown : (byte < 1) ⊎ (15 < byte) → readCommand byte bytes ≡ unknownByte
   unfolding readCommand
-  read-unknown k other =
-      unknown-byte (form byte) bytes .1 (unknown-exactly byte .1 (known-bytes byte ∙ rw (outside k) (ne-eqb byte 15 other)))
+  read-unknown k = unknown-byte (form byte) bytes .1 (unknown-exactly byte .1 (known-bytes byte ∙ outside k))
     where
-      outside : (byte < 1) ⊎ (12 < byte) → (leb 1 byte && leb byte 12) ≡ false
+      outside : (byte < 1) ⊎ (15 < byte) → (leb 1 byte && leb byte 15) ≡ false
       outside (inl h) = rw (gt-leb 1 byte h)
-      outside (inr h) = rw (gt-leb byte 12 h) (and-false (leb 1 byte))
-
--- 0B makes its command of three operands
-pub read-three : (x : ℕ → ℕ) (a b d : ℕ) → x 0 ≡ a → x 1 ≡ b → x 2 ≡ d → made (form 11) 3 x ≡ some (addDuctSpan a b d)
-unfolding form forms made
-read-three x a b d h k l = rw (h, k, l)
+      outside (inr h) = rw (gt-leb byte 15 h) (and-false (leb 1 byte))
 
 -- an operand of the bytes from a place on
 pub operand-at : (journal : List ℕ) (from k place : ℕ) → place ≡ from + 2 * k

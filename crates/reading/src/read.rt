@@ -5,9 +5,10 @@ ghost use lib.ListN.{length, getD, drop};
 ghost use Rattle.commands.specs.Bytes.{number};
 ghost use Rattle.commands.specs.Command.{readCommand};
 ghost use Rattle.commands.specs.Command.{form};
-ghost use Rattle.reading.specs.Inside.Reads.{meaning, readingOf, OneOperand, TwoOperands, MadeOfOne, MadeOfTwo, formWidth, entryOf, entryWidth, passingOf, passOver};
+ghost use Rattle.reading.specs.Inside.Reads.{meaning, readingOf, OneOperand, TwoOperands, ThreeOperands, MadeOfOne, MadeOfTwo, MadeOfThree, formWidth, entryOf, entryWidth, passingOf, passOver};
 use numbers::Duct;
 use numbers::Edge;
+use numbers::Measure;
 use numbers::Vertex;
 
 // Where a new span lies: in no duct (02), or in a duct (0B).
@@ -29,6 +30,8 @@ pub enum Order {
     MarkExchange(Vertex),
     HoldsExchange(Vertex),
     RoutesBetween(Vertex, Vertex),
+    RecordLength(Edge, Measure),
+    SpanLength(Edge),
     ExchangeShare,
 }
 
@@ -48,7 +51,7 @@ fn operand(journal: &[u8], from: usize) -> u32
     (journal[from] as u32) * 256 + (journal[from + 1] as u32)
 }
 
-// The command of 03, 04, 08, 09 or 0A.
+// The command of 03, 04, 08, 09, 0A or 0E.
 fn one_operand(byte: u8, x: u32) -> Order
     requires { ⌜ OneOperand byte ⌝ }
     ensures { λ r. ⌜ MadeOfOne byte x (meaning r) ⌝ }
@@ -58,7 +61,8 @@ fn one_operand(byte: u8, x: u32) -> Order
         4 => Order::RingName(Vertex(x)),
         8 => Order::IsSole(Edge(x)),
         9 => Order::MarkExchange(Vertex(x)),
-        _ => Order::HoldsExchange(Vertex(x)),
+        10 => Order::HoldsExchange(Vertex(x)),
+        _ => Order::SpanLength(Edge(x)),
     }
 }
 
@@ -76,7 +80,24 @@ fn two_operands(byte: u8, x: u32, y: u32) -> Order
     }
 }
 
-// The command of 03, 04, 08, 09 or 0A whose operand stands from a place on.
+// The command of 0B or 0D.
+fn three_operands(byte: u8, x: u32, y: u32, z: u32) -> Order
+    requires { ⌜ ThreeOperands byte × (y < 65536) × (z < 65536) ⌝ }
+    ensures { λ r. ⌜ MadeOfThree byte x y z (meaning r) ⌝ }
+{
+    match byte {
+        11 => Order::AddSpan(Vertex(x), Vertex(y), Lay::InDuct(Duct(z as u16))),
+        _ => {
+            let measure = Measure {
+                day: y as u16,
+                metres: z as u16,
+            };
+            Order::RecordLength(Edge(x), measure)
+        }
+    }
+}
+
+// The command of 03, 04, 08, 09, 0A or 0E whose operand stands from a place on.
 fn take_one(journal: &[u8], byte: u8, from: usize) -> Taken
     requires { ⌜ OneOperand byte × (from ≤ length (now journal)) ⌝ }
     ensures { λ r. ⌜ readingOf r ≡ readCommand byte (drop from (now (journal .entry))) ⌝ }
@@ -101,19 +122,18 @@ fn take_two(journal: &[u8], byte: u8, from: usize) -> Taken
     Taken::Command(two_operands(byte, x, y), 4)
 }
 
-// The command of 0B, whose operands stand from a place on.
-fn take_three(journal: &[u8], from: usize) -> Taken
-    requires { ⌜ from ≤ length (now journal) ⌝ }
-    ensures { λ r. ⌜ readingOf r ≡ readCommand 11 (drop from (now (journal .entry))) ⌝ }
+// The command of 0B or 0D whose operands stand from a place on.
+fn take_three(journal: &[u8], byte: u8, from: usize) -> Taken
+    requires { ⌜ ThreeOperands byte × (from ≤ length (now journal)) ⌝ }
+    ensures { λ r. ⌜ readingOf r ≡ readCommand byte (drop from (now (journal .entry))) ⌝ }
 {
     if journal.len() - from < 6 {
         return Taken::CutOff;
     }
     let x = operand(journal, from);
     let y = operand(journal, from + 2);
-    let d = operand(journal, from + 4);
-    let lay = Lay::InDuct(Duct(d));
-    Taken::Command(Order::AddSpan(Vertex(x), Vertex(y), lay), 6)
+    let z = operand(journal, from + 4);
+    Taken::Command(three_operands(byte, x, y, z), 6)
 }
 
 // What stands at a place of the journal.
@@ -125,8 +145,8 @@ pub(crate) fn take_at(journal: &[u8], at: usize) -> Taken
     match byte {
         1 => Taken::Command(Order::AddCabinet, 0),
         2 | 5..=7 | 12 => take_two(journal, byte, at + 1),
-        3..=4 | 8..=10 => take_one(journal, byte, at + 1),
-        11 => take_three(journal, at + 1),
+        3..=4 | 8..=10 | 14 => take_one(journal, byte, at + 1),
+        11 | 13 => take_three(journal, byte, at + 1),
         15 => Taken::Command(Order::ExchangeShare, 0),
         _ => Taken::Unknown,
     }
@@ -153,7 +173,7 @@ pub fn entry_of(table: u64, k: u8) -> u8
 const NONE: u8 = 15;
 
 // The number of the operands' bytes, by the command byte, or NONE.
-const WIDTHS: u64 = 0x0FF4_6222_4442_240F;
+const WIDTHS: u64 = 0x0264_6222_4442_240F;
 
 // What a byte is, by its entry in the table; if a command's, its operands stand from a place on.
 fn pass_over(journal: &[u8], byte: u8, from: usize, entry: u8) -> Passed

@@ -8,7 +8,7 @@ use native.Mathlib.Omega.{arith}
 use lib.ListN.{length, take, drop, length-append, length-drop, take-append-drop, drop-of-length-le}
 use lib.Seq.{drop-drop, take-all, length-take-le, take-append-seam, drop-append-seam}
 use Rattle.naming.specs.Book.{feedAll}
-use Rattle.naming.specs.State.{afterAddition, afterRecording}
+use Rattle.naming.specs.State.{Agree, afterAddition, afterRecording}
 use Rattle.commands.specs.Refusal.{Refusal}
 use Rattle.commands.specs.Answer.{answerBytes}
 use Rattle.commands.specs.Facts.{after}
@@ -72,14 +72,14 @@ ends-here p t answers end e =
 -- an accepted command and what is left behind it leave behind what is left from one command further on
 pub goes-further : (p p′ : Progress) (old new answers : List ℕ) (a : Accepted) (rest : Run)
     → p′ .place ≡ p .place + 1 + a .width → p′ .commands ≡ p .commands + 1 → p′ .written ≡ p .written + length (answerBytes (a .answer))
-    → stateOf (p′ .shape) new ≡ after (stateOf (p .shape) old) (a .command) → p .written ≤ length answers
+    → Agree (stateOf (p′ .shape) new) (after (stateOf (p .shape) old) (a .command)) → p .written ≤ length answers
     → leavesAfter p′ new (writtenBehind (p .written) (answerBytes (a .answer)) answers) rest ≡ leavesAfter p old answers (andThen a rest)
 unfolding leavesAfter andThen placeAfter bytesOfAnswers commandsOf feedAll after afterAddition afterRecording
-goes-further p p′ old new answers a rest place commands written state fits =
+goes-further p p′ old new answers a rest place commands written agrees fits =
     let bytes = answerBytes (a .answer) in
     let later = rest .accepted in
     let more = bytesOfAnswers later in
     let place-is : p′ .place + placeAfter later ≡ p .place + (suc (a .width) + placeAfter later) = omega (arith, place) in
     let commands-are : p′ .commands + length later ≡ p .commands + suc (length later) = omega (arith, commands) in
     let written-is : p′ .written + length more ≡ p .written + length (bytes ++ more) = omega (arith, written, length-append bytes more) in
-    rw (place-is, commands-are, written-is, written, state, behind-both (p .written) bytes more answers fits)
+    rw (place-is, commands-are, written-is, written, agrees .same-book, behind-both (p .written) bytes more answers fits)

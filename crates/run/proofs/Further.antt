@@ -149,10 +149,10 @@ module _ (p : Progress) (journal old answers : List ℕ) (under : Underway p jou
           (limits-after (p .shape) reply)
           refl
           written
-          (w .carried .state-is) in
+          (w .carried .agrees) in
           rw
           (long, same-answer, left)
-          (goes-further p further old new answers a (leftOf further journal (length answers) new) refl refl written (w .carried .state-is) (under .going .written-fits))
+          (goes-further p further old new answers a (leftOf further journal (length answers) new) refl refl written (w .carried .agrees) (under .going .written-fits))
 
       -- an answer that is written
       written-on : (newAnswers : List ℕ) → replySize reply ≤ length answers - p .written

@@ -1,11 +1,11 @@
 -- What is left of a run begins with what stands at its place.
 use mathlib.Core.List.{List, []}
 use mathlib.Core.Option.{none, some}
-use mathlib.Core.Path.{_≡_, _∙_, ap}
+use mathlib.Core.Path.{_≡_, sym, _∙_, ap}
 use Prim.Native.Nat.{ℕ, _+_, _-_, _≤_, _<_}
 use native.Mathlib.Omega.{arith}
 use lib.ListN.{length, drop}
-use Rattle.naming.specs.State.{State}
+use Rattle.naming.specs.State.{State, Agree}
 use Rattle.commands.specs.Command.{Command, unknownByte, cutOff, command}
 use Rattle.commands.specs.Refusal.{Refusal, badByte, cutOperands, noRoom, Capacities, refusalOf}
 use Rattle.commands.specs.Answer.{answerBytes}
@@ -13,6 +13,7 @@ use Rattle.commands.specs.Facts.{after, answer}
 use Rattle.commands.specs.Text.{Read, Text, followedBy, textFrom}
 use Rattle.commands.specs.Run.{stop, andThen, acceptedIn, runWithin}
 use Rattle.commands.specs.Register.{registerRoutes}
+use Rattle.commands.proofs.Agree.{agree-within}
 use Rattle.commands.proofs.Steps.{within-ends, within-refuses, within-no-room, within-accepts}
 use Rattle.commands.proofs.TextAt.{textHere, text-at-end, text-at-unknown, text-at-cut-off, text-at-command}
 use Rattle.forest.specs.Promise.{stateOf}
@@ -77,12 +78,17 @@ module _ (p : Progress) (journal : List ℕ) (room : ℕ) (t : List ℕ) where
         pub left-answered : length (answerBytes (answer registerRoutes stateHere c)) ≤ room - p .written → (p′ : Progress) (new : List ℕ)
             → p′ .shape .limits ≡ p .shape .limits → p′ .place ≡ p .place + 1 + width
             → p′ .written ≡ p .written + length (answerBytes (answer registerRoutes stateHere c))
-            → stateOf (p′ .shape) new ≡ after stateHere c
+            → Agree (stateOf (p′ .shape) new) (after stateHere c)
             → leftOf p journal room t ≡ andThen (acceptedIn registerRoutes stateHere commandHere) (leftOf p′ journal room new)
         unfolding leftOf
-        left-answered h p′ new limits place written state =
+        left-answered h p′ new limits place written agrees =
             let size = length (answerBytes (answer registerRoutes stateHere c)) in
             let left : room - p′ .written ≡ room - p .written - size = omega (arith, written) in
+            let state = stateOf (p′ .shape) new in
             left-command
             ∙ within-accepts _ _ _ _ commandHere textBehind not-refused h
-            ∙ rw (left, state, limits, place)
+            ∙ ap (andThen (acceptedIn registerRoutes stateHere commandHere))
+            (sym (agree-within (room - p .written - size) registerRoutes capsHere agrees textBehind)
+            ∙ ap (λ r. runWithin r registerRoutes capsHere state textBehind) (sym left)
+            ∙ ap (λ l. runWithin (room - p′ .written) registerRoutes (capacitiesOf l) state textBehind) (sym limits)
+            ∙ ap (λ q. runWithin (room - p′ .written) registerRoutes (capacitiesOf (p′ .shape .limits)) state (textFrom q 0 (drop q journal))) (sym place))

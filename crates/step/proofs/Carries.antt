@@ -12,24 +12,27 @@ use Rattle.graph.specs.Block.{sharedBlock}
 use Rattle.graph.specs.Between.{bridgesBetween, cutsBetween}
 use Rattle.naming.specs.Rename.{Change, nameOf, changesBetween}
 use Rattle.naming.specs.Book.{Book, neither, feed}
-use Rattle.naming.specs.State.{State, afterAddition, recordsNothing, marksAfter, afterRecording}
+use Rattle.naming.specs.Survey.{Survey, holding}
+use Rattle.naming.specs.State.{State, afterAddition, recordsNothing, marksAfter, surveysAfter, afterRecording}
 use Rattle.naming.proofs.Listed.{map-tabulate}
+use Rattle.naming.proofs.Agree.{agree-of-equal}
 use Rattle.commands.specs.Field.{Kind, district, ring, mesh, Field}
-use Rattle.commands.specs.Command.{Command, addCabinet, addSpan, districtName, ringName, sharedMesh, soleSpans, cutCabinets, isSole, markExchange, holdsExchange, addDuctSpan, routesBetween, exchangeShare}
+use Rattle.commands.specs.Command.{Command, addCabinet, addSpan, districtName, ringName, sharedMesh, soleSpans, cutCabinets, isSole, markExchange, holdsExchange, addDuctSpan, routesBetween, recordLength, spanLength, exchangeShare}
 use Rattle.commands.specs.Answer.{changeNotice, changes, notices, plain, soleIs, exchangeHeld, routesAre, shareIs}
 use Rattle.commands.specs.Exchange.{ringHoldsExchange, shareWithExchange}
-use Rattle.commands.specs.Facts.{Demand, addsSpan, asks, meshAnswer, routesAnswer, facts, additionOf, addition, recordingOf, recording, after, spanAnswer, answerTo, answer}
+use Rattle.commands.specs.Facts.{Demand, addsSpan, asks, meshAnswer, routesAnswer, lengthAnswer, facts, additionOf, addition, recordingOf, recording, after, spanAnswer, answerTo, answer}
 use Rattle.commands.specs.Register.{registerRoutes}
 use Rattle.numbers.specs.declared.Vertex.{Vertex}
 use Rattle.reading.specs.declared.read.Lay.{Lay}
 use Rattle.reading.specs.declared.read.Lay.the-variants as L
 use Rattle.reading.specs.Inside.Reads.{spanCommand}
 use Rattle.forest.specs.declared.Growth.{Growth}
+use Rattle.forest.specs.declared.Length.{Length}
 use Rattle.forest.specs.declared.Shape.{Shape}
 use Rattle.forest.specs.declared.Shared.{Shared}
 use Rattle.forest.specs.declared.VertexGroups.{VertexGroups}
 use Rattle.forest.specs.declared.VertexGroups.the-variants as G
-use Rattle.forest.specs.Promise.{Holds, stateOf, bookIn, networkIn, vertices-held, edges-held, few-vertices, few-edges, same-beyond-refl, oneEdgeMore, VertexAdded, EdgeAdded, VertexMarked, ListWritten, vertexNames, sharedName}
+use Rattle.forest.specs.Promise.{Holds, stateOf, bookIn, networkIn, vertices-held, edges-held, few-vertices, few-edges, same-beyond-refl, oneEdgeMore, VertexAdded, EdgeAdded, VertexMarked, SurveyEntered, ListWritten, vertexNames, lengthGiven, sharedName}
 use Rattle.routes.specs.declared.Lengths.{Lengths}
 use Rattle.routes.specs.Promise.{RoutesFound}
 use Rattle.step.specs.declared.Listed.{Listed}
@@ -37,17 +40,17 @@ use Rattle.step.specs.declared.Listed.the-variants as M
 use Rattle.step.specs.declared.Finding.{Finding}
 use Rattle.step.specs.declared.Finding.the-variants as F
 use Rattle.step.specs.declared.Reply.the-variants as R
-use Rattle.step.specs.Promise.{noticeAt, noticeCount, growthNotices, itemAt, nameAnswer, sharedAnswer, listAnswer, findingAnswer, replyAnswer, shapeAfter, Carried}
+use Rattle.step.specs.Promise.{noticeAt, noticeCount, growthNotices, itemAt, nameAnswer, sharedAnswer, listAnswer, lengthTold, findingAnswer, replyAnswer, shapeAfter, Carried}
 use Rattle.step.specs.Inside.Asked.{asksName, ductOf}
 
 -- a cabinet more
 pub cabinet-carried : (shape : Shape) (old new : List ℕ) → VertexAdded shape old new
     → Carried shape addCabinet old new (R.Cabinet (record { 0 = shape .vertices }))
-unfolding after afterAddition afterRecording marksAfter addition additionOf recording recordingOf facts replyAnswer shapeAfter answer answerTo
+unfolding after afterAddition afterRecording marksAfter surveysAfter addition additionOf recording recordingOf facts replyAnswer shapeAfter answer answerTo
 cabinet-carried shape old new a =
     record {
       holds = a .holds;
-      state-is = a .state-is;
+      agrees = agree-of-equal (a .state-is);
       answer-is = rw (vertices-held shape old);
       fits = tt;
       same-beyond = a .same-beyond;
@@ -57,7 +60,7 @@ cabinet-carried shape old new a =
 module _ (shape : Shape) (c : Command) (adds-nothing : addition c ≡ neither) (records-nothing : recording c ≡ recordsNothing) where
   -- it leaves the state as it is
   leaves : (s : State) → after s c ≡ s
-  unfolding after afterAddition afterRecording marksAfter feed
+  unfolding after afterAddition afterRecording marksAfter surveysAfter feed
   leaves s = rw (adds-nothing, records-nothing)
 
   -- so it is carried out with a table that is not touched
@@ -68,7 +71,7 @@ module _ (shape : Shape) (c : Command) (adds-nothing : addition c ≡ neither) (
   question-carried t finding holds e =
       record {
         holds = holds;
-        state-is = sym (leaves (stateOf shape t));
+        agrees = agree-of-equal (sym (leaves (stateOf shape t)));
         answer-is = e;
         fits = tt;
         same-beyond = same-beyond-refl (shape .limits) t;
@@ -83,7 +86,7 @@ module _ (shape : Shape) (c : Command) (adds-nothing : addition c ≡ neither) (
   list-carried old new kind count list w e =
       record {
         holds = w .holds;
-        state-is = w .state-is ∙ sym (leaves (stateOf shape old));
+        agrees = agree-of-equal (w .state-is ∙ sym (leaves (stateOf shape old)));
         answer-is = ap (λ l. plain (listAnswer kind l)) (w .is-list) ∙ e;
         fits = tt;
         same-beyond = w .same-beyond;
@@ -139,7 +142,7 @@ pub mark-carried : (shape : Shape) (a : ℕ) (old new : List ℕ) → VertexMark
     → Carried shape (markExchange a) old new (R.Found F.Marked)
 unfolding after afterAddition feed addition additionOf recording recordingOf facts findingAnswer replyAnswer shapeAfter answer answerTo
 mark-carried shape a old new m =
-    record { holds = m .holds; state-is = m .state-is; answer-is = refl; fits = tt; same-beyond = m .same-beyond }
+    record { holds = m .holds; agrees = agree-of-equal (m .state-is); answer-is = refl; fits = tt; same-beyond = m .same-beyond }
 
 -- 0A: whether the cabinet's ring holds an exchange
 pub held-carried : (shape : Shape) (a : ℕ) (t : List ℕ) (held : Bool) → Holds shape t → held ≡ ringHoldsExchange (stateOf shape t) a
@@ -155,11 +158,34 @@ unfolding addition additionOf recording recordingOf facts routesAnswer registerR
 routes-carried shape a b old new lengths found =
     record {
       holds = found .holds;
-      state-is = found .state-is ∙ sym (leaves shape (routesBetween a b) refl refl (stateOf shape old));
+      agrees = agree-of-equal (found .state-is ∙ sym (leaves shape (routesBetween a b) refl refl (stateOf shape old)));
       answer-is = ap₂ (λ ss ts. plain (routesAre ss ts)) (found .first-is) (found .second-is);
       fits = tt;
       same-beyond = found .same-beyond;
     }
+
+-- 0D: the length is recorded
+pub survey-carried : (shape : Shape) (s day metres : ℕ) (old new : List ℕ)
+    → SurveyEntered shape (record { measured = s; day = day; metres = metres }) old new
+    → Carried shape (recordLength s day metres) old new (R.Found F.Recorded)
+unfolding after afterAddition feed addition additionOf recording recordingOf facts findingAnswer replyAnswer shapeAfter answer answerTo
+survey-carried shape s day metres old new entered =
+    record { holds = entered .holds; agrees = entered .agrees; answer-is = refl; fits = tt; same-beyond = entered .same-beyond }
+
+-- the length that a survey gives is answered as the paper says
+length-answer : (o : Option Survey) → lengthTold (lengthGiven o) ≡ lengthAnswer o
+unfolding lengthTold lengthAnswer
+length-answer none = refl
+length-answer (some r) = refl
+
+-- 0E: the length of the span
+pub length-carried : (shape : Shape) (s : ℕ) (t : List ℕ) (length : Length) → Holds shape t
+    → length ≡ lengthGiven (holding (stateOf shape t .surveys) s)
+    → Carried shape (spanLength s) t t (R.Found (F.Measured length))
+unfolding addition additionOf recording recordingOf facts asks findingAnswer answer answerTo
+length-carried shape s t length holds e =
+    question-carried shape (spanLength s) refl refl t (F.Measured length) holds
+    (ap (λ (x : Length). plain (lengthTold x)) e ∙ ap plain (length-answer (holding (stateOf shape t .surveys) s)))
 
 -- 0F: the share of the cabinets whose ring holds one
 pub share-carried : (shape : Shape) (t : List ℕ) (share : ℕ) → Holds shape t → share ≡ shareWithExchange (stateOf shape t)
@@ -208,11 +234,11 @@ module _ (shape : Shape) (a b d : ℕ) (old new : List ℕ) (growth : Growth) (a
   span-done : Holds shape old → (c : Command) {operands : List Field} {demands : List Demand}
       → facts c ≡ addsSpan (edgeInDuct a b d) operands demands
       → Carried shape c old new (R.Span (record { 0 = shape .edges }) growth)
-  unfolding after afterAddition afterRecording marksAfter addition additionOf recording recordingOf answer answerTo shapeAfter
+  unfolding after afterAddition afterRecording marksAfter surveysAfter addition additionOf recording recordingOf answer answerTo shapeAfter
   span-done holds c is =
       record {
         holds = added .holds;
-        state-is = rw is (added .state-is);
+        agrees = agree-of-equal (rw is (added .state-is));
         answer-is = rw is (span-answered ∙ ap (λ (s : State). spanAnswer (bookIn shape old) (s .book)) (added .state-is));
         fits = few-notices holds;
         same-beyond = added .same-beyond;

@@ -131,6 +131,8 @@ judged shape t (O.RoutesBetween a b) =
     (ltb (b .0) (shape .vertices))
     (eqb (a .0) (b .0))
     (bridgeBlock (networkIn shape t) (a .0) (b .0)))
+judged shape t (O.RecordLength s measure) = rw (edges-held shape t) (span-line (ltb (s .0) (shape .edges)))
+judged shape t (O.SpanLength s) = rw (edges-held shape t) (span-line (ltb (s .0) (shape .edges)))
 judged shape t O.ExchangeShare = refl
 
 -- a test that refuses or passes has passed where it gives 0

@@ -3,3 +3,4 @@ pub mod Carries
 pub mod Exchanges
 pub mod Steps
 pub mod Replies
+pub mod Tables

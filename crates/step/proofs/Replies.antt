@@ -12,6 +12,8 @@ use Rattle.commands.proofs.Bytes.{cabinets-in-two-bytes, spans-in-two-bytes, le
 use Rattle.commands.proofs.NoticeBytes.{length-notices-bytes}
 use Rattle.commands.proofs.AnswerLength.{routes-length}
 use Rattle.forest.specs.declared.Growth.{Growth}
+use Rattle.forest.specs.declared.Length.{Length}
+use Rattle.forest.specs.declared.Length.the-variants as H
 use Rattle.forest.specs.declared.Shape.{Shape}
 use Rattle.forest.specs.declared.Shared.{Shared}
 use Rattle.forest.specs.declared.Shared.the-variants as Q
@@ -25,7 +27,7 @@ use Rattle.step.specs.declared.Finding.{Finding}
 use Rattle.step.specs.declared.Finding.the-variants as F
 use Rattle.step.specs.declared.Reply.{Reply}
 use Rattle.step.specs.declared.Reply.the-variants as R
-use Rattle.step.specs.Promise.{noticeAt, noticesOf, noticeCount, growthNotices, itemAt, nameAnswer, sharedAnswer, listAnswer, findingAnswer, replyAnswer, findingSize, replySize, shapeAfter}
+use Rattle.step.specs.Promise.{noticeAt, noticesOf, noticeCount, growthNotices, itemAt, nameAnswer, sharedAnswer, listAnswer, lengthTold, findingAnswer, replyAnswer, findingSize, replySize, shapeAfter}
 
 -- no answer changes the limits
 pub limits-after : (shape : Shape) (reply : Reply) → shapeAfter shape reply .limits ≡ shape .limits
@@ -64,6 +66,12 @@ unfolding sharedAnswer answerBytes answerFields plainFields fieldsBytes fieldByt
 length-shared (Q.Block name) = refl
 length-shared Q.Nothing = refl
 
+-- the answer to 0E has four bytes, with a length or without
+length-told : (kept : Length) → length (answerBytes (plain (lengthTold kept))) ≡ 4
+unfolding lengthTold answerBytes answerFields plainFields fieldsBytes fieldBytes twoBytes
+length-told (H.Metres metres) = refl
+length-told H.Nothing = refl
+
 finding-counted : (shape : Shape) (t : List ℕ) (finding : Finding)
     → length (answerBytes (plain (findingAnswer shape t finding))) ≡ findingSize finding
 unfolding findingAnswer findingSize answerBytes answerFields plainFields fieldsBytes fieldBytes twoBytes
@@ -80,6 +88,8 @@ finding-counted shape t (F.Routes lengths) =
     (λ (n m : ℕ). 5 + 2 * (n + m))
     (length-tabulate (lengths .first) (edgeAt shape t W.First))
     (length-tabulate (lengths .second) (edgeAt shape t W.Second))
+finding-counted shape t F.Recorded = refl
+finding-counted shape t (F.Measured kept) = length-told kept
 finding-counted shape t (F.Share share) = refl
 
 -- the answer that a reply is has as many bytes as are counted for it

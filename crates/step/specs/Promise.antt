@@ -4,15 +4,18 @@ use mathlib.Core.Option.{Option, none, some}
 use mathlib.Core.Path.{_≡_}
 use Prim.Native.Nat.{ℕ, _+_, _*_, _<_}
 use Rattle.graph.specs.Below.{tabulate}
+use Rattle.naming.specs.State.{Agree}
 use Rattle.commands.specs.Field.{Kind, district, ring, mesh}
 use Rattle.commands.specs.Command.{Command}
-use Rattle.commands.specs.Answer.{Notice, changeNotice, Plain, districtNamed, ringNamed, meshShared, noMeshShared, soleSpansAre, cutCabinetsAre, soleIs, exchangeMarked, exchangeHeld, routesAre, shareIs, Answer, cabinetAdded, spanAdded, plain}
+use Rattle.commands.specs.Answer.{Notice, changeNotice, Plain, districtNamed, ringNamed, meshShared, noMeshShared, soleSpansAre, cutCabinetsAre, soleIs, exchangeMarked, exchangeHeld, routesAre, lengthRecorded, lengthIs, noLength, shareIs, Answer, cabinetAdded, spanAdded, plain}
 use Rattle.commands.specs.Facts.{after, answer}
 use Rattle.commands.specs.Refusal.{Refusal, refusalNumber, Capacities, refusalOf}
 use Rattle.commands.specs.Register.{registerRoutes}
 use Rattle.numbers.specs.declared.Limits.{Limits}
 use Rattle.forest.specs.declared.Shape.{Shape}
 use Rattle.forest.specs.declared.Growth.{Growth}
+use Rattle.forest.specs.declared.Length.{Length}
+use Rattle.forest.specs.declared.Length.the-variants as H
 use Rattle.forest.specs.declared.Shared.{Shared}
 use Rattle.forest.specs.declared.Shared.the-variants as Q
 use Rattle.forest.specs.declared.VertexGroups.{VertexGroups}
@@ -78,6 +81,11 @@ abbrev pub routesTold : Shape → List ℕ → Lengths → Plain
 routesTold shape t lengths =
     routesAre (tabulate (lengths .first) (edgeAt shape t W.First)) (tabulate (lengths .second) (edgeAt shape t W.Second))
 
+-- The answer to 0E.
+unfoldable pub lengthTold : Length → Plain
+lengthTold (H.Metres metres) = lengthIs metres
+lengthTold H.Nothing = noLength
+
 -- The paper's answer for each finding and for each reply, with what the table has written down.
 unfoldable pub findingAnswer : Shape → List ℕ → Finding → Plain
 findingAnswer shape t (F.Name groups name) = nameAnswer groups (name .0)
@@ -87,6 +95,8 @@ findingAnswer shape t (F.Sole sole) = soleIs sole
 findingAnswer shape t F.Marked = exchangeMarked
 findingAnswer shape t (F.Held held) = exchangeHeld held
 findingAnswer shape t (F.Routes lengths) = routesTold shape t lengths
+findingAnswer shape t F.Recorded = lengthRecorded
+findingAnswer shape t (F.Measured length) = lengthTold length
 findingAnswer shape t (F.Share share) = shareIs share
 
 unfoldable pub replyAnswer : Shape → List ℕ → Reply → Answer
@@ -103,6 +113,8 @@ findingSize (F.Sole sole) = 2
 findingSize F.Marked = 1
 findingSize (F.Held held) = 2
 findingSize (F.Routes lengths) = 5 + 2 * (lengths .first + lengths .second)
+findingSize F.Recorded = 1
+findingSize (F.Measured length) = 4
 findingSize (F.Share share) = 3
 
 unfoldable pub replySize : Reply → ℕ
@@ -127,10 +139,10 @@ pub record StepRefused (limits : Limits) (old new : List ℕ) (result : Stepped)
   pub number : result ≡ S.Refused (refusalNumber r)
   pub same-beyond : SameBeyond limits old new
 
--- A command that is carried out: the table holds the state after it, and the reply is its answer.
+-- A command that is carried out: the table holds a state that agrees with the one after it, and the reply is its answer.
 pub record Carried (shape : Shape) (c : Command) (old new : List ℕ) (reply : Reply) : Type 0 where
   pub holds : Holds (shapeAfter shape reply) new
-  pub state-is : stateOf (shapeAfter shape reply) new ≡ after (stateOf shape old) c
+  pub agrees : Agree (stateOf (shapeAfter shape reply) new) (after (stateOf shape old) c)
   pub answer-is : replyAnswer (shapeAfter shape reply) new reply ≡ answer registerRoutes (stateOf shape old) c
   pub fits : ReplyFits reply
   pub same-beyond : SameBeyond (shape .limits) old new

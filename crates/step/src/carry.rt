@@ -3,7 +3,7 @@ ghost use mathlib.Core.Bool.{true, false};
 ghost use mathlib.Core.Path.{_≡_};
 ghost use Prim.Native.Nat.{_<_};
 ghost use Rattle.graph.specs.Groups.{component, bridgeBlock};
-ghost use Rattle.commands.specs.Command.{addCabinet, sharedMesh, soleSpans, cutCabinets, isSole, markExchange, holdsExchange, routesBetween, exchangeShare};
+ghost use Rattle.commands.specs.Command.{addCabinet, sharedMesh, soleSpans, cutCabinets, isSole, markExchange, holdsExchange, routesBetween, recordLength, spanLength, exchangeShare};
 ghost use Rattle.forest.specs.Promise.{Holds, stateOf, networkIn};
 ghost use Rattle.reading.specs.Inside.Reads.{spanCommand, meaning};
 ghost use Rattle.step.specs.Inside.Judged.{judgement};
@@ -20,12 +20,15 @@ use forest::add_edge;
 use forest::add_vertex;
 use forest::bridges_between;
 use forest::cuts_between;
+use forest::enter_survey;
 use forest::group_of;
 use forest::is_bridge;
+use forest::length_of;
 use forest::mark;
 use forest::shared_block;
 use numbers::Duct;
 use numbers::Edge;
+use numbers::Measure;
 use numbers::Vertex;
 use reading::read::Lay;
 use reading::read::Order;
@@ -132,6 +135,24 @@ fn routes_between(t: &mut [u32], shape: Shape, a: Vertex, b: Vertex) -> Reply
     Reply::Found(Finding::Routes(lengths))
 }
 
+// 0D: record a length of a span.
+fn record_length(t: &mut [u32], shape: Shape, s: Edge, measure: Measure) -> Reply
+    requires { ⌜ Holds shape (now t) × (s .0 < shape .edges) ⌝ }
+    ensures { λ r. ⌜ Carried shape (recordLength (s .0) (measure .day) (measure .metres)) (now (t .entry)) (now (t .exit)) r ⌝ }
+{
+    enter_survey(t, shape, s, measure);
+    Reply::Found(Finding::Recorded)
+}
+
+// 0E: the length of a span.
+fn span_length(t: &[u32], shape: Shape, s: Edge) -> Reply
+    requires { ⌜ Holds shape (now t) × (s .0 < shape .edges) ⌝ }
+    ensures { λ r. ⌜ Carried shape (spanLength (s .0)) (now (t .entry)) (now (t .entry)) r ⌝ }
+{
+    let length = length_of(t, shape, s);
+    Reply::Found(Finding::Measured(length))
+}
+
 // 0F: the share of the cabinets whose ring holds an exchange.
 fn exchange_share(t: &[u32], shape: Shape) -> Reply
     requires { ⌜ Holds shape (now t) ⌝ }
@@ -158,6 +179,8 @@ pub(crate) fn carry_out(t: &mut [u32], shape: Shape, order: Order) -> Reply
         Order::MarkExchange(a) => mark_exchange(t, shape, a),
         Order::HoldsExchange(a) => holds_exchange(t, shape, a),
         Order::RoutesBetween(a, b) => routes_between(t, shape, a, b),
+        Order::RecordLength(s, measure) => record_length(t, shape, s, measure),
+        Order::SpanLength(s) => span_length(t, shape, s),
         Order::ExchangeShare => exchange_share(t, shape),
     }
 }

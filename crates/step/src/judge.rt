@@ -150,6 +150,8 @@ pub(crate) fn judge(t: &[u32], shape: Shape, order: Order) -> u32
         Order::MarkExchange(a) => exchange_refusal(t, shape, a),
         Order::HoldsExchange(a) => cabinet_refusal(shape, a),
         Order::RoutesBetween(a, b) => ring_refusal(t, shape, a, b),
+        Order::RecordLength(s, _measure) => span_refusal(shape, s),
+        Order::SpanLength(s) => span_refusal(shape, s),
         Order::ExchangeShare => 0,
     }
 }

@@ -13,6 +13,7 @@ pub mod judge;
 use crate::carry::carry_out;
 use crate::judge::judge;
 use forest::Growth;
+use forest::Length;
 use forest::Shape;
 use forest::Shared;
 use forest::VertexGroups;
@@ -28,8 +29,8 @@ pub enum Listed {
 }
 
 // What a command that adds nothing is answered with: the name of a cabinet's district or ring; a shared mesh; a list, by its length; whether a
-// span is sole; that a cabinet is marked; whether a ring holds an exchange; two routes, by their lengths; a share in thousandths. A list and
-// the routes stand in the table until the next command.
+// span is sole; that a cabinet is marked; whether a ring holds an exchange; two routes, by their lengths; that a length is recorded; a span's
+// length; a share in thousandths. A list and the routes stand in the table until the next command.
 pub enum Finding {
     Name(VertexGroups, Vertex),
     Mesh(Shared),
@@ -38,6 +39,8 @@ pub enum Finding {
     Marked,
     Held(bool),
     Routes(Lengths),
+    Recorded,
+    Measured(Length),
     Share(u32),
 }
 
@@ -67,6 +70,8 @@ fn finding_size(finding: Finding) -> usize
         Finding::Marked => 1,
         Finding::Held(_held) => 2,
         Finding::Routes(lengths) => 5 + 2 * ((lengths.first as usize) + (lengths.second as usize)),
+        Finding::Recorded => 1,
+        Finding::Measured(_length) => 4,
         Finding::Share(_share) => 3,
     }
 }

@@ -30,12 +30,15 @@ const BRIDGE_BLOCK_COLUMNS: u8 = 5;
 
 const BLOCK_COLUMNS: u8 = 4;
 
-// The other columns of the edges: an edge's two ends; by a block's name, the vertex above it; an edge's duct.
+// The other columns of the edges: an edge's two ends; by a block's name, the vertex above it; an edge's duct, and in the upper half of that
+// word whether a survey of the edge is kept; the day and the metres of that survey.
 pub const ENDS: u8 = BLOCK_COLUMNS;
 
 pub const TOP: u8 = ENDS + 1;
 
 pub const DUCT: u8 = ENDS + 2;
+
+pub const SURVEY: u8 = ENDS + 3;
 
 // The other columns of the vertices: the way up, the depth, the path's vertices and edges, those of its right side, and whether the vertex
 // is marked.

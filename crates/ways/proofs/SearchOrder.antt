@@ -11,9 +11,9 @@ use lib.Dec.{eqb, ltb}
 use lib.ListN.{length, getD, length-append, List·getD-append}
 use Rattle.graph.specs.Lists.{allIn, isIn, distinct}
 use Rattle.graph.specs.Network.{Network, Proper, edge, edgeCount, touches, otherEnd}
-use Rattle.graph.proofs.Truth.{not-of-false, and-left, and-right, or-right, and-both, eqb-swap, ne-eqb, lt-ltb, ltb-lt}
+use Rattle.graph.proofs.Truth.{not-of-false, or-right, and-both, eqb-swap, ne-eqb, lt-ltb, ltb-lt}
 use Rattle.graph.proofs.Below.{below-or-last}
-use Rattle.graph.proofs.Members.{is-in-head, is-in-tail, is-in-last, distinct-last, each-in}
+use Rattle.graph.proofs.Members.{is-in-head, is-in-tail, is-in-last, distinct-last, all-in-append, each-in}
 use Rattle.graph.proofs.Ends.{touched-known, other-end-touches}
 use Rattle.graph.proofs.Lengths.{distinct-length}
 use Rattle.ways.specs.Search.{Allowed, Found, atGoal, linked, look, lookBelow, turn, turns, stepOf, Fits, Orderly, starts, goesOn}
@@ -37,8 +37,7 @@ reached-before g y s f x e = reached-linked g y s f x ∙ or-right (eqb x (other
 -- a test that all pass, and one more
 all-in-last : (p : ℕ → Bool) (x : ℕ) (l : List ℕ) → p x ≡ true → allIn p l ≡ true → allIn p (l ++ x ∷ []) ≡ true
 unfolding allIn
-all-in-last p x [] e w = and-both e refl
-all-in-last p x (y ∷ l) e w = and-both (and-left (p y) (allIn p l) w) (all-in-last p x l e (and-right (p y) (allIn p l) w))
+all-in-last p x l e w = all-in-append p l (x ∷ []) w (and-both e refl)
 
 -- what stands at a place of a list is in it
 pub at-place-in : (l : List ℕ) (i : ℕ) → i < length l → isIn (getD l i 0) l ≡ true

@@ -17,6 +17,7 @@ use crate::route::write_routes;
 use crate::write::write_cabinet;
 use crate::write::write_code;
 use crate::write::write_flag;
+use crate::write::write_length;
 use crate::write::write_list;
 use crate::write::write_number;
 use crate::write::write_shared;
@@ -48,6 +49,8 @@ fn write_finding(t: &[u32], shape: Shape, out: &mut [u8], finding: Finding)
         Finding::Marked => write_code(out, 0x89),
         Finding::Held(held) => write_flag(out, 0x8A, held as u8),
         Finding::Routes(lengths) => write_routes(t, shape, out, lengths),
+        Finding::Recorded => write_code(out, 0x8D),
+        Finding::Measured(length) => write_length(out, length),
         Finding::Share(share) => write_number(out, 0x8F, share),
     }
 }

@@ -8,13 +8,13 @@ ghost use Rattle.graph.specs.Below.{tabulate};
 ghost use Rattle.commands.specs.Bytes.{twoBytes};
 ghost use Rattle.commands.specs.Field.{fieldsBytes};
 ghost use Rattle.commands.specs.Answer.{plain, answerBytes};
-ghost use Rattle.step.specs.Promise.{itemAt, sharedAnswer, listAnswer};
+ghost use Rattle.step.specs.Promise.{itemAt, sharedAnswer, lengthTold, listAnswer};
 ghost use Rattle.writing.specs.Inside.Writes.{listCode, listField};
+use forest::Length;
 use forest::Shape;
 use forest::Shared;
 use forest::bridge_at;
 use forest::cut_at;
-use numbers::Edge;
 use numbers::Vertex;
 use step::Listed;
 
@@ -60,14 +60,14 @@ pub(crate) fn write_cabinet(out: &mut [u8], code: u8, a: Vertex)
     write_number(out, code, a.0);
 }
 
-// An answer of two bytes and the name of a mesh.
-fn write_choice(out: &mut [u8], code: u8, flag: u8, s: Edge)
+// An answer of two bytes and a number.
+fn write_choice(out: &mut [u8], code: u8, flag: u8, value: u32)
     requires { ⌜ 4 ≤ length (now out) ⌝ }
-    ensures { λ r. ⌜ now (out .exit) ≡ sets (now (out .entry)) 0 (code ∷ flag ∷ twoBytes (s .0)) ⌝ }
+    ensures { λ r. ⌜ now (out .exit) ≡ sets (now (out .entry)) 0 (code ∷ flag ∷ twoBytes value) ⌝ }
 {
     put_byte(out, 0, code);
     put_byte(out, 1, flag);
-    put_two(out, 2, s.0);
+    put_two(out, 2, value);
 }
 
 // The answer to 05.
@@ -76,8 +76,19 @@ pub(crate) fn write_shared(out: &mut [u8], shared: Shared)
     ensures { λ r. ⌜ now (out .exit) ≡ sets (now (out .entry)) 0 (answerBytes (plain (sharedAnswer shared))) ⌝ }
 {
     match shared {
-        Shared::Block(name) => write_choice(out, 0x85, 1, name),
-        Shared::Nothing => write_choice(out, 0x85, 0, Edge(0)),
+        Shared::Block(name) => write_choice(out, 0x85, 1, name.0),
+        Shared::Nothing => write_choice(out, 0x85, 0, 0),
+    }
+}
+
+// The answer to 0E.
+pub(crate) fn write_length(out: &mut [u8], kept: Length)
+    requires { ⌜ 4 ≤ length (now out) ⌝ }
+    ensures { λ r. ⌜ now (out .exit) ≡ sets (now (out .entry)) 0 (answerBytes (plain (lengthTold kept))) ⌝ }
+{
+    match kept {
+        Length::Metres(metres) => write_choice(out, 0x8E, 1, metres),
+        Length::Nothing => write_choice(out, 0x8E, 0, 0),
     }
 }
 

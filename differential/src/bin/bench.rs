@@ -15,6 +15,7 @@ use differential::journals::{operand_count, Writer, COMMANDS};
 use differential::layouts::{self, Layout};
 use differential::random::Random;
 use differential::second::forecast::counts;
+use differential::second::surveys::Record;
 use differential::second::Second;
 use differential::spans::Span;
 use std::hint::black_box;
@@ -25,7 +26,7 @@ const ANSWER_ROOM: usize = 24 << 20;
 
 type Shape = (&'static str, fn(usize) -> Writer);
 
-const SHAPES: [Shape; 13] = [
+const SHAPES: [Shape; 14] = [
     ("random", random),
     ("chain then loops", chain_then_loops),
     ("one long loop", long_loop),
@@ -37,6 +38,7 @@ const SHAPES: [Shape; 13] = [
     ("exchange questions", exchange_questions),
     ("shares", shares),
     ("chain of mates", chain_of_mates),
+    ("surveys", surveys),
     ("ladder routes", |cabinets| asked(ladder(cabinets), cabinets / 32)),
     ("random routes", |cabinets| asked(random_ring(cabinets), cabinets / 32)),
 ];
@@ -139,6 +141,21 @@ fn chain_of_mates(cabinets: usize) -> Writer {
     writer
 }
 
+/// Two spans from the first cabinet to each other one; then, by turns, records and questions about every
+/// eighth span, in random order and on few days.
+fn surveys(cabinets: usize) -> Writer {
+    let mut random = Random::new(9);
+    let mut writer = written(&layouts::star(cabinets, 2));
+    let surveyed = writer.spans.len() / 8;
+    for _ in 0..cabinets / 2 {
+        let span = 8 * random.below(surveyed);
+        let (day, metres) = (random.below(16), random.below(65_536));
+        writer.record(Record { span, day, metres });
+        writer.command(0x0E, &[8 * random.below(surveyed)]);
+    }
+    writer
+}
+
 /// A network, and the next two cabinets to ask about, which share a ring.
 type Routes = (Writer, Box<dyn FnMut() -> [usize; 2]>);
 
@@ -183,11 +200,13 @@ const QUESTIONS: usize = 256;
 type Long = (&'static str, fn() -> Vec<u8>);
 
 /// Journals to forecast, as long as they may be. A run need not accept them.
-const LONG: [Long; 6] = [
+const LONG: [Long; 8] = [
     ("01 alone", || alike(0x01)),
     ("02 alone", || alike(0x02)),
     ("0B alone", || alike(0x0B)),
     ("0C alone", || alike(0x0C)),
+    ("0D alone", || alike(0x0D)),
+    ("0E alone", || alike(0x0E)),
     ("all but 0B", || mixed(|byte| byte != 0x0B)),
     ("all commands", || mixed(|_| true)),
 ];

@@ -11,7 +11,7 @@ type Wrong = (&'static str, Misforecast);
 
 /// Lengths that do not suffice for some journals: a run with exactly so much room must find them
 /// where the second implementation has them too.
-pub const TOO_SMALL: [Wrong; 12] = [
+pub const TOO_SMALL: [Wrong; 15] = [
     ("the part of 06 left out", |journal, right| {
         of_length(journal, right, |counts| length(counts) - (3 + 2 * spans(counts)) * counts[6])
     }),
@@ -52,6 +52,15 @@ pub const TOO_SMALL: [Wrong; 12] = [
     ("2 for 0F", |journal, right| {
         of_length(journal, right, |counts| length(counts) - counts[0x0F])
     }),
+    ("0 for 0D", |journal, right| {
+        of_length(journal, right, |counts| length(counts) - counts[0x0D])
+    }),
+    ("1 for 0E", |journal, right| {
+        of_length(journal, right, |counts| length(counts) - 3 * counts[0x0E])
+    }),
+    ("3 for 0E", |journal, right| {
+        of_length(journal, right, |counts| length(counts) - counts[0x0E])
+    }),
     ("L one less", |journal, right| {
         let once = |k: usize| if k > 1 { k } else { 0 };
         of_length(journal, right, |counts| {
@@ -64,7 +73,7 @@ pub const TOO_SMALL: [Wrong; 12] = [
 ];
 
 /// Other faults, which only the comparison can find.
-pub const WRONG: [Wrong; 6] = [
+pub const WRONG: [Wrong; 8] = [
     ("c and s exchanged in the parts of 06, 07 and 0C", |journal, right| {
         of_length(journal, right, |counts| {
             let (c, s, by_spans, cut) =
@@ -74,6 +83,16 @@ pub const WRONG: [Wrong; 6] = [
     }),
     ("06, 07 and 0C with the c and s before them", |journal, right| {
         of_length(journal, right, |counts| length(counts) - for_later(journal))
+    }),
+    ("4 for 0D", |journal, right| {
+        of_length(journal, right, |counts| length(counts) + 3 * counts[0x0D])
+    }),
+    ("0D counted as a span", |journal, right| {
+        of_length(journal, right, |counts| {
+            let mut other = *counts;
+            other[0x0B] += counts[0x0D];
+            length(&other)
+        })
     }),
     ("the place where a run would stop", |journal, right| match right.number {
         4 | 5 => Forecast { place: run_place(journal), ..right },

@@ -3,9 +3,8 @@
 
 use crate::engine::{Forecast, LONGEST_JOURNAL};
 
-/// The lengths of the commands 03 to 0C and 0F, each a hexadecimal digit at its byte's place; 0 for
-/// the bytes between that are no command's.
-const LENGTHS: u64 = 0x1005_7333_5553_3000;
+/// The lengths of the commands 03 to 0F, each a hexadecimal digit at its byte's place.
+const LENGTHS: u64 = 0x1375_7333_5553_3000;
 
 /// The whole part of log2 k, and 0 for 0.
 fn log(k: usize) -> usize {
@@ -32,12 +31,8 @@ pub fn forecast(journal: &[u8]) -> Forecast {
             }
             // These come in any order: their length is taken without a branch.
             0x03..=0x0F => {
-                let length = (LENGTHS >> (4 * byte)) as usize & 0xF;
                 asked[usize::from(byte)] += 1;
-                place += length;
-                if length == 0 {
-                    return Forecast::refused(4, place);
-                }
+                place += (LENGTHS >> (4 * byte)) as usize & 0xF;
             }
             _ => return Forecast::refused(4, place),
         }
@@ -51,12 +46,13 @@ pub fn forecast(journal: &[u8]) -> Forecast {
 /// The length, with c commands 01, s commands 02 and so many of each other byte. A command 0B adds a
 /// span too.
 fn length(c: usize, s: usize, asked: [usize; 16]) -> usize {
-    let [_, _, _, district, ring, mesh, sole, cut, is_sole, mark, is_fed, in_duct, routes, .., share] =
-        asked;
+    let [_, _, _, district, ring, mesh, sole, cut, is_sole, rest @ ..] = asked;
+    let [mark, is_fed, in_duct, routes, record, survey, share] = rest;
     let s = s + in_duct;
     let added = 3 * c + 7 * s + 5 * (2 * c * log(c) + s * log(s));
     let names = 3 * (district + ring) + 4 * mesh + 2 * is_sole;
     let lists = (3 + 2 * s) * sole + (3 + 2 * c) * cut + (5 + 2 * s) * routes;
     let exchanges = mark + 2 * is_fed + 3 * share;
-    added + names + lists + exchanges
+    let surveys = record + 4 * survey;
+    added + names + lists + exchanges + surveys
 }

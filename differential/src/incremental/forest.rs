@@ -17,6 +17,8 @@ pub struct Forest {
     ends: Vec<(u32, u32)>,
     /// For each edge its duct, 0 for none.
     duct: Vec<u32>,
+    /// For each edge the one survey record that holds.
+    survey: Vec<Option<Survey>>,
     /// For each block name the vertex above the block.
     top: Vec<u32>,
     /// For each vertex whether it is an exchange.
@@ -24,6 +26,13 @@ pub struct Forest {
     /// For each bridge-block name how many exchanges the bridge-block holds.
     exchanges: Vec<u32>,
     path: Path,
+}
+
+/// A length, and the day on which it was measured.
+#[derive(Clone, Copy)]
+pub struct Survey {
+    pub day: u32,
+    pub metres: u32,
 }
 
 /// The way between two vertices: block i lies between vertex i and vertex i + 1.
@@ -46,6 +55,7 @@ impl Forest {
             depth: Vec::with_capacity(vertices),
             ends: Vec::with_capacity(edges),
             duct: Vec::with_capacity(edges),
+            survey: Vec::with_capacity(edges),
             top: Vec::with_capacity(edges),
             exchange: Vec::with_capacity(vertices),
             exchanges: Vec::with_capacity(vertices),
@@ -105,6 +115,19 @@ impl Forest {
         self.ring.name.iter().filter(|&&name| self.exchanges[name as usize] > 0).count() as u32
     }
 
+    /// A record replaces the one that holds if its day is greater.
+    pub fn record(&mut self, edge: u32, survey: Survey) {
+        let held = &mut self.survey[edge as usize];
+        if held.is_none_or(|held| survey.day > held.day) {
+            *held = Some(survey);
+        }
+    }
+
+    /// The length of an edge, if there is a record of it.
+    pub fn length(&self, edge: u32) -> Option<u32> {
+        self.survey[edge as usize].map(|survey| survey.metres)
+    }
+
     /// The block above a vertex; none at a root.
     fn above(&self, vertex: u32) -> Option<u32> {
         let up = self.up[vertex as usize];
@@ -127,6 +150,7 @@ impl Forest {
         self.district.changed.clear();
         self.ends.push((a, b));
         self.duct.push(duct);
+        self.survey.push(None);
         if self.district(a) != self.district(b) {
             return self.link(a, b);
         }

@@ -3,6 +3,7 @@
 use super::book::Book;
 use super::groups::{cut_cabinets, is_sole, route, shared_mesh, sole_spans};
 use super::mates::Misduct;
+use super::surveys::Record;
 use super::State;
 use crate::kinds::KINDS;
 use crate::pairs::Pair;
@@ -23,6 +24,9 @@ pub enum Command {
     /// Two cabinets and a duct.
     AddInDuct(usize, usize, usize),
     Routes(usize, usize),
+    Record(Record),
+    /// The length of a span.
+    Length(usize),
     Share,
 }
 
@@ -55,8 +59,8 @@ fn operand_count(byte: u8) -> Option<usize> {
     match byte {
         0x01 | 0x0F => Some(0),
         0x02 | 0x05..=0x07 | 0x0C => Some(2),
-        0x03 | 0x04 | 0x08..=0x0A => Some(1),
-        0x0B => Some(3),
+        0x03 | 0x04 | 0x08..=0x0A | 0x0E => Some(1),
+        0x0B | 0x0D => Some(3),
         _ => None,
     }
 }
@@ -83,6 +87,8 @@ pub fn read(bytes: &[u8]) -> Result<(Command, usize), u32> {
         0x0A => Command::IsFed(operand(0)),
         0x0B => Command::AddInDuct(operand(0), operand(1), operand(2)),
         0x0C => Command::Routes(operand(0), operand(1)),
+        0x0D => Command::Record(Record { span: operand(0), day: operand(1), metres: operand(2) }),
+        0x0E => Command::Length(operand(0)),
         _ => Command::Share,
     };
     Ok((command, length))
@@ -115,7 +121,11 @@ pub fn refusal(command: Command, state: &State, capacities: Capacities) -> Optio
 fn has_unknown_cabinet(command: Command, book: &Book) -> bool {
     let unknown = |cabinet: usize| cabinet >= book.network.cabinets;
     match command {
-        Command::AddCabinet | Command::IsSole(_) | Command::Share => false,
+        Command::AddCabinet
+        | Command::IsSole(_)
+        | Command::Record(_)
+        | Command::Length(_)
+        | Command::Share => false,
         Command::DistrictName(a) | Command::RingName(a) | Command::Mark(a) | Command::IsFed(a) => {
             unknown(a)
         }
@@ -129,7 +139,12 @@ fn has_unknown_cabinet(command: Command, book: &Book) -> bool {
 }
 
 fn has_unknown_span(command: Command, book: &Book) -> bool {
-    matches!(command, Command::IsSole(s) if s >= book.network.spans.len())
+    let unknown = |span: usize| span >= book.network.spans.len();
+    match command {
+        Command::IsSole(s) | Command::Length(s) => unknown(s),
+        Command::Record(record) => unknown(record.span),
+        _ => false,
+    }
 }
 
 fn has_equal_cabinets(command: Command) -> bool {
@@ -181,7 +196,8 @@ pub fn answer(
     after: &State,
     choose: &mut dyn FnMut(usize, usize) -> Pair,
 ) -> Vec<u8> {
-    let (before, exchanges, after) = (&before.book, &after.exchanges, &after.book);
+    let (exchanges, surveys) = (&after.exchanges, &after.surveys);
+    let (before, after) = (&before.book, &after.book);
     let network = &after.network;
     let groups = &after.groups;
     let names = &after.names;
@@ -195,8 +211,8 @@ pub fn answer(
         Command::DistrictName(a) => fields(0x83, &[names.district[a]]),
         Command::RingName(a) => fields(0x84, &[names.ring[a]]),
         Command::SharedMesh(a, b) => match shared_mesh(network, groups, a, b) {
-            Some(span) => flagged(1, names.mesh[span]),
-            None => flagged(0, 0),
+            Some(span) => flagged(0x85, 1, names.mesh[span]),
+            None => flagged(0x85, 0, 0),
         },
         Command::SoleSpans(a, b) => list(0x86, &sole_spans(network, groups, &route(a, b))),
         Command::CutCabinets(a, b) => list(0x87, &cut_cabinets(groups, &route(a, b))),
@@ -207,6 +223,11 @@ pub fn answer(
         Command::Mark(_) => vec![0x89],
         Command::IsFed(a) => vec![0x8A, exchanges.feed(groups, a) as u8],
         Command::Routes(a, b) => two_lists(0x8C, &choose(a, b)),
+        Command::Record(_) => vec![0x8D],
+        Command::Length(s) => match surveys.length(s) {
+            Some(metres) => flagged(0x8E, 1, metres),
+            None => flagged(0x8E, 0, 0),
+        },
         Command::Share => fields(0x8F, &[exchanges.share(groups)]),
     }
 }
@@ -242,9 +263,10 @@ fn fields(first: u8, values: &[usize]) -> Vec<u8> {
     bytes
 }
 
-fn flagged(flag: u8, name: usize) -> Vec<u8> {
-    let mut bytes = vec![0x85];
-    bytes.extend(fields(flag, &[name]));
+/// A first byte, one byte 1 or 0, and a field.
+fn flagged(first: u8, flag: u8, value: usize) -> Vec<u8> {
+    let mut bytes = vec![first];
+    bytes.extend(fields(flag, &[value]));
     bytes
 }
 

@@ -41,6 +41,8 @@ pub fn length(counts: &Counts) -> usize {
         + counts[0x09]
         + 2 * counts[0x0A]
         + (5 + 2 * s) * counts[0x0C]
+        + counts[0x0D]
+        + 4 * counts[0x0E]
         + 3 * counts[0x0F]
 }
 

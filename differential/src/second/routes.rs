@@ -5,11 +5,13 @@ use super::book::Book;
 use super::command::Command;
 use super::groups::{route, route_over, Near, Network, Step};
 use super::mates::are_mates;
+use super::surveys::Surveys;
 use crate::pairs::Pair;
 
 /// A 0C that no line before 11 refuses.
 pub struct Asked<'a> {
     pub network: &'a Network,
+    pub surveys: &'a Surveys,
     pub a: usize,
     pub b: usize,
     /// The answer bytes written before it, and those left.

@@ -1,4 +1,5 @@
 -- `add_edge` does to the book what the naming book does for one edge more.
+use native.Mathlib.Omega.{arith}
 use borrow.Author.Needs.{needs}
 use Rattle.forest.specs.Promise.{Holds}
 use Rattle.forest.proofs.add_edge.Statement.{statement}
@@ -29,6 +30,7 @@ returns c =
       a-known = s .pre .2;
       b-known = s .pre .3;
       differ = s .pre .4;
+      duct-small = omega (arith, s .good);
     })
     (s .pre .0 .bridges-named)
     (c .before .before .grow-edge .last .0)

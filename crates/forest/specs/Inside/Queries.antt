@@ -10,6 +10,7 @@ use Rattle.table.specs.Inside.Layout.{cell, put, vertexArea, bridgeBlockArea, e
 use Rattle.table.specs.Inside.Merge.{nameIn}
 use Rattle.forest.specs.declared.Shared.{Shared}
 use Rattle.forest.specs.declared.Shared.the-variants.{Block, Nothing}
+use Rattle.forest.specs.Inside.Words.{ductOf}
 use Rattle.forest.specs.Inside.Climb.{upOf, blockOf, topOf, pathVertex, pathEdge, climbTable, climbRoute}
 
 -- The bridge-block names of two vertices differ.
@@ -35,9 +36,9 @@ endsAgree ends other =
 -- Two edges lie in one duct, between the same two vertices.
 unfoldable pub lostTogether : List ℕ → Limits → ℕ → ℕ → Bool
 lostTogether t limits s other =
-    let duct = cell t (edgeArea limits) Column.duct s in
+    let duct = ductOf t limits s in
     not (eqb duct 0)
-    && eqb duct (cell t (edgeArea limits) Column.duct other)
+    && eqb duct (ductOf t limits other)
     && endsAgree (cell t (edgeArea limits) Column.ends s) (cell t (edgeArea limits) Column.ends other)
 
 -- Vertex x hangs below a block, and y is the vertex above that block.

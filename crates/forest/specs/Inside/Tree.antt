@@ -13,6 +13,7 @@ use Rattle.table.specs.Inside.Layout.{cell, put, vertexArea, bridgeBlockArea, e
 use Rattle.table.specs.Inside.Merge.{nameIn, sizeIn, rangeIn, bestListed, mergeListed, leastOf}
 use Rattle.forest.specs.declared.Growth.{Growth}
 use Rattle.forest.specs.declared.tree.Turning.{Turning}
+use Rattle.forest.specs.Inside.Words.{ductOf}
 use Rattle.forest.specs.Inside.Climb.{upOf, depthOf, blockOf, aboveEdge, pathEdge, climbTable, climbRoute}
 
 -- A group of one item, named by its number.
@@ -147,8 +148,8 @@ enterBlock t limits e w v =
 -- The path has one step, and the new edge e lies in the duct of the edge of that step.
 unfoldable pub inStepDuct : List ℕ → Limits → ℕ → ℕ → Bool
 inStepDuct t limits e steps =
-    let duct = cell t (edgeArea limits) Column.duct e in
-    eqb steps 1 && not (eqb duct 0) && eqb (cell t (edgeArea limits) Column.duct (pathEdge t limits 0)) duct
+    let duct = ductOf t limits e in
+    eqb steps 1 && not (eqb duct 0) && eqb (ductOf t limits (pathEdge t limits 0)) duct
 
 -- How many of the path's vertices have their bridge-blocks merged: all, or only the first, which changes nothing, where the new edge lies in
 -- the step's duct. (Then either the step's edge is a bridge and so, being parallel to e, a mate of it, or the path's two vertices share a

@@ -1,9 +1,9 @@
--- When the words of a table are those of a network with its names and marks, and which naming book and which marks they hold.
-use mathlib.Core.Bool.{Bool, true, _&&_}
-use mathlib.Core.List.{List}
+-- When the words of a table are those of a network with its names and marks, and which naming book, marks and surveys they hold.
+use mathlib.Core.Bool.{Bool, true, cond, _&&_}
+use mathlib.Core.List.{List, [], _∷_, _++_}
 use mathlib.Core.Logic.{_⊎_}
 use mathlib.Core.Path.{_≡_}
-use Prim.Native.Nat.{ℕ, suc, _+_, _*_, _/_, _%_, _≤_, _<_}
+use Prim.Native.Nat.{ℕ, zero, suc, _+_, _*_, _/_, _%_, _≤_, _<_}
 use lib.Dec.{eqb, ltb}
 use lib.ListN.{length}
 use Rattle.graph.specs.Below.{tabulate}
@@ -12,19 +12,22 @@ use Rattle.graph.specs.Groups.{component, bridgeBlock}
 use Rattle.graph.specs.Block.{block, onBlock}
 use Rattle.naming.specs.Rename.{size}
 use Rattle.naming.specs.Book.{Book}
+use Rattle.naming.specs.Survey.{Survey}
 use Rattle.naming.specs.BridgeNames.{BridgesNamed}
 use Rattle.numbers.specs.declared.Limits.{Limits}
 use Rattle.table.specs.Inside.Column
 use Rattle.table.specs.Inside.Layout.{cell, vertexArea, bridgeBlockArea, edgeArea}
 use Rattle.table.specs.Inside.KindValid.{namesIn, KindValid, Counts}
 use Rattle.forest.specs.Rule.{tableRule}
+use Rattle.forest.specs.Inside.Words.{ductOf}
+use Rattle.forest.specs.Inside.Surveys.{isSurveyed, keptDay, keptMetres}
 use Rattle.forest.specs.Inside.Climb.{upOf, depthOf, aboveEdge}
 
 -- Edge s as it is stored: its two ends in one word, its duct in another.
 unfoldable pub storedEdge : List ℕ → Limits → ℕ → Edge
 storedEdge t limits s =
     let ends = cell t (edgeArea limits) Column.ends s in
-    edgeInDuct (ends / 65536) (ends % 65536) (cell t (edgeArea limits) Column.duct s)
+    edgeInDuct (ends / 65536) (ends % 65536) (ductOf t limits s)
 
 -- The network of n vertices and m edges that the table holds.
 unfoldable pub networkOf : Limits → ℕ → ℕ → List ℕ → Network
@@ -43,6 +46,16 @@ bookOf limits n m t =
 -- Vertex x, one of n, is marked.
 unfoldable pub markedIn : Limits → ℕ → List ℕ → ℕ → Bool
 markedIn limits n t x = ltb x n && eqb (cell t (vertexArea limits) Column.mark x) 1
+
+-- The survey of edge s that is kept, if one is.
+unfoldable pub surveyKept : List ℕ → Limits → ℕ → List Survey
+surveyKept t limits s =
+    cond (isSurveyed t limits s) (record { measured = s; day = keptDay t limits s; metres = keptMetres t limits s } ∷ []) []
+
+-- Those that are kept of the first m edges.
+unfoldable pub surveysIn : Limits → ℕ → List ℕ → List Survey
+surveysIn limits zero t = []
+surveysIn limits (suc m) t = surveysIn limits m t ++ surveyKept t limits m
 
 -- Some edge of the block of edge e is the one above vertex x.
 pub record HangsBelow (t : List ℕ) (limits : Limits) (g : Network) (e x : ℕ) : Type 0 where

@@ -1,8 +1,12 @@
 -- `register_run` leaves what the register leaves: a start refusal, or the run with the table cleared behind it and the report filled.
+use mathlib.Core.Bool.{true}
+use mathlib.Core.Path.{_≡_}
 use native.Mathlib.Omega.{arith}
 use borrow.Author.Needs.{needs}
 use lib.ListN.{length}
+use Rattle.commands.specs.Bytes.{allBytes}
 use Rattle.commands.specs.Entry.{Buffers}
+use Rattle.commands.proofs.Bytes.{bytes-by-place}
 use Rattle.numbers.specs.declared.Limits.{Limits}
 use Rattle.run.specs.Promise.{capacitiesOf}
 use Rattle.journal.proofs.EntryLaws.{work-is-words, promised-at-start, Begins, begins, promised-by-run}
@@ -12,6 +16,10 @@ use Rattle.journal.proofs.register_run.Tie as tie
 -- the buffers that are lent
 abbrev lent : tie.Start → Buffers
 lent s = record { work = s .args .work .now; answers = s .args .answers .now; report = s .args .report .now }
+
+-- what is handed over as a journal is bytes
+bytes : (c : tie.After-shared-slice-known) → allBytes (c .before .args .journal .now) ≡ true
+bytes c = bytes-by-place (c .before .args .journal .now) (λ i h. omega (arith, c .shared-slice-known .given i))
 
 -- a start that is not refused
 begun : (c : tie.Else1)
@@ -43,6 +51,7 @@ returns c =
     (record { cabinets = s .args .c; spans = s .args .s })
     (s .args .journal .now)
     (lent s)
+    (bytes (at-start-refusal .before .before .before .before))
     (at-start-refusal .start-refusal .result)
     (at-start-refusal .start-refusal .ensures)
     (c .if1 .taken)
@@ -100,6 +109,7 @@ returns-2 c =
     promised-by-run
     (record { vertices = s .args .c; edges = s .args .s })
     (s .args .journal .now)
+    (bytes (at-start-refusal .before .before .before .before))
     (lent s)
     (at-start-refusal .start-refusal .result)
     (at-start-refusal .start-refusal .ensures)

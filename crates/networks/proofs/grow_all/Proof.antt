@@ -1,6 +1,6 @@
 -- `grow_all` adds one edge after another: the table holds a network throughout. The measure is how many are left.
 use mathlib.Core.Path.{_≡_, refl}
-use Prim.Native.Nat.{_-_, _/_}
+use Prim.Native.Nat.{_+_, _*_, _-_, _/_}
 use native.Mathlib.Omega.{arith}
 use borrow.Author.Needs.{needs}
 use lib.ListN.{length}
@@ -27,6 +27,9 @@ mul-a-2 c = omega arith
 shared-slice-read-a : tie.Need-shared-slice-read-a Inv-loop μ-loop
 shared-slice-read-a c = omega arith
 
+cast-a : tie.Need-cast-a Inv-loop μ-loop
+cast-a c = omega (arith, c .shared-slice-known2 .given (c .before .before .loop .i * 3))
+
 mul-b : tie.Need-mul-b Inv-loop μ-loop
 mul-b c = omega arith
 
@@ -38,6 +41,9 @@ mul-b-2 c = omega arith
 
 shared-slice-read-b : tie.Need-shared-slice-read-b Inv-loop μ-loop
 shared-slice-read-b c = omega arith
+
+cast-b : tie.Need-cast-b Inv-loop μ-loop
+cast-b c = omega (arith, c .shared-slice-known3 .given (c .before .before .before .loop .i * 3 + 1))
 
 mul-d : tie.Need-mul-d Inv-loop μ-loop
 mul-d c = omega arith
@@ -79,10 +85,12 @@ grow-all-spec =
     mul-a
     mul-a-2
     shared-slice-read-a
+    cast-a
     mul-b
     add-b
     mul-b-2
     shared-slice-read-b
+    cast-b
     mul-d
     add-d
     mul-d-2

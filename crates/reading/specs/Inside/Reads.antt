@@ -5,7 +5,7 @@ use mathlib.Core.Option.{Option, none, some}
 use mathlib.Core.Path.{_≡_}
 use Prim.Native.Nat.{ℕ, _*_, _/_, _%_, _^_}
 use lib.Dec.{eqb}
-use Rattle.commands.specs.Command.{Command, addCabinet, addSpan, districtName, ringName, sharedMesh, soleSpans, cutCabinets, isSole, markExchange, holdsExchange, addDuctSpan, routesBetween, exchangeShare, Form, unknown, takes, form, Reading, unknownByte, cutOff, command}
+use Rattle.commands.specs.Command.{Command, addCabinet, addSpan, districtName, ringName, sharedMesh, soleSpans, cutCabinets, isSole, markExchange, holdsExchange, addDuctSpan, routesBetween, recordLength, spanLength, exchangeShare, Form, unknown, takes, form, Reading, unknownByte, cutOff, command}
 use Rattle.reading.specs.declared.read.Lay.{Lay}
 use Rattle.reading.specs.declared.read.Lay.the-variants as L
 use Rattle.reading.specs.declared.read.Order.{Order}
@@ -33,6 +33,8 @@ meaning (O.IsSole s) = isSole (s .0)
 meaning (O.MarkExchange a) = markExchange (a .0)
 meaning (O.HoldsExchange a) = holdsExchange (a .0)
 meaning (O.RoutesBetween a b) = routesBetween (a .0) (b .0)
+meaning (O.RecordLength s measure) = recordLength (s .0) (measure .day) (measure .metres)
+meaning (O.SpanLength s) = spanLength (s .0)
 meaning O.ExchangeShare = exchangeShare
 
 -- What was read: an unknown byte is refusal 4, cut-off operands are refusal 5.
@@ -41,24 +43,30 @@ readingOf K.Unknown = unknownByte
 readingOf K.CutOff = cutOff
 readingOf (K.Command o width) = command (meaning o) width
 
--- The bytes of the commands with one operand, and of those with two.
+-- The bytes of the commands with one operand, of those with two, and of those with three.
 abbrev pub OneOperand : ℕ → Type 0
-OneOperand byte = (byte ≡ 3) ⊎ ((byte ≡ 4) ⊎ ((byte ≡ 8) ⊎ ((byte ≡ 9) ⊎ (byte ≡ 10))))
+OneOperand byte = (byte ≡ 3) ⊎ ((byte ≡ 4) ⊎ ((byte ≡ 8) ⊎ ((byte ≡ 9) ⊎ ((byte ≡ 10) ⊎ (byte ≡ 14)))))
 
 abbrev pub TwoOperands : ℕ → Type 0
 TwoOperands byte = (byte ≡ 2) ⊎ ((byte ≡ 5) ⊎ ((byte ≡ 6) ⊎ ((byte ≡ 7) ⊎ (byte ≡ 12))))
+
+abbrev pub ThreeOperands : ℕ → Type 0
+ThreeOperands byte = (byte ≡ 11) ⊎ (byte ≡ 13)
 
 -- The command that a form makes of so many operands.
 unfoldable pub made : Form → ℕ → (ℕ → ℕ) → Option Command
 made unknown n x = none
 made (takes k make) n x = cond (eqb k n) (some (make x)) none
 
--- The byte makes this command of one operand, and of two.
+-- The byte makes this command of one operand, of two, and of three.
 abbrev pub MadeOfOne : ℕ → ℕ → Command → Type 0
 MadeOfOne byte a c = (x : ℕ → ℕ) → x 0 ≡ a → made (form byte) 1 x ≡ some c
 
 abbrev pub MadeOfTwo : ℕ → ℕ → ℕ → Command → Type 0
 MadeOfTwo byte a b c = (x : ℕ → ℕ) → x 0 ≡ a → x 1 ≡ b → made (form byte) 2 x ≡ some c
+
+abbrev pub MadeOfThree : ℕ → ℕ → ℕ → ℕ → Command → Type 0
+MadeOfThree byte a b d c = (x : ℕ → ℕ) → x 0 ≡ a → x 1 ≡ b → x 2 ≡ d → made (form byte) 3 x ≡ some c
 
 -- The number of the operands' bytes of a form, if it is a command's.
 unfoldable pub formWidth : Form → Option ℕ
@@ -71,7 +79,7 @@ entryOf table k = table / 2 ^ (k * 4) % 16
 
 -- The number of the operands' bytes by the command byte, from 00 on; 15 where the byte is no command's.
 abbrev pub widths : ℕ
-widths = 0x0FF462224442240F
+widths = 0x026462224442240F
 
 -- What an entry of the table says.
 unfoldable pub entryWidth : ℕ → Option ℕ

@@ -49,8 +49,14 @@ mul-result-2 c = search needs
 add-result-3 : tie.Need-add-result-3
 add-result-3 c = search needs
 
+enum-told-2 : tie.Need-enum-told-2
+enum-told-2 c = search needs
+
 enum-known-finding-7 : tie.Need-enum-known-finding-7
 enum-known-finding-7 c = search needs
+
+enum-known-finding-8 : tie.Need-enum-known-finding-8
+enum-known-finding-8 c = search needs
 
 returns : tie.Need-returns
 unfolding findingSize
@@ -82,7 +88,15 @@ returns-7 c = rw (c .before .before .before .finding6 .given .1)
 
 returns-8 : tie.Need-returns-8
 unfolding findingSize
-returns-8 c = rw (c .before .finding7 .given .1)
+returns-8 c = rw (c .enum-told2 .given .1)
+
+returns-9 : tie.Need-returns-9
+unfolding findingSize
+returns-9 c = rw (c .before .finding7 .given .1)
+
+returns-10 : tie.Need-returns-10
+unfolding findingSize
+returns-10 c = rw (c .before .finding8 .given .1)
 
 pub finding-size-spec : {M : Type 1} → statement M
 finding-size-spec =
@@ -103,7 +117,9 @@ finding-size-spec =
     add-result-2
     mul-result-2
     add-result-3
+    enum-told-2
     enum-known-finding-7
+    enum-known-finding-8
     returns
     returns-2
     returns-3
@@ -111,4 +127,6 @@ finding-size-spec =
     returns-5
     returns-6
     returns-7
-    returns-8)
+    returns-8
+    returns-9
+    returns-10)

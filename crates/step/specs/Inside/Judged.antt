@@ -60,4 +60,6 @@ judgement shape t (O.IsSole s) = spanRefusal shape (s .0)
 judgement shape t (O.MarkExchange a) = exchangeRefusal shape t (a .0)
 judgement shape t (O.HoldsExchange a) = cabinetRefusal shape (a .0)
 judgement shape t (O.RoutesBetween a b) = ringRefusal shape t (a .0) (b .0)
+judgement shape t (O.RecordLength s measure) = spanRefusal shape (s .0)
+judgement shape t (O.SpanLength s) = spanRefusal shape (s .0)
 judgement shape t O.ExchangeShare = 0

@@ -41,7 +41,8 @@ perBlock = 4
 abbrev pub ofBridgeBlocks : ℕ → ℕ
 ofBridgeBlocks c = perComponent + c
 
--- The other columns of the edges, behind those of blocks: an edge's two ends; by a block's name, the vertex above it; an edge's duct.
+-- The other columns of the edges, behind those of blocks: an edge's two ends; by a block's name, the vertex above it; an edge's duct, and in
+-- the upper half of that word whether a survey of the edge is kept; the day and the metres of that survey.
 abbrev pub ends : ℕ
 ends = perBlock
 
@@ -50,6 +51,9 @@ top = ends + 1
 
 abbrev pub duct : ℕ
 duct = ends + 2
+
+abbrev pub survey : ℕ
+survey = ends + 3
 
 -- The other columns of the vertices, behind those of bridge-blocks: the way up, the depth, the path's vertices and edges, those of its right
 -- side, and whether the vertex is marked.

@@ -16,21 +16,27 @@ name-code-requires c κs = search needs
 
 write-cabinet-requires : tie.Need-write-cabinet-requires
 unfolding findingSize
-write-cabinet-requires c κs = let s = c .before .before .before .before .before .before .before in rw (c .before .before .before .finding .given .1) at (s .pre)
+write-cabinet-requires c κs =
+    let s = c .before .before .before .before .before .before .before in
+    rw (c .before .before .before .finding .given .1) at (s .pre)
 
 enum-known-finding-2 : tie.Need-enum-known-finding-2
 enum-known-finding-2 c = search needs
 
 write-shared-requires : tie.Need-write-shared-requires
 unfolding findingSize
-write-shared-requires c κs = let s = c .before .before .before .before .before .before in rw (c .before .before .finding2 .given .1) at (s .pre)
+write-shared-requires c κs =
+    let s = c .before .before .before .before .before .before in
+    rw (c .before .before .finding2 .given .1) at (s .pre)
 
 enum-known-finding-3 : tie.Need-enum-known-finding-3
 enum-known-finding-3 c = search needs
 
 write-list-requires : tie.Need-write-list-requires
 unfolding findingSize
-write-list-requires c κs = let s = c .before .before .before .before .before .before in rw (c .before .before .finding3 .given .1) at (s .pre)
+write-list-requires c κs =
+    let s = c .before .before .before .before .before .before in
+    rw (c .before .before .finding3 .given .1) at (s .pre)
 
 enum-known-finding-4 : tie.Need-enum-known-finding-4
 enum-known-finding-4 c = search needs
@@ -61,14 +67,33 @@ enum-known-finding-6 c = search needs
 
 write-routes-requires : tie.Need-write-routes-requires
 unfolding findingSize
-write-routes-requires c κs = let s = c .before .before .before .before .before .before in rw (c .before .before .finding6 .given .1) at (s .pre)
+write-routes-requires c κs =
+    let s = c .before .before .before .before .before .before in
+    rw (c .before .before .finding6 .given .1) at (s .pre)
+
+enum-told-2 : tie.Need-enum-told-2
+enum-told-2 c = search needs
+
+write-code-requires-2 : tie.Need-write-code-requires-2
+write-code-requires-2 c κs = search needs
 
 enum-known-finding-7 : tie.Need-enum-known-finding-7
 enum-known-finding-7 c = search needs
 
+write-length-requires : tie.Need-write-length-requires
+unfolding findingSize
+write-length-requires c κs =
+    let s = c .before .before .before .before .before .before in
+    rw (c .before .before .finding7 .given .1) at (s .pre)
+
+enum-known-finding-8 : tie.Need-enum-known-finding-8
+enum-known-finding-8 c = search needs
+
 write-number-requires : tie.Need-write-number-requires
 unfolding findingSize
-write-number-requires c κs = let s = c .before .before .before .before .before .before in rw (c .before .before .finding7 .given .1) at (s .pre)
+write-number-requires c κs =
+    let s = c .before .before .before .before .before .before in
+    rw (c .before .before .finding8 .given .1) at (s .pre)
 
 same-length : tie.Need-same-length
 same-length c = search needs
@@ -140,10 +165,28 @@ same-length-8 : tie.Need-same-length-8
 same-length-8 c = search needs
 
 returns-8 : tie.Need-returns-8
-unfolding findingAnswer answerBytes answerFields plainFields fieldsBytes fieldBytes twoBytes
+unfolding findingAnswer answerBytes answerFields plainFields fieldsBytes fieldBytes
 returns-8 c =
+    let at-write-code2 = c .before .before in
+    rw (at-write-code2 .before .before .enum-told2 .given .1) (at-write-code2 .write-code2 .ensures)
+
+same-length-9 : tie.Need-same-length-9
+same-length-9 c = search needs
+
+returns-9 : tie.Need-returns-9
+unfolding findingAnswer
+returns-9 c =
+    let at-write-length = c .before .before in
+    rw (at-write-length .before .before .before .finding7 .given .1) (at-write-length .write-length .ensures)
+
+same-length-10 : tie.Need-same-length-10
+same-length-10 c = search needs
+
+returns-10 : tie.Need-returns-10
+unfolding findingAnswer answerBytes answerFields plainFields fieldsBytes fieldBytes twoBytes
+returns-10 c =
     let at-write-number = c .before .before in
-    rw (at-write-number .before .before .before .finding7 .given .1) (at-write-number .write-number .ensures)
+    rw (at-write-number .before .before .before .finding8 .given .1) (at-write-number .write-number .ensures)
 
 pub write-finding-spec : {M : Type 1} → statement M
 write-finding-spec =
@@ -166,7 +209,11 @@ write-finding-spec =
     write-flag-requires-2
     enum-known-finding-6
     write-routes-requires
+    enum-told-2
+    write-code-requires-2
     enum-known-finding-7
+    write-length-requires
+    enum-known-finding-8
     write-number-requires
     same-length
     returns
@@ -183,4 +230,8 @@ write-finding-spec =
     same-length-7
     returns-7
     same-length-8
-    returns-8)
+    returns-8
+    same-length-9
+    returns-9
+    same-length-10
+    returns-10)

@@ -19,6 +19,9 @@ set-word-requires c κs = search needs
 edge-area-requires-2 : tie.Need-edge-area-requires-2
 edge-area-requires-2 c κs = search needs
 
+cast-set-word : tie.Need-cast-set-word
+cast-set-word c = search needs
+
 set-word-requires-2 : tie.Need-set-word-requires-2
 set-word-requires-2 c κs = search needs
 
@@ -29,7 +32,7 @@ returns : tie.Need-returns
 unfolding edgeTable
 returns c =
     let at-set-word2 = c .before .before in
-    let at-edge-area2 = at-set-word2 .before in
+    let at-edge-area2 = at-set-word2 .before .before in
     let at-set-word = at-edge-area2 .before .before .before .before in
     let at-edge-area = at-set-word .before in
     rw (
@@ -48,6 +51,7 @@ store-edge-spec =
     edge-area-requires
     set-word-requires
     edge-area-requires-2
+    cast-set-word
     set-word-requires-2
     same-length
     returns)

@@ -52,14 +52,14 @@ unfolding passingOf passOver
 returns-4 c =
     let a = c .before .before .before .before .args in
     let byte = getD (a .journal .now) (a .at) 0 in
-    sym (ap (passOver byte) (read-unknown byte (drop (a .at + 1) (a .journal .now)) (inl (omega arith)) (λ e. omega arith)))
+    sym (ap (passOver byte) (read-unknown byte (drop (a .at + 1) (a .journal .now)) (inl (omega arith))))
 
 returns-5 : tie.Need-returns-5
 unfolding passingOf passOver
 returns-5 c =
     let a = c .before .before .before .before .before .args in
     let byte = getD (a .journal .now) (a .at) 0 in
-    sym (ap (passOver byte) (read-unknown byte (drop (a .at + 1) (a .journal .now)) (inr (omega arith)) (λ e. omega arith)))
+    sym (ap (passOver byte) (read-unknown byte (drop (a .at + 1) (a .journal .now)) (inr (omega arith))))
 
 pub pass-at-spec : {M : Type 1} → statement M
 pass-at-spec =

@@ -18,21 +18,27 @@ add-take-three : tie.Need-add-take-three
 add-take-three c = search needs
 
 take-three-requires : tie.Need-take-three-requires
-take-three-requires c κs = omega arith
+take-three-requires c κs = (c .match .keys4, omega arith)
 
 add-take-one : tie.Need-add-take-one
 add-take-one c = search needs
 
 take-one-requires : tie.Need-take-one-requires
 take-one-requires c κs =
-    let rest = c .before .before .match .rest in
-    let a = c .before .before .before .before .before .args in
-    let byte = getD (a .journal .now) (a .at) 0 in
-    let from-three = above 2 byte (above 1 byte (c .before .if1 .left) (rest .0 .0 .0 .1)) (λ e. rest .0 .0 .1 (inl e)) in (
+    let a = c .before .before .before .args in
+    let byte = getD (a .journal .now) (a .at) 0 in (
       ⊎-elim
-          (λ w. ⊎-elim inl (λ e. inr (inl e)) (one-of-two 3 byte from-three (omega (arith, w .taken))))
-          (λ w. inr (inr (one-of-three 8 byte (omega (arith, w .1 .left)) (omega (arith, w .2 .taken)))))
-          (c .if2 .came),
+          (λ w. inr (inr (inr (inr (inr (w .keys3))))))
+          (⊎-elim
+          (λ w.
+          let from-two = above 1 byte (w .1 .left) (w .0 .rest .0 .0 .0 .0 .1) in
+          let from-three = above 2 byte from-two (λ e. w .0 .rest .0 .0 .0 .1 (inl e)) in
+          ⊎-elim inl (λ e. inr (inl e)) (one-of-two 3 byte from-three (omega (arith, w .2 .taken))))
+          (λ w.
+          inr
+          (inr
+          (⊎-elim inl (λ r. inr (⊎-elim inl (λ e. inr (inl e)) r)) (one-of-three 8 byte (omega (arith, w .3 .left)) (omega (arith, w .4 .taken)))))))
+          (c .match .came),
       omega arith,
     )
 
@@ -56,35 +62,34 @@ returns c =
     (read-operands (getD (a .journal .now) (a .at) 0) (drop (a .at + 1) (a .journal .now)) 0 addCabinet (rw (c .match .keys1) refl) (omega arith))
 
 returns-2 : tie.Need-returns-2
-returns-2 c = rw (c .before .match .keys3) (c .«take-three» .ensures)
+returns-2 c = search needs
 
 returns-3 : tie.Need-returns-3
 unfolding forms form made readingOf meaning
 returns-3 c =
     let a = c .before .before .before .args in
     sym
-    (read-operands (getD (a .journal .now) (a .at) 0) (drop (a .at + 1) (a .journal .now)) 0 exchangeShare (rw (c .match .keys4) refl) (omega arith))
+    (read-operands (getD (a .journal .now) (a .at) 0) (drop (a .at + 1) (a .journal .now)) 0 exchangeShare (rw (c .match .keys5) refl) (omega arith))
 
 returns-4 : tie.Need-returns-4
-returns-4 c = search needs
+unfolding readingOf
+returns-4 c =
+    let a = c .before .before .before .before .args in
+    sym (read-unknown (getD (a .journal .now) (a .at) 0) (drop (a .at + 1) (a .journal .now)) (inl (c .if1 .taken)))
 
 returns-5 : tie.Need-returns-5
 unfolding readingOf
 returns-5 c =
-    let rest = c .before in
-    let a = rest .before .before .before .args in
-    sym
-    (read-unknown (getD (a .journal .now) (a .at) 0) (drop (a .at + 1) (a .journal .now)) (inl (c .if1 .taken)) (rest .match .rest .1))
-
-returns-6 : tie.Need-returns-6
-unfolding readingOf
-returns-6 c =
     let rest = c .before .before .before .before in
     let a = rest .before .before .before .args in
-    sym
-    (read-unknown (getD (a .journal .now) (a .at) 0) (drop (a .at + 1) (a .journal .now))
-    (inr (above 12 _ (above 11 _ (c .if4 .left) (rest .match .rest .0 .1)) (λ e. rest .match .rest .0 .0 .1 (inr e))))
-    (rest .match .rest .1))
+    let byte = getD (a .journal .now) (a .at) 0 in
+    let not = rest .match .rest in
+    let above-12 = above 12 byte (above 11 byte (c .if4 .left) (λ e. not .0 .1 (inl e))) (λ e. not .0 .0 .0 .1 (inr e)) in
+    let above-14 = above 14 byte (above 13 byte above-12 (λ e. not .0 .1 (inr e))) (not .0 .0 .1) in
+    sym (read-unknown byte (drop (a .at + 1) (a .journal .now)) (inr (above 15 byte above-14 (not .1))))
+
+returns-6 : tie.Need-returns-6
+returns-6 c = search needs
 
 returns-7 : tie.Need-returns-7
 returns-7 c = search needs

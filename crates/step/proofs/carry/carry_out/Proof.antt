@@ -129,6 +129,26 @@ routes-between-requires c κs =
     let known = pair-passes (s .args .shape) _ _ (apart .0) in
     (s .pre .0, known .1, both .1)
 
+enum-known-order-11 : tie.Need-enum-known-order-11
+enum-known-order-11 c = search needs
+
+record-length-requires : tie.Need-record-length-requires
+unfolding judgement
+record-length-requires c κs =
+    let s = c .before .before .before .before .before in
+    let passed = rw (c .before .before .order11 .given .1) at (s .pre .1) in
+    (s .pre .0, span-passes (s .args .shape) _ passed)
+
+enum-known-order-12 : tie.Need-enum-known-order-12
+enum-known-order-12 c = search needs
+
+span-length-requires : tie.Need-span-length-requires
+unfolding judgement
+span-length-requires c κs =
+    let s = c .before .before .before .before .before in
+    let passed = rw (c .before .before .order12 .given .1) at (s .pre .1) in
+    (s .pre .0, span-passes (s .args .shape) _ passed)
+
 enum-told-2 : tie.Need-enum-told-2
 enum-told-2 c = search needs
 
@@ -140,14 +160,18 @@ same-length c = search needs
 
 returns : tie.Need-returns
 unfolding meaning
-returns c = let at-add-cabinet = c .before .before in rw (at-add-cabinet .before .before .enum-told .given .1) (at-add-cabinet .add-cabinet .ensures)
+returns c =
+    let at-add-cabinet = c .before .before in
+    rw (at-add-cabinet .before .before .enum-told .given .1) (at-add-cabinet .add-cabinet .ensures)
 
 same-length-2 : tie.Need-same-length-2
 same-length-2 c = search needs
 
 returns-2 : tie.Need-returns-2
 unfolding meaning
-returns-2 c = let at-add-span = c .before .before in rw (at-add-span .before .before .before .order .given .1) (at-add-span .add-span .ensures)
+returns-2 c =
+    let at-add-span = c .before .before in
+    rw (at-add-span .before .before .before .order .given .1) (at-add-span .add-span .ensures)
 
 same-length-3 : tie.Need-same-length-3
 same-length-3 c = search needs
@@ -175,14 +199,18 @@ same-length-6 c = search needs
 
 returns-6 : tie.Need-returns-6
 unfolding meaning
-returns-6 c = let at-sole-spans = c .before .before in rw (at-sole-spans .before .before .before .order5 .given .1) (at-sole-spans .sole-spans .ensures)
+returns-6 c =
+    let at-sole-spans = c .before .before in
+    rw (at-sole-spans .before .before .before .order5 .given .1) (at-sole-spans .sole-spans .ensures)
 
 same-length-7 : tie.Need-same-length-7
 same-length-7 c = search needs
 
 returns-7 : tie.Need-returns-7
 unfolding meaning
-returns-7 c = let at-cut-cabinets = c .before .before in rw (at-cut-cabinets .before .before .before .order6 .given .1) (at-cut-cabinets .cut-cabinets .ensures)
+returns-7 c =
+    let at-cut-cabinets = c .before .before in
+    rw (at-cut-cabinets .before .before .before .order6 .given .1) (at-cut-cabinets .cut-cabinets .ensures)
 
 same-length-8 : tie.Need-same-length-8
 same-length-8 c = search needs
@@ -196,7 +224,9 @@ same-length-9 c = search needs
 
 returns-9 : tie.Need-returns-9
 unfolding meaning
-returns-9 c = let at-mark-exchange = c .before .before in rw (at-mark-exchange .before .before .before .order8 .given .1) (at-mark-exchange .mark-exchange .ensures)
+returns-9 c =
+    let at-mark-exchange = c .before .before in
+    rw (at-mark-exchange .before .before .before .order8 .given .1) (at-mark-exchange .mark-exchange .ensures)
 
 same-length-10 : tie.Need-same-length-10
 same-length-10 c = search needs
@@ -210,14 +240,32 @@ same-length-11 c = search needs
 
 returns-11 : tie.Need-returns-11
 unfolding meaning
-returns-11 c = let at-routes = c .before .before in rw (at-routes .before .before .before .order10 .given .1) (at-routes .routes-between .ensures)
+returns-11 c =
+    let at-routes = c .before .before in
+    rw (at-routes .before .before .before .order10 .given .1) (at-routes .routes-between .ensures)
 
 same-length-12 : tie.Need-same-length-12
 same-length-12 c = search needs
 
 returns-12 : tie.Need-returns-12
 unfolding meaning
-returns-12 c = rw (c .before .before .enum-told2 .given .1) (c .exchange-share .ensures)
+returns-12 c =
+    let at-record = c .before .before in
+    rw (at-record .before .before .before .order11 .given .1) (at-record .record-length .ensures)
+
+same-length-13 : tie.Need-same-length-13
+same-length-13 c = search needs
+
+returns-13 : tie.Need-returns-13
+unfolding meaning
+returns-13 c = rw (c .before .before .before .order12 .given .1) (c .span-length .ensures)
+
+same-length-14 : tie.Need-same-length-14
+same-length-14 c = search needs
+
+returns-14 : tie.Need-returns-14
+unfolding meaning
+returns-14 c = rw (c .before .before .enum-told2 .given .1) (c .exchange-share .ensures)
 
 pub carry-out-spec : {M : Type 1} → statement M
 carry-out-spec =
@@ -245,6 +293,10 @@ carry-out-spec =
     holds-exchange-requires
     enum-known-order-10
     routes-between-requires
+    enum-known-order-11
+    record-length-requires
+    enum-known-order-12
+    span-length-requires
     enum-told-2
     exchange-share-requires
     same-length
@@ -270,4 +322,8 @@ carry-out-spec =
     same-length-11
     returns-11
     same-length-12
-    returns-12)
+    returns-12
+    same-length-13
+    returns-13
+    same-length-14
+    returns-14)

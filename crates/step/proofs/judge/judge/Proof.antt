@@ -70,6 +70,18 @@ enum-known-order-10 c = search needs
 ring-refusal-requires : tie.Need-ring-refusal-requires
 ring-refusal-requires c κs = search needs
 
+enum-known-order-11 : tie.Need-enum-known-order-11
+enum-known-order-11 c = search needs
+
+span-refusal-requires-2 : tie.Need-span-refusal-requires-2
+span-refusal-requires-2 c κs = search needs
+
+enum-known-order-12 : tie.Need-enum-known-order-12
+enum-known-order-12 c = search needs
+
+span-refusal-requires-3 : tie.Need-span-refusal-requires-3
+span-refusal-requires-3 c κs = search needs
+
 enum-told-2 : tie.Need-enum-told-2
 enum-told-2 c = search needs
 
@@ -119,7 +131,15 @@ returns-11 c = rw (c .before .before .order10 .given .1) (c .ring-refusal .ensur
 
 returns-12 : tie.Need-returns-12
 unfolding judgement
-returns-12 c = rw (c .enum-told2 .given .1)
+returns-12 c = rw (c .before .before .order11 .given .1) (c .span-refusal2 .ensures)
+
+returns-13 : tie.Need-returns-13
+unfolding judgement
+returns-13 c = rw (c .before .before .order12 .given .1) (c .span-refusal3 .ensures)
+
+returns-14 : tie.Need-returns-14
+unfolding judgement
+returns-14 c = rw (c .enum-told2 .given .1)
 
 pub judge-spec : {M : Type 1} → statement M
 judge-spec =
@@ -147,6 +167,10 @@ judge-spec =
     cabinet-refusal-requires-3
     enum-known-order-10
     ring-refusal-requires
+    enum-known-order-11
+    span-refusal-requires-2
+    enum-known-order-12
+    span-refusal-requires-3
     enum-told-2
     returns
     returns-2
@@ -159,4 +183,6 @@ judge-spec =
     returns-9
     returns-10
     returns-11
-    returns-12)
+    returns-12
+    returns-13
+    returns-14)

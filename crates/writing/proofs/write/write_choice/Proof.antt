@@ -1,4 +1,4 @@
--- `write::write_choice` writes an answer of two bytes and a span.
+-- `write::write_choice` writes an answer of two bytes and a number.
 use Rattle.commands.specs.Bytes.{twoBytes}
 use borrow.Author.Needs.{needs}
 use Rattle.writing.proofs.write.write_choice.Statement.{statement}
