@@ -1,7 +1,8 @@
 -- The surveys that a table keeps, where it is another table that has the same words of them.
 use mathlib.Core.Bool.{true}
-use mathlib.Core.List.{List, [], _++_, append-nil}
-use mathlib.Core.Path.{_≡_, refl, _∙_, ap, ap₂}
+use mathlib.Core.List.{List}
+use mathlib.Core.Option.{none}
+use mathlib.Core.Path.{_≡_, refl, ap, ap₂}
 use Prim.Native.Nat.{ℕ, zero, suc, _≤_, _<_}
 use native.Mathlib.Omega.{arith}
 use borrow.Author.Tests.{lt-leb}
@@ -9,7 +10,7 @@ use Rattle.numbers.specs.declared.Limits.{Limits}
 use Rattle.table.specs.Inside.Column
 use Rattle.table.specs.Inside.Layout.{cell, edgeArea}
 use Rattle.forest.specs.Inside.Surveys.{isSurveyed}
-use Rattle.forest.specs.Inside.Valid.{surveyKept, surveysIn}
+use Rattle.forest.specs.Inside.Valid.{surveyKept, listedBehind, surveysIn}
 use Rattle.forest.proofs.Columns.{apart, surveyColumns, apart-among}
 use Rattle.forest.proofs.Frames.{Frame}
 
@@ -22,7 +23,7 @@ unfolding surveyKept isSurveyed
 kept-same limits t t′ s p q = rw (p, q)
 
 -- nothing is kept of an edge whose duct's word has an empty upper half
-pub none-kept : (limits : Limits) (t : List ℕ) (s : ℕ) → cell t (edgeArea limits) Column.duct s < 65536 → surveyKept t limits s ≡ []
+pub none-kept : (limits : Limits) (t : List ℕ) (s : ℕ) → cell t (edgeArea limits) Column.duct s < 65536 → surveyKept t limits s ≡ none
 unfolding surveyKept isSurveyed
 none-kept limits t s h = rw (lt-leb 65536 (cell t (edgeArea limits) Column.duct s) h)
 
@@ -32,12 +33,12 @@ pub surveys-same : (limits : Limits) (m : ℕ) (t t′ : List ℕ)
     → surveysIn limits m t′ ≡ surveysIn limits m t
 unfolding surveysIn
 surveys-same limits zero t t′ same = refl
-surveys-same limits (suc m) t t′ same = ap₂ _++_ (surveys-same limits m t t′ (λ s h. same s (omega arith))) (same m (omega arith))
+surveys-same limits (suc m) t t′ same = ap₂ listedBehind (surveys-same limits m t t′ (λ s h. same s (omega arith))) (same m (omega arith))
 
 -- one edge more, of which nothing is kept, adds no survey
-pub surveys-more : (limits : Limits) (m : ℕ) (t : List ℕ) → surveyKept t limits m ≡ [] → surveysIn limits (suc m) t ≡ surveysIn limits m t
-unfolding surveysIn
-surveys-more limits m t none = ap (λ l. surveysIn limits m t ++ l) none ∙ append-nil (surveysIn limits m t)
+pub surveys-more : (limits : Limits) (m : ℕ) (t : List ℕ) → surveyKept t limits m ≡ none → surveysIn limits (suc m) t ≡ surveysIn limits m t
+unfolding surveysIn listedBehind
+surveys-more limits m t e = ap (listedBehind (surveysIn limits m t)) e
 
 -- the surveys stay where their columns are not listed
 pub same-surveys : {limits : Limits} {vs es : List ℕ} {t t′ : List ℕ} → Frame limits vs es t t′ → (m : ℕ) → m ≤ limits .edges

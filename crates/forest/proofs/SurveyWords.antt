@@ -1,8 +1,8 @@
 -- The words of surveys: which record of an edge holds by them, and what is read once a survey is stored.
 use mathlib.Core.Bool.{true, false, cond}
-use mathlib.Core.List.{List, [], _∷_, _++_, append-nil}
+use mathlib.Core.List.{List, []}
 use mathlib.Core.Logic.{_⊎_, inl, inr}
-use mathlib.Core.Option.{Option, none, some}
+use mathlib.Core.Option.{none, some}
 use mathlib.Core.Path.{_≡_, refl, sym, _∙_, ap, ap₂}
 use Prim.Native.Nat.{ℕ, zero, suc, _+_, _*_, _/_, _%_, _≤_, _<_}
 use native.Mathlib.Nat.{not-suc-le-zero}
@@ -19,44 +19,41 @@ use Rattle.table.specs.Inside.Layout.{cell, put, edgeArea}
 use Rattle.table.proofs.Cells.{HasColumns, length-put, cell-put-same, cell-put-other-column, cell-put-elsewhere}
 use Rattle.forest.specs.Inside.Words.{ductOf}
 use Rattle.forest.specs.Inside.Surveys.{isSurveyed, keptDay, keptMetres, surveyStored}
-use Rattle.forest.specs.Inside.Valid.{storedEdge, surveyKept, surveysIn}
+use Rattle.forest.specs.Inside.Valid.{storedEdge, surveyKept, listedBehind, surveysIn}
 use Rattle.forest.proofs.Columns.{within, surveyColumns, within-among}
 use Rattle.forest.proofs.Networks.{SameEdges}
 use Rattle.forest.proofs.Frames.{Frame, _then_, frame-edge}
 
--- The record that the words of edge s tell, and the record that is kept of it, if one is.
+-- The record that the words of edge s tell.
 abbrev pub recordIn : List ℕ → Limits → ℕ → Survey
 recordIn t limits s = record { measured = s; day = keptDay t limits s; metres = keptMetres t limits s }
-
-unfoldable pub keptIn : List ℕ → Limits → ℕ → Option Survey
-keptIn t limits s = cond (isSurveyed t limits s) (some (recordIn t limits s)) none
 
 module _ (limits : Limits) (t : List ℕ) where
   -- an edge more leaves what holds for another edge
   holds-for-other : (m e : ℕ) → (m ≡ e → ⊥) → holding (surveysIn limits (suc m) t) e ≡ holding (surveysIn limits m t) e
-  unfolding surveysIn surveyKept
+  unfolding surveysIn surveyKept listedBehind
   holds-for-other m e d = go (true-or-false (isSurveyed t limits m))
     where
       go : (isSurveyed t limits m ≡ true) ⊎ (isSurveyed t limits m ≡ false)
-          → holding (surveysIn limits m t ++ cond (isSurveyed t limits m) (recordIn t limits m ∷ []) []) e
+          → holding (listedBehind (surveysIn limits m t) (cond (isSurveyed t limits m) (some (recordIn t limits m)) none)) e
           ≡ holding (surveysIn limits m t) e
       go (inl q) =
           rw q
           (holding-behind (surveysIn limits m t) (recordIn t limits m) e
           ∙ ap (λ b. cond b (replaced (holding (surveysIn limits m t) e) (recordIn t limits m)) (holding (surveysIn limits m t) e))
           (ne-eqb m e d))
-      go (inr q) = rw (q, append-nil (surveysIn limits m t))
+      go (inr q) = rw q
 
   -- and for itself its kept record holds
-  holds-for-last : (m : ℕ) → holding (surveysIn limits m t) m ≡ none → holding (surveysIn limits (suc m) t) m ≡ keptIn t limits m
-  unfolding surveysIn surveyKept keptIn replaced
+  holds-for-last : (m : ℕ) → holding (surveysIn limits m t) m ≡ none → holding (surveysIn limits (suc m) t) m ≡ surveyKept t limits m
+  unfolding surveysIn surveyKept listedBehind replaced
   holds-for-last m e = go (true-or-false (isSurveyed t limits m))
     where
       go : (isSurveyed t limits m ≡ true) ⊎ (isSurveyed t limits m ≡ false)
-          → holding (surveysIn limits m t ++ cond (isSurveyed t limits m) (recordIn t limits m ∷ []) []) m
+          → holding (listedBehind (surveysIn limits m t) (cond (isSurveyed t limits m) (some (recordIn t limits m)) none)) m
           ≡ cond (isSurveyed t limits m) (some (recordIn t limits m)) none
       go (inl q) = rw (q, holding-behind (surveysIn limits m t) (recordIn t limits m) m, eqb-same m, e)
-      go (inr q) = rw (q, append-nil (surveysIn limits m t)) e
+      go (inr q) = rw q e
 
   -- for an edge that is not among the first m no record holds
   pub none-holds : (m e : ℕ) → m ≤ e → holding (surveysIn limits m t) e ≡ none
@@ -65,12 +62,12 @@ module _ (limits : Limits) (t : List ℕ) where
   none-holds (suc m) e h = holds-for-other m e (λ q. omega arith) ∙ none-holds m e (omega arith)
 
   -- for one of them the record holds that is kept of it
-  pub kept-holds : (m e : ℕ) → e < m → holding (surveysIn limits m t) e ≡ keptIn t limits e
+  pub kept-holds : (m e : ℕ) → e < m → holding (surveysIn limits m t) e ≡ surveyKept t limits e
   kept-holds zero e h = absurd (not-suc-le-zero h)
   kept-holds (suc m) e h = go (kept-holds m e) (below-or-last m e h)
     where
-      go : (e < m → holding (surveysIn limits m t) e ≡ keptIn t limits e) → (e < m) ⊎ (e ≡ m)
-          → holding (surveysIn limits (suc m) t) e ≡ keptIn t limits e
+      go : (e < m → holding (surveysIn limits m t) e ≡ surveyKept t limits e) → (e < m) ⊎ (e ≡ m)
+          → holding (surveysIn limits (suc m) t) e ≡ surveyKept t limits e
       go ih (inl l) = holds-for-other m e (λ q. omega arith) ∙ ih l
       go ih (inr q) = rw q (holds-for-last m (none-holds m m (omega arith)))
 
@@ -133,14 +130,14 @@ module _ (limits : Limits) (t : List ℕ) (s day metres : ℕ) (h : s < limits .
 
     -- the record that is kept is the one that was stored
     pub kept-stored : metres < 65536
-        → keptIn (surveyStored t limits s day metres) limits s ≡ some (record { measured = s; day = day; metres = metres })
-    unfolding keptIn isSurveyed
+        → surveyKept (surveyStored t limits s day metres) limits s ≡ some (record { measured = s; day = day; metres = metres })
+    unfolding surveyKept isSurveyed
     kept-stored small =
         rw (le-leb 65536 (cell t′ (edgeArea limits) Column.duct s) (omega (arith, stored-duct)), stored-survey)
         (ap₂ (λ (d l : ℕ). some (record { measured = s; day = d; metres = l })) (omega arith) (omega arith))
 
     -- and of every other edge the same is kept as before
     pub kept-elsewhere : (e : ℕ) → e < limits .edges → (s ≡ e → ⊥)
-        → keptIn (surveyStored t limits s day metres) limits e ≡ keptIn t limits e
-    unfolding keptIn isSurveyed
+        → surveyKept (surveyStored t limits s day metres) limits e ≡ surveyKept t limits e
+    unfolding surveyKept isSurveyed
     kept-elsewhere e l n = rw (survey-elsewhere Column.duct e l n, survey-elsewhere Column.survey e l n)

@@ -18,7 +18,7 @@ use Rattle.table.specs.Inside.Layout.{edgeArea}
 use Rattle.table.proofs.Cells.{HasColumns}
 use Rattle.forest.specs.declared.Shape.{Shape}
 use Rattle.forest.specs.Inside.Surveys.{isSurveyed, isReplaced, keptDay, surveyStored, surveyTable, lengthIn}
-use Rattle.forest.specs.Inside.Valid.{bookOf, surveysIn, Valid}
+use Rattle.forest.specs.Inside.Valid.{bookOf, surveyKept, surveysIn, Valid}
 use Rattle.forest.specs.Promise.{Holds, stateOf, SurveyEntered, same-beyond-refl, lengthGiven}
 use Rattle.forest.proofs.Columns.{surveyColumns}
 use Rattle.forest.proofs.Beyond.{frame-beyond}
@@ -26,12 +26,12 @@ use Rattle.forest.proofs.Networks.{SameEdges}
 use Rattle.forest.proofs.Frames.{Frame, frame-more}
 use Rattle.forest.proofs.MarkWords.{same-marked}
 use Rattle.forest.proofs.ValidFrame.{valid-kept, same-book}
-use Rattle.forest.proofs.SurveyWords.{recordIn, keptIn, none-holds, kept-holds, frame-survey, survey-edges, kept-stored, kept-elsewhere}
+use Rattle.forest.proofs.SurveyWords.{recordIn, none-holds, kept-holds, frame-survey, survey-edges, kept-stored, kept-elsewhere}
 
 -- where a table keeps of an edge what a record more leaves, and of every other edge what is kept, it agrees with that record entered
 agree-records : (limits : Limits) (m : ℕ) (t t′ : List ℕ) (r : Survey) → r .measured < m
-    → keptIn t′ limits (r .measured) ≡ replaced (keptIn t limits (r .measured)) r
-    → ((e : ℕ) → e < m → (r .measured ≡ e → ⊥) → keptIn t′ limits e ≡ keptIn t limits e)
+    → surveyKept t′ limits (r .measured) ≡ replaced (surveyKept t limits (r .measured)) r
+    → ((e : ℕ) → e < m → (r .measured ≡ e → ⊥) → surveyKept t′ limits e ≡ surveyKept t limits e)
     → (e : ℕ) → holding (surveysIn limits m t′) e ≡ holding (surveysIn limits m t ++ r ∷ []) e
 agree-records limits m t t′ r known here elsewhere e =
     go (true-or-false (eqb (r .measured) e)) ∙ sym (holding-behind (surveysIn limits m t) r e)
@@ -83,8 +83,8 @@ module _ (limits : Limits) (n m : ℕ) (t : List ℕ) (valid : Valid limits n m 
   book = same-book valid (frame-more frame refl refl) edges
 
   -- a record that is to be kept replaces what is kept
-  replaces : isReplaced t limits s day ≡ true → replaced (keptIn t limits s) entered ≡ some entered
-  unfolding isReplaced keptIn replaced
+  replaces : isReplaced t limits s day ≡ true → replaced (surveyKept t limits s) entered ≡ some entered
+  unfolding isReplaced surveyKept replaced
   replaces r = go (or-cases (not (isSurveyed t limits s)) (ltb (keptDay t limits s) day) r)
     where
       later : ltb (keptDay t limits s) day ≡ true → (isSurveyed t limits s ≡ true) ⊎ (isSurveyed t limits s ≡ false)
@@ -98,8 +98,8 @@ module _ (limits : Limits) (n m : ℕ) (t : List ℕ) (valid : Valid limits n m 
       go (inr q) = later q (true-or-false (isSurveyed t limits s))
 
   -- and one that is not leaves it
-  leaves : isReplaced t limits s day ≡ false → replaced (keptIn t limits s) entered ≡ keptIn t limits s
-  unfolding isReplaced keptIn replaced
+  leaves : isReplaced t limits s day ≡ false → replaced (surveyKept t limits s) entered ≡ surveyKept t limits s
+  unfolding isReplaced surveyKept replaced
   leaves r =
       rw (
         true-of-not-false (isSurveyed t limits s) (or-neither-left (not (isSurveyed t limits s)) (ltb (keptDay t limits s) day) r),
@@ -146,10 +146,10 @@ module _ (limits : Limits) (n m : ℕ) (t : List ℕ) (valid : Valid limits n m 
 -- the length that the words of an edge tell is that of the survey that holds
 pub length-is : (shape : Shape) (t : List ℕ) (s : ℕ) → s < shape .edges
     → lengthIn t (shape .limits) s ≡ lengthGiven (holding (stateOf shape t .surveys) s)
-unfolding stateOf lengthIn keptIn
+unfolding stateOf lengthIn surveyKept
 length-is shape t s h = rw (kept-holds (shape .limits) t (shape .edges) s h) (go (true-or-false (isSurveyed t (shape .limits) s)))
   where
     go : (isSurveyed t (shape .limits) s ≡ true) ⊎ (isSurveyed t (shape .limits) s ≡ false)
-        → lengthIn t (shape .limits) s ≡ lengthGiven (keptIn t (shape .limits) s)
+        → lengthIn t (shape .limits) s ≡ lengthGiven (surveyKept t (shape .limits) s)
     go (inl q) = rw q
     go (inr q) = rw q

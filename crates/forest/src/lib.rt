@@ -240,9 +240,7 @@ pub fn same_bridge_block(t: &[u32], shape: Shape, a: Vertex, b: Vertex) -> bool
     ensures { λ r. ⌜ r ≡ bridgeBlock (networkIn shape (now (t .entry))) (a .0) (b .0) ⌝ }
 {
     let limits = shape.limits;
-    let left = word(t, bridge_block_area(limits), NAME, a.0);
-    let right = word(t, bridge_block_area(limits), NAME, b.0);
-    left == right
+    !query::bridge_blocks_differ(t, limits, a.0, b.0)
 }
 
 // The block name of an edge.

@@ -25,7 +25,7 @@ use table::words::vertex_area;
 use table::words::word;
 
 // The bridge-block names of two vertices differ.
-fn bridge_blocks_differ(t: &[u32], limits: Limits, x: u32, y: u32) -> bool
+pub(crate) fn bridge_blocks_differ(t: &[u32], limits: Limits, x: u32, y: u32) -> bool
     ensures { λ r. ⌜ r ≡ bridgeBlocksDiffer (now (t .entry)) limits x y ⌝ }
 {
     let left = word(t, bridge_block_area(limits), NAME, x);

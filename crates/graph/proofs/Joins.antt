@@ -48,6 +48,10 @@ joins-other e = joins-elim (λ x y. otherEnd e x ≡ y) e (rw eqb-same) (go (eqb
     go true k = sym (eqb-eq (e .left) (e .right) k)
     go false k = refl
 
+-- the other end of the other end is the end itself
+pub other-end-back : (e : Edge) (x : ℕ) → touches e x ≡ true → otherEnd e (otherEnd e x) ≡ x
+other-end-back e x t = joins-other e (otherEnd e x) x (joins-swap e (otherEnd e x) x ∙ touches-joins e x t)
+
 -- parallel edges join the same vertices
 pub parallel-joins : (e f : Edge) → parallel e f ≡ true → (x y : ℕ) → joins e x y ≡ true → joins f x y ≡ true
 unfolding parallel joins

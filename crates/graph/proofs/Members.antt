@@ -1,6 +1,6 @@
 -- Laws of lists of numbers: their members, no number twice, in order; one number more at the end, turned round, and the list of
 -- the numbers below n that pass a test. And of tests that all in a list pass, whatever it is a list of.
-use mathlib.Core.Bool.{Bool, true, false, not, cond, _||_, _&&_, false≢true, or-true, and-false}
+use mathlib.Core.Bool.{Bool, true, false, not, cond, _||_, _&&_, false≢true, or-true, or-assoc, and-false}
 use mathlib.Core.List.{List, [], _∷_, _++_, reverse, reverse-cons}
 use mathlib.Core.Logic.{_⊎_, inl, inr, ⊎-elim}
 use mathlib.Core.Path.{_≡_, refl, sym, _∙_, ap, subst}
@@ -184,3 +184,17 @@ pub listed-none : (n : ℕ) (p : ℕ → Bool) → ((x : ℕ) → p x ≡ false)
 unfolding listed
 listed-none zero p w = refl
 listed-none (suc n) p w = ap (λ b. cond b (listed n p ++ n ∷ []) (listed n p)) (w n) ∙ listed-none n p w
+
+-- the members of two lists on end
+pub is-in-append : (x : ℕ) (l m : List ℕ) → isIn x (l ++ m) ≡ (isIn x l || isIn x m)
+unfolding isIn
+is-in-append x [] m = refl
+is-in-append x (y ∷ l) m = ap (λ b. eqb x y || b) (is-in-append x l m) ∙ sym (or-assoc (eqb x y) (isIn x l) (isIn x m))
+
+-- two lists with no number twice and no number in common have none twice on end
+pub distinct-append : (l m : List ℕ) → distinct l ≡ true → distinct m ≡ true → ((x : ℕ) → isIn x l ≡ true → isIn x m ≡ false)
+    → distinct (l ++ m) ≡ true
+distinct-append [] m d e w = e
+distinct-append (x ∷ l) m d e w = distinct-cons x (l ++ m)
+    (is-in-append x l m ∙ or-neither (distinct-head x l d) (w x (is-in-head x l)))
+    (distinct-append l m (distinct-tail x l d) e (λ y k. w y (is-in-tail y x l k)))

@@ -1,9 +1,9 @@
 -- Laws of routes: a walk that comes by no vertex twice is one; its edges are known and differ; two routes that serve two vertices show
 -- that the two share a bridge-block, and have together no more edges than the network.
-use mathlib.Core.Bool.{Bool, true, false, not, _&&_, _||_, false≢true, or-assoc}
+use mathlib.Core.Bool.{Bool, true, false, not, _&&_, false≢true}
 use mathlib.Core.List.{List, [], _∷_, _++_, map}
 use mathlib.Core.Logic.{_⊎_, inl, inr, ⊎-elim}
-use mathlib.Core.Path.{_≡_, refl, sym, _∙_, ap}
+use mathlib.Core.Path.{_≡_, refl, _∙_, ap}
 use Prim.Native.Nat.{ℕ, _+_, _≤_, _<_}
 use native.Mathlib.Omega.{arith}
 use lib.Dec.{eqb, ltb}
@@ -16,7 +16,7 @@ use Rattle.graph.specs.Travel.{visited}
 use Rattle.graph.specs.Route.{stepsAlong, isRoute, apart, Routes, serve}
 use Rattle.graph.proofs.Truth.{true-or-false, false-of-not, not-both, not-of-false, false-of-not-true, and-left, and-right, and-both}
 use Rattle.graph.proofs.Truth.{or-neither, or-neither-left, or-neither-right, eqb-swap, ltb-lt, lt-ltb}
-use Rattle.graph.proofs.Members.{all-in, all-in-append, each-in, is-in-head, is-in-tail, is-in-cases, distinct-head, distinct-tail, distinct-cons}
+use Rattle.graph.proofs.Members.{all-in, all-in-append, each-in, distinct-append, is-in-cases, distinct-head, distinct-tail, distinct-cons}
 use Rattle.graph.proofs.Mates.{mates-refl, mates-sym, mates-trans}
 use Rattle.graph.proofs.Walks.{FirstStep, leads-first, walk-joined, leads-component}
 use Rattle.graph.proofs.Joins.{joins-touches, joins-other, touches-no-third}
@@ -39,20 +39,6 @@ unvisited-untouched g x (p ∷ ps) v w l n =
 
     there : isIn x (visited (p .to) ps) ≡ false
     there = or-neither-right (eqb x v) (isIn x (visited (p .to) ps)) n
-
--- the members of two lists on end
-is-in-append : (x : ℕ) (l m : List ℕ) → isIn x (l ++ m) ≡ (isIn x l || isIn x m)
-unfolding isIn
-is-in-append x [] m = refl
-is-in-append x (y ∷ l) m = ap (λ b. eqb x y || b) (is-in-append x l m) ∙ sym (or-assoc (eqb x y) (isIn x l) (isIn x m))
-
--- two lists with no number twice and no number in common have none twice on end
-distinct-append : (l m : List ℕ) → distinct l ≡ true → distinct m ≡ true → ((x : ℕ) → isIn x l ≡ true → isIn x m ≡ false)
-    → distinct (l ++ m) ≡ true
-distinct-append [] m d e w = e
-distinct-append (x ∷ l) m d e w = distinct-cons x (l ++ m)
-    (is-in-append x l m ∙ or-neither (distinct-head x l d) (w x (is-in-head x l)))
-    (distinct-append l m (distinct-tail x l d) e (λ y k. w y (is-in-tail y x l k)))
 
 module _ (g : Network) where
   -- the steps of a walk are those along its edges

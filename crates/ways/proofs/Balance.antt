@@ -18,7 +18,8 @@ use Rattle.graph.proofs.Mates.{mates-refl}
 use Rattle.ways.specs.Search.{allAllowed}
 use Rattle.ways.specs.Used.{Used, unused, isUsed, mateUsed, oneMore, alongUsed, stepTaken, wayTaken, StepFits}
 use Rattle.ways.specs.Balance.{Set, inside, usedFrom, usedTo, leaves, enters, leaving, entering, Balanced, Move}
-use Rattle.ways.proofs.UsedSteps.{other-end-back, used-from, not-used, free-of-mates, taken-off, taken-new, taken-again}
+use Rattle.graph.proofs.Joins.{other-end-back}
+use Rattle.ways.proofs.UsedSteps.{used-from, not-used, free-of-mates, taken-off, taken-new, taken-again}
 use Rattle.ways.proofs.UsedSteps.{Goes, goes-least, lasting-goes, along-lasting, more-lasting}
 
 -- the counts of two tests that agree but at i differ by what the tests say there

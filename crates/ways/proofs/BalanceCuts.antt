@@ -21,11 +21,10 @@ use Rattle.graph.proofs.Joined.{joined-refl, joined-trans, joined-least}
 use Rattle.graph.proofs.Mates.{mates-sym, mates-trans}
 use Rattle.graph.proofs.Ends.{touches-left, touches-right, other-end-touches}
 use Rattle.graph.proofs.Walks.{joins-joined, joins-ends, joins-swap}
-use Rattle.graph.proofs.Joins.{joins-back, joins-touches, joins-other, touches-joins, touches-no-third}
+use Rattle.graph.proofs.Joins.{joins-back, joins-touches, joins-other, touches-joins, touches-no-third, other-end-back}
 use Rattle.graph.proofs.MateEdges.{mates-joins}
 use Rattle.ways.specs.Used.{Used, isUsed, mateUsed, oneMore, Usable}
 use Rattle.ways.specs.Balance.{Set, usedFrom, usedTo, leaves, enters, leaving, entering, Balanced, lossOfAll}
-use Rattle.ways.proofs.UsedSteps.{other-end-back}
 use Rattle.ways.proofs.Balance.{count-change, used-from-is}
 
 -- where no number passes the count is 0

@@ -15,7 +15,7 @@ use Rattle.graph.specs.Travel.{visited}
 use Rattle.graph.proofs.Truth.{false-of-not, not-both, and-both, or-left, or-right, or-cases, eqb-eq, eqb-same, eq-eqb, lt-ltb}
 use Rattle.graph.proofs.Members.{is-in-cases, distinct-cons, all-in}
 use Rattle.graph.proofs.Ends.{other-end-touches}
-use Rattle.graph.proofs.Joins.{touches-joins, joins-other}
+use Rattle.graph.proofs.Joins.{touches-joins, other-end-back}
 use Rattle.graph.proofs.Walks.{joins-swap, first-leads, leads-none}
 use Rattle.graph.proofs.Lengths.{distinct-length}
 use Rattle.ways.specs.Search.{Allowed, Found, atGoal, allAllowed, linked, search, wayBy, way, stepOf, Fits, Orderly, starts, goesOn}
@@ -57,7 +57,7 @@ module _ {g : Network} {y s : ℕ} {f : Found} (w : Fits g y s f) where
 
   -- so the vertex to which it leads is its edge's other end
   link-back : otherEnd (edge g s) (otherEnd (edge g s) y) ≡ y
-  link-back = joins-other (edge g s) (otherEnd (edge g s) y) y link-joins
+  link-back = other-end-back (edge g s) y (w .at-end)
 
 -- the steps lead from vertex x to the goal, by vertices that are reached, and by none twice
 pub record Leading (g : Network) (b : ℕ) (f : Found) (x : ℕ) (ps : List Step) : Type 0 where

@@ -19,7 +19,7 @@ use Rattle.graph.proofs.Members.{is-in-head, is-in-tail, is-in-cases, distinct-
 use Rattle.graph.proofs.Mates.{mates-sym}
 use Rattle.graph.proofs.Joined.{joined-same-loss}
 use Rattle.graph.proofs.Ends.{other-end-touches}
-use Rattle.graph.proofs.Joins.{joins-touches}
+use Rattle.graph.proofs.Joins.{joins-touches, other-end-back}
 use Rattle.graph.proofs.BridgeBlock.{bridge-block-component, bridge-block-lasts}
 use Rattle.graph.proofs.Routes.{walk-is-route, route-differ, route-known, apart-by, served-share}
 use Rattle.ways.specs.Search.{Allowed, search, allAllowed, way}
@@ -28,7 +28,7 @@ use Rattle.ways.specs.Balance.{Set, usedFrom, usedTo, Balanced, lossOfAl
 use Rattle.ways.specs.TwoRoutes.{edgesOf, wayMore, withOneMore, noneBack, wayUsed, routesUsed, twoRoutes}
 use Rattle.ways.proofs.SearchClosed.{goal-reached, reached-closed}
 use Rattle.ways.proofs.SearchWay.{way-leads, way-allowed, way-distinct}
-use Rattle.ways.proofs.UsedSteps.{other-end-back, used-from, not-used, taken-off, taken-new, taken-again}
+use Rattle.ways.proofs.UsedSteps.{used-from, not-used, taken-off, taken-new, taken-again}
 use Rattle.ways.proofs.UsedSteps.{UsedThen, newly, before, used-then, free-of-mates, unused-usable}
 use Rattle.ways.proofs.UsedSteps.{way-usable, Goes, arrives, steps, goes-least, lasting-goes, along-lasting, more-fits, along-fits}
 use Rattle.ways.proofs.Balance.{unused-balanced, one-way-more, one-way-less}

@@ -8,7 +8,7 @@ use Prim.Native.Nat.{ℕ, suc, _<_}
 use native.Mathlib.Omega.{arith}
 use lib.Dec.{eqb}
 use Rattle.graph.specs.Lists.{distinct}
-use Rattle.graph.specs.Network.{Network, Edge, MateRule, edge, edgeCount, touches, otherEnd, mates}
+use Rattle.graph.specs.Network.{Network, MateRule, edge, edgeCount, touches, otherEnd, mates}
 use Rattle.graph.specs.Cycle.{Step, leads, anyStep}
 use Rattle.graph.specs.Travel.{visited}
 use Rattle.graph.proofs.Truth.{true-or-false, false-of-not, not-both, not-of-false, false-of-not-true, true-of-not-false, and-left}
@@ -18,17 +18,13 @@ use Rattle.graph.proofs.Below.{any-below, some-below}
 use Rattle.graph.proofs.Members.{distinct-head, distinct-tail}
 use Rattle.graph.proofs.Mates.{mates-sym}
 use Rattle.graph.proofs.Ends.{touches-ends}
-use Rattle.graph.proofs.Walks.{FirstStep, leads-first, joins-swap}
+use Rattle.graph.proofs.Walks.{FirstStep, leads-first}
 use Rattle.graph.proofs.Joins.{joins-touches, joins-other, touches-joins}
 use Rattle.graph.proofs.Routes.{unvisited-untouched}
 use Rattle.graph.proofs.MateEdges.{mates-joins}
 use Rattle.ways.specs.Search.{Allowed, allAllowed}
 use Rattle.ways.specs.Used.{Used, unused, isUsed, mateUsed, oneMore, alongUsed, stepTaken, wayTaken, Usable, StepFits, WayFits}
 use Rattle.ways.specs.Used.{ends, goesOn}
-
--- the other end of the other end is the end itself
-pub other-end-back : (e : Edge) (x : ℕ) → touches e x ≡ true → otherEnd e (otherEnd e x) ≡ x
-other-end-back e x t = joins-other e (otherEnd e x) x (joins-swap e (otherEnd e x) x ∙ touches-joins e x t)
 
 -- an edge with a vertex behind it is used
 pub used-from : (u : Used) (s x : ℕ) → u s ≡ suc x → isUsed u s ≡ true

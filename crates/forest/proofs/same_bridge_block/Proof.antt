@@ -1,43 +1,22 @@
--- `same_bridge_block` compares bridge-block names: vertices share a bridge-block exactly if their names are one.
-use mathlib.Core.Path.{sym}
+-- `same_bridge_block` tells that the bridge-block names of two vertices do not differ: then they share a bridge-block, and only then.
+use mathlib.Core.Bool.{not, Bool·not-not}
+use mathlib.Core.Path.{_∙_, ap}
 use borrow.Author.Needs.{needs}
-use Rattle.table.proofs.KindNames.{same-group}
 use Rattle.forest.specs.Inside.Valid.{bookOf}
 use Rattle.forest.specs.Promise.{Holds, stateOf}
+use Rattle.forest.proofs.QueryNames.{bridge-blocks-differ}
 use Rattle.forest.proofs.same_bridge_block.Statement.{statement}
 use Rattle.forest.proofs.same_bridge_block.Tie as tie
 
-bridge-block-area-requires : tie.Need-bridge-block-area-requires
-bridge-block-area-requires c κs = search needs
-
-word-requires : tie.Need-word-requires
-word-requires c κs = search needs
-
-bridge-block-area-requires-2 : tie.Need-bridge-block-area-requires-2
-bridge-block-area-requires-2 c κs = search needs
-
-word-requires-2 : tie.Need-word-requires-2
-word-requires-2 c κs = search needs
+bridge-blocks-differ-requires : tie.Need-bridge-blocks-differ-requires
+bridge-blocks-differ-requires c κs = search needs
 
 returns : tie.Need-returns
 unfolding Holds stateOf bookOf
 returns c =
-    let left = c .before .before in
-    let s = left .before .before .before .before in
-    rw (
-      left .word .ensures,
-      left .before .bridge-block-area .ensures,
-      c .word2 .ensures,
-      c .before .bridge-block-area2 .ensures,
-    )
-    (sym (same-group (s .pre .0 .valid .bridge-blocks) (s .args .a .0) (s .args .b .0) (s .pre .1) (s .pre .2)))
+    let s = c .before .before .before in
+    ap not (c .bridge-blocks-differ .ensures ∙ bridge-blocks-differ (s .pre .0 .valid) (s .args .a .0) (s .args .b .0) (s .pre .1) (s .pre .2))
+    ∙ Bool·not-not _
 
 pub same-bridge-block-spec : {M : Type 1} → statement M
-same-bridge-block-spec =
-    tie.close
-    (tie.spec
-    bridge-block-area-requires
-    word-requires
-    bridge-block-area-requires-2
-    word-requires-2
-    returns)
+same-bridge-block-spec = tie.close (tie.spec bridge-blocks-differ-requires returns)

@@ -2,6 +2,7 @@
 use mathlib.Core.Bool.{Bool, true, cond, _&&_}
 use mathlib.Core.List.{List, [], _∷_, _++_}
 use mathlib.Core.Logic.{_⊎_}
+use mathlib.Core.Option.{Option, none, some}
 use mathlib.Core.Path.{_≡_}
 use Prim.Native.Nat.{ℕ, zero, suc, _+_, _*_, _/_, _%_, _≤_, _<_}
 use lib.Dec.{eqb, ltb}
@@ -48,14 +49,19 @@ unfoldable pub markedIn : Limits → ℕ → List ℕ → ℕ → Bool
 markedIn limits n t x = ltb x n && eqb (cell t (vertexArea limits) Column.mark x) 1
 
 -- The survey of edge s that is kept, if one is.
-unfoldable pub surveyKept : List ℕ → Limits → ℕ → List Survey
+unfoldable pub surveyKept : List ℕ → Limits → ℕ → Option Survey
 surveyKept t limits s =
-    cond (isSurveyed t limits s) (record { measured = s; day = keptDay t limits s; metres = keptMetres t limits s } ∷ []) []
+    cond (isSurveyed t limits s) (some (record { measured = s; day = keptDay t limits s; metres = keptMetres t limits s })) none
 
--- Those that are kept of the first m edges.
+-- A list of surveys and behind it one more, if there is one.
+unfoldable pub listedBehind : List Survey → Option Survey → List Survey
+listedBehind surveys none = surveys
+listedBehind surveys (some r) = surveys ++ r ∷ []
+
+-- The surveys that are kept of the first m edges, by the edge's number.
 unfoldable pub surveysIn : Limits → ℕ → List ℕ → List Survey
 surveysIn limits zero t = []
-surveysIn limits (suc m) t = surveysIn limits m t ++ surveyKept t limits m
+surveysIn limits (suc m) t = listedBehind (surveysIn limits m t) (surveyKept t limits m)
 
 -- Some edge of the block of edge e is the one above vertex x.
 pub record HangsBelow (t : List ℕ) (limits : Limits) (g : Network) (e x : ℕ) : Type 0 where
