@@ -3,7 +3,9 @@
  *
  * Link with libjournal.a. One call of register_run runs one journal from an empty network, with
  * buffers that the caller lends for the time of the call. A call of register_forecast before it gives
- * a length of the answer buffer that suffices. Nothing is kept between calls.
+ * a length of the answer buffer that suffices. A call of register_rewrite turns a journal of the old
+ * reading, by which spans from 02 have no mates, into one that a run answers as that reading does.
+ * Nothing is kept between calls.
  */
 #ifndef REGISTER_H
 #define REGISTER_H
@@ -23,7 +25,7 @@ extern "C" {
 /* The least length of the working table, in numbers of 32 bits, for capacities c and s. */
 #define REGISTER_WORK(c, s) (24u * (size_t)(c) + 8u * (size_t)(s) + 64u)
 
-/* The bytes of stack that a call of either function takes are fewer than this, whatever the
+/* The bytes of stack that a call of any of the functions takes are fewer than this, whatever the
    capacities. */
 #define REGISTER_STACK 4096u
 
@@ -38,9 +40,10 @@ enum {
     REGISTER_REPORT_SPANS = 5     /* spans present */
 };
 
-/* The returned numbers. A run knows all of them, a forecast 0, 3, 4 and 5. The causes are tested in
-   the order in which they stand here, first those at the start, then for each command the others.
-   The first that applies is returned. */
+/* The returned numbers. A run knows those up to 14, a forecast 0, 3, 4 and 5, and a rewriting 0, 3, 4,
+   5, 15 and 16. The causes are tested in the order in which they stand here: first those at the
+   start, then for each command those at a command, and once all commands are read those of a
+   rewriting. The first that applies is returned. */
 enum {
     REGISTER_ACCEPTED = 0,
     /* Refused at the start. From a run: only the number is returned, all buffers are as before. */
@@ -58,19 +61,25 @@ enum {
     REGISTER_FULL = 9,              /* 01 with c cabinets present, or 02 or 0B with s spans */
     REGISTER_ACROSS_DISTRICTS = 10, /* 06 or 07 across districts */
     REGISTER_NO_SHARED_RING = 14,   /* 0C with cabinets that share no ring, in one district or two */
-    REGISTER_NO_ROOM = 11           /* the answer is longer than what is left of the answers */
+    REGISTER_NO_ROOM = 11,          /* the answer is longer than what is left of the answers */
+    /* From a rewriting alone. */
+    REGISTER_DUCT_TOLD = 15,  /* the journal has a 0B */
+    REGISTER_LONG_RESULT = 16 /* the result is longer than 65,536 bytes or than the output buffer */
 };
 
 /*
  * Spans in ducts. Command 0B a b d, with operands of two bytes each, adds a span between a and b in
- * duct d. It is answered by 82, as 02 is; no answer begins with 8B.
+ * duct d. It is answered by 82, as 02 is; no answer begins with 8B. Command 02 a b adds a span with no
+ * duct told.
  *
- * Spans of one duct between the same two cabinets, in either direction, are mates. A span from 02 has
- * no mate, and the same duct between other cabinets means nothing. To lose a span is to lose its mates
- * with it, so mates do not protect each other:
+ * Spans of one duct between the same two cabinets, in either direction, are mates. All 02 spans
+ * between the same two cabinets count as lying in one duct, which is never the duct of a 0B span: they
+ * are mates of each other, and of no 0B span. The same duct between other cabinets means nothing. To
+ * lose a span is to lose its mates with it, so mates do not protect each other:
  *
  * rings     Two cabinets share a ring exactly if they share a district, and no loss of one span with
- *           its mates parts them.
+ *           its mates parts them. So a network of two cabinets and two 02 spans has two rings, and
+ *           both spans are sole; with two 0B spans in two ducts it has one, and neither is.
  * meshes    Two spans share a mesh exactly if they are mates, or some simple cycle holds both. Such a
  *           cycle uses at most one of a set of mates: two spans between one pair are a cycle unless
  *           they are mates. The size of a mesh counts single spans.
@@ -182,6 +191,59 @@ uint32_t register_run(uint32_t c, uint32_t s,
  */
 uint32_t register_forecast(const uint8_t *journal, size_t journal_len,
                            uint32_t *place, uint32_t *length);
+
+/*
+ * Rewrites a journal of the old reading, by which a span from 02 has no mate. Each 02 a b becomes
+ * 0B a b d, d being its span number plus 1; every other command stays as it is. So each span has a
+ * duct of its own, and no mate. A branch that has journals of the old reading rewrites them once.
+ *
+ * journal   The commands, journal_len bytes. It is only read.
+ * out       The output buffer, out_len bytes. If the journal is accepted, the result is written from
+ *           its first byte on, and the rest is as before. If it is refused, all of it is as before.
+ * place     Filled on every return: the journal's length if it is accepted, the refused command's
+ *           first byte for 4 and 5, that of the first 0B for 15, and 0 for 3 and 16.
+ * length    Filled on every return: the result's length if the journal is accepted, and 0 if it is
+ *           refused.
+ *
+ * The pointers of journal and out must be good for their lengths; a null pointer is allowed where that
+ * is 0. place and length must be good and aligned for uint32_t. No two of the four may overlap: a
+ * journal cannot be rewritten where it stands. All but the journal may hold anything before the call.
+ * Nothing else is written.
+ *
+ * With ample answer room, and with any capacities, a run of the result answers as the old reading answers
+ * the journal: command by command the answers are the same, byte for byte, but for 0C, where any pair of
+ * routes that serves in the one serves in the other; and the same refusal comes, if any, at the command
+ * that corresponds. In the result this command stands two bytes later for each 02 before it. The length
+ * that is forecast for the journal is the one that is forecast for the result, and it is ample room for
+ * both.
+ *
+ * The journal is read as by a forecast, and not run: a span's number is the count of 02 before it, also
+ * where a run would stop earlier. The first command with an unknown byte or with cut-off operands is
+ * refused with 4 or 5, also behind a 0B. Where all can be read, a journal with a 0B is refused with 15:
+ * it tells ducts itself. So a result with a span in it is never rewritten a second time. Where there is
+ * no 0B, 16 is returned if the result is longer than REGISTER_LONGEST_JOURNAL or than out_len.
+ *
+ * A 02 has five bytes and becomes seven, so the result has at most 7/5 of the journal's length, and a
+ * journal without spans is its own result. A buffer of REGISTER_LONGEST_JOURNAL bytes serves wherever
+ * any does:
+ *
+ *     static uint8_t out[REGISTER_LONGEST_JOURNAL];
+ *     uint32_t place, length;
+ *     if (register_rewrite(journal, journal_len, out, sizeof out, &place, &length)
+ *         == REGISTER_ACCEPTED)
+ *         number = register_run(c, s, out, length, work, work_len, answers, answers_len,
+ *                               report, report_len);
+ *
+ * With such a buffer 16 means that the result is too long for a journal, and a journal of at most 46,812
+ * bytes never meets it.
+ *
+ * REGISTER_STACK bytes of stack must be there.
+ *
+ * Returns 0 if the journal is accepted, else the number of the refusal, 3, 4, 5, 15 or 16.
+ */
+uint32_t register_rewrite(const uint8_t *journal, size_t journal_len,
+                          uint8_t *out, size_t out_len,
+                          uint32_t *place, uint32_t *length);
 
 #ifdef __cplusplus
 }

@@ -9,13 +9,18 @@
  * refused at the start, and cut short. Every buffer has just the length that is told. With the room
  * that is forecast, for the journal or up to its damaged place, no run may return 11.
  *
+ * Rewrites them too, and such of the old reading, which have no 0B, with output buffers of every length
+ * around the result's. What is returned and written must be what a rewriting by hand gives; what lies
+ * behind the result, and the whole output buffer of a journal that is refused, must be as before.
+ *
  * Between fences a buffer lies against a page that must not be touched, once with its end and once
  * with its beginning; the journal can only be read. A touch beyond is told, with its place. In the
  * heap a buffer is a block of its own, and all but the journal is left unset: that is for a memory
  * checker, which sees a touch beyond a block and a decision that depends on what was never set.
  *
  * However the buffers lie and whatever they hold, the returned number, the report and the answers
- * must be the same, and so must the number, place and length of a forecast. Exits with 0 if they are.
+ * must be the same, and so must the number, place and length of a forecast, and these and the result of
+ * a rewriting. Exits with 0 if they are.
  */
 #define _GNU_SOURCE
 #include "register.h"
@@ -29,7 +34,7 @@
 #include <unistd.h>
 
 enum { SMALL_CABINETS = 24, SMALL_COMMANDS = 80, MOST_ROOM = 1 << 21, MOST_CUT = 6 };
-enum { LINKS_IN_DUCTS = 1000 };
+enum { LINKS_IN_DUCTS = 1000, AROUND = 8 };
 enum { LONGEST = REGISTER_LONGEST_JOURNAL, TOO_LONG = LONGEST + 1, FAR_TOO_LONG = 2 * LONGEST };
 
 /* ---- The journal ---- */
@@ -45,9 +50,12 @@ static uint64_t random_state;
 static unsigned linked_to[SMALL_CABINETS + 2];
 static unsigned linked;
 
-/* Two cabinets of the tree that were joined by a span from 02 besides, and so share a ring; equal while
-   there are none. */
+/* Two cabinets of the tree that were joined by a span besides that is no link's mate, and so share a ring;
+   equal while there are none. */
 static unsigned ringed[2];
+
+/* Whether the journal is of the old reading: every span is from 02. */
+static int old_reading;
 
 /* The journal's place among all, and whether its buffers lie between fences. */
 static unsigned journal_number;
@@ -86,7 +94,10 @@ static void command_of_three(unsigned byte, unsigned a, unsigned b, unsigned thi
 
 static void add_in_duct(unsigned a, unsigned b, unsigned duct)
 {
-    command_of_three(0x0B, a, b, duct);
+    if (old_reading)
+        command(0x02, 2, a, b);
+    else
+        command_of_three(0x0B, a, b, duct);
 }
 
 static void record_length(unsigned span, unsigned day, unsigned metres)
@@ -118,10 +129,18 @@ static void add_beside_link(void)
     add_in_duct(linked_to[cabinet], cabinet, below(4) == 0 ? 2 : 1);
 }
 
+/* Are they the ends of a link from 02? These are the even cabinets' links. */
+static int is_untold_link(unsigned a, unsigned b)
+{
+    unsigned lesser = a < b ? a : b, greater = a < b ? b : a;
+    return greater % 2 == 0 && linked_to[greater] == lesser;
+}
+
+/* A span from 02. Beside a link from 02 it is its mate, and makes no ring. */
 static void add_any(unsigned a, unsigned b)
 {
     command(0x02, 2, a, b);
-    if (a < linked && b < linked) {
+    if (a < linked && b < linked && !is_untold_link(a, b)) {
         ringed[0] = a;
         ringed[1] = b;
     }
@@ -259,11 +278,11 @@ static void large_journal(void)
 
 /* ---- The buffers ---- */
 
-enum buffer { JOURNAL, WORK, ANSWERS, REPORT, PLACE, LENGTH, BUFFERS };
+enum buffer { JOURNAL, WORK, ANSWERS, REPORT, OUTPUT, PLACE, LENGTH, BUFFERS };
 enum place { AT_THE_END, AT_THE_START, IN_THE_HEAP };
 
 static const char *const names[BUFFERS] = {"journal", "working table", "answers", "report",
-                                           "forecast's place", "forecast's length"};
+                                           "output buffer", "place", "length"};
 
 /* The pages of a buffer, between two fences. */
 static struct { uint8_t *low, *high; } pages[BUFFERS];
@@ -383,7 +402,7 @@ struct outcome {
     int cleared;
 };
 
-static unsigned runs_made, forecasts_made;
+static unsigned runs_made, forecasts_made, rewritings_made;
 
 static uint64_t digest(const uint8_t *answers, size_t length)
 {
@@ -531,6 +550,127 @@ static int forecast_room(size_t journal_bytes, size_t *room)
         && *room <= MOST_ROOM;
 }
 
+/* ---- Rewritings ---- */
+
+/* What a rewriting gives: its three numbers, the result in one number, and whether the rest of the output
+   buffer is as before. */
+struct rewriting {
+    uint32_t number, place, length;
+    uint64_t result;
+    int kept;
+};
+
+static int all_held(const uint8_t *bytes, size_t length, int held)
+{
+    for (size_t i = 0; i < length; i++)
+        if (bytes[i] != held)
+            return 0;
+    return 1;
+}
+
+/* In the heap the rest of the output buffer is unset, and not looked at. */
+static struct rewriting rewrite(size_t journal_bytes, size_t room, enum place at, int held)
+{
+    struct rewriting outcome;
+    uint8_t *own_journal = lend(JOURNAL, journal_bytes, at, held);
+    uint8_t *output = lend(OUTPUT, room, at, held);
+    uint32_t *place = lend(PLACE, sizeof *place, at, held);
+    uint32_t *length = lend(LENGTH, sizeof *length, at, held);
+    memcpy(own_journal, journal, journal_bytes);
+    allow_journal(PROT_READ);
+    outcome.number = register_rewrite(own_journal, journal_bytes, output, room, place, length);
+    allow_journal(PROT_READ | PROT_WRITE);
+    rewritings_made++;
+    outcome.place = *place;
+    outcome.length = *length;
+    size_t written = *length <= room ? *length : 0;
+    outcome.result = digest(output, written);
+    outcome.kept = at == IN_THE_HEAP || all_held(output + written, room - written, held);
+    give_back(at);
+    return outcome;
+}
+
+static int same_rewriting(const struct rewriting *one, const struct rewriting *other)
+{
+    return one->number == other->number && one->place == other->place
+        && one->length == other->length && one->result == other->result && one->kept && other->kept;
+}
+
+/* The bytes of each command with its operands. */
+static const uint8_t widths[0x10] = {0, 1, 5, 3, 3, 5, 5, 5, 3, 3, 3, 7, 5, 7, 3, 1};
+
+static struct rewriting not_rewritten(uint32_t number, size_t place)
+{
+    return (struct rewriting){number, (uint32_t)place, 0, digest(NULL, 0), 1};
+}
+
+/* The rewriting by hand of so many bytes of the journal into so much room. */
+static struct rewriting rewritten_by_hand(size_t journal_bytes, size_t room)
+{
+    static uint8_t result[FAR_TOO_LONG];
+    size_t length = 0, told = journal_bytes;
+    unsigned duct = 0;
+    if (journal_bytes > LONGEST)
+        return not_rewritten(REGISTER_LONG_JOURNAL, 0);
+    for (size_t at = 0; at < journal_bytes; at += widths[journal[at]]) {
+        unsigned byte = journal[at];
+        if (byte < 0x01 || byte > 0x0F)
+            return not_rewritten(REGISTER_BAD_COMMAND, at);
+        if (journal_bytes - at < widths[byte])
+            return not_rewritten(REGISTER_CUT_OFF, at);
+        if (byte == 0x0B && told == journal_bytes)
+            told = at;
+        memcpy(result + length, journal + at, widths[byte]);
+        if (byte == 0x02) {
+            duct++;
+            result[length] = 0x0B;
+            result[length + 5] = (uint8_t)(duct >> 8);
+            result[length + 6] = (uint8_t)duct;
+        }
+        length += widths[byte == 0x02 ? 0x0B : byte];
+    }
+    if (told < journal_bytes)
+        return not_rewritten(REGISTER_DUCT_TOLD, told);
+    if (length > LONGEST || length > room)
+        return not_rewritten(REGISTER_LONG_RESULT, 0);
+    return (struct rewriting){REGISTER_ACCEPTED, (uint32_t)journal_bytes, (uint32_t)length,
+                              digest(result, length), 1};
+}
+
+/* Rewrites with the same places and contents as in runs; each time as by hand. */
+static int rewrites(size_t journal_bytes, size_t room)
+{
+    struct rewriting wanted = rewritten_by_hand(journal_bytes, room);
+    size_t times = fences ? sizeof ways / sizeof ways[0] : 2;
+    for (size_t i = 0; i < times; i++) {
+        struct rewriting outcome = rewrite(journal_bytes, room, fences ? ways[i].place : IN_THE_HEAP,
+                                           ways[i].held);
+        if (!same_rewriting(&outcome, &wanted))
+            return 0;
+    }
+    return 1;
+}
+
+/* The same, where this number must be returned. */
+static int rewrites_with(size_t journal_bytes, size_t room, uint32_t number)
+{
+    return rewritten_by_hand(journal_bytes, room).number == number && rewrites(journal_bytes, room);
+}
+
+/* Rewrites so many bytes of the journal into no room, into ample room, and into every room around the
+   length of the result, which for a journal that is refused is 0. */
+static int rewrite_around(size_t journal_bytes)
+{
+    size_t ample = 2 * journal_bytes;
+    size_t length = rewritten_by_hand(journal_bytes, ample).length;
+    if (!rewrites(journal_bytes, 0) || !rewrites(journal_bytes, ample))
+        return 0;
+    for (size_t room = length < AROUND ? 0 : length - AROUND; room <= length + AROUND; room++)
+        if (!rewrites(journal_bytes, room))
+            return 0;
+    return 1;
+}
+
 /* ---- Every journal ---- */
 
 /* Runs so many bytes of the journal with the room that is forecast, which must suffice. */
@@ -610,15 +750,65 @@ static int forecast_longest(void)
     return forecasts(LONGEST, unknown) && forecasts(TOO_LONG, too_long);
 }
 
+/* Results as long as a journal may be, of cabinets alone and of spans; and one byte longer. */
+static int rewrite_longest(void)
+{
+    size_t spans_bytes = LONGEST / 7 * 5;
+    memset(journal, 0x01, sizeof journal);
+    if (!rewrites_with(LONGEST, LONGEST, REGISTER_ACCEPTED)
+        || !rewrites_with(LONGEST, LONGEST - 1, REGISTER_LONG_RESULT)
+        || !rewrites_with(LONGEST, FAR_TOO_LONG, REGISTER_ACCEPTED)
+        || !rewrites_with(TOO_LONG, FAR_TOO_LONG, REGISTER_LONG_JOURNAL)
+        || !rewrites_with(FAR_TOO_LONG, FAR_TOO_LONG, REGISTER_LONG_JOURNAL))
+        return 0;
+    memset(journal, 0x02, spans_bytes);
+    return rewrites_with(spans_bytes + 2, LONGEST, REGISTER_ACCEPTED)
+        && rewrites_with(spans_bytes + 2, LONGEST - 1, REGISTER_LONG_RESULT)
+        && rewrites_with(spans_bytes + 2, FAR_TOO_LONG, REGISTER_ACCEPTED)
+        && rewrites_with(spans_bytes + 3, LONGEST, REGISTER_LONG_RESULT)
+        && rewrites_with(spans_bytes + 3, FAR_TOO_LONG, REGISTER_LONG_RESULT);
+}
+
+/* A 0B, then as many 02 as there can be: the duct that is told is met before the length of the result,
+   and behind what cannot be read. */
+static int rewrite_told(void)
+{
+    memset(journal, 0x02, sizeof journal);
+    if (!rewrites_with(LONGEST - 1, FAR_TOO_LONG, REGISTER_LONG_RESULT)
+        || !rewrites_with(0, 0, REGISTER_ACCEPTED) || !rewrites_with(0, 1, REGISTER_ACCEPTED))
+        return 0;
+    journal[0] = 0x0B;
+    size_t whole = 7 + (LONGEST - 7) / 5 * 5;
+    if (!rewrites_with(whole, FAR_TOO_LONG, REGISTER_DUCT_TOLD)
+        || !rewrites_with(whole, 0, REGISTER_DUCT_TOLD)
+        || !rewrites_with(whole - 1, FAR_TOO_LONG, REGISTER_CUT_OFF))
+        return 0;
+    journal[whole] = 0x10;
+    return rewrites_with(whole + 1, FAR_TOO_LONG, REGISTER_BAD_COMMAND);
+}
+
+/* The journal and one of the old reading with the same cabinets and spans, whole and cut short. */
+static int rewrite_both(void)
+{
+    size_t cut = 1 + journal_number % MOST_CUT;
+    if (!rewrite_around(journal_length))
+        return 0;
+    old_reading = 1;
+    small_journal(journal_number);
+    old_reading = 0;
+    return rewrite_around(journal_length) && rewrite_around(journal_length - cut);
+}
+
 static int run_all(unsigned journals)
 {
     for (journal_number = 0; journal_number < journals; journal_number++) {
         small_journal(journal_number);
-        if (!run_journal() || !run_cut_short())
+        if (!run_journal() || !run_cut_short() || !rewrite_both())
             return 0;
     }
     large_journal();
-    return run_journal() && run_cut_short() && forecast_longest();
+    return run_journal() && run_cut_short() && rewrite_around(journal_length) && forecast_longest()
+        && rewrite_longest() && rewrite_told();
 }
 
 static int make_all_pages(void)
@@ -626,7 +816,8 @@ static int make_all_pages(void)
     size_t work = REGISTER_WORK(REGISTER_MOST_CABINETS, REGISTER_MOST_SPANS);
     return make_pages(JOURNAL, sizeof journal) && make_pages(WORK, work * sizeof(uint32_t))
         && make_pages(ANSWERS, MOST_ROOM) && make_pages(REPORT, REGISTER_REPORT * sizeof(uint32_t))
-        && make_pages(PLACE, sizeof(uint32_t)) && make_pages(LENGTH, sizeof(uint32_t));
+        && make_pages(OUTPUT, FAR_TOO_LONG) && make_pages(PLACE, sizeof(uint32_t))
+        && make_pages(LENGTH, sizeof(uint32_t));
 }
 
 int main(int count, char **words)
@@ -656,8 +847,8 @@ int main(int count, char **words)
         printf("journal %u: the outcomes differ, or are not what they must be\n", journal_number);
         return 1;
     }
-    printf("%u journals, %u runs and %u forecasts %s: no touch beyond the buffers, all outcomes "
-           "agree\n", journals + 1, runs_made, forecasts_made,
+    printf("%u journals, %u runs, %u forecasts and %u rewritings %s: no touch beyond the buffers, all "
+           "outcomes agree\n", journals + 1, runs_made, forecasts_made, rewritings_made,
            fences ? "between fences" : "in the heap");
     return 0;
 }

@@ -7,13 +7,19 @@
  * one, what is answered about exchanges (0A and 0F) against its own marks and ring names, what is answered
  * about sole spans (06 and 08) against its own spans and ring names, and the length of each span (0E)
  * against its own records, and follows each two routes that it asked for (0C) over its own spans. It
- * prints the names, the lengths and the last two routes, with how long these are, and exits with 1 if any
- * two differ or a route does not serve.
+ * prints the names, the lengths and the last two routes, with how long these are.
+ *
+ * Then it takes a small journal of a branch on the old reading, by which spans from 02 have no mates. It
+ * runs it as it stands, has it rewritten, runs the result, and prints what each of the two runs tells.
+ *
+ * It exits with 1 if any two differ, a route does not serve, or a run or a rewriting does not return what
+ * it must.
  */
 #include "register.h"
 
 #include <stdio.h>
 #include <stdlib.h>
+#include <string.h>
 
 enum { CABINETS = 64, SPANS = 128, NO_NAME = 0xFFFF, NO_LENGTH = 0x10000 };
 
@@ -25,8 +31,8 @@ static uint8_t *answers;
 static uint32_t answers_length;
 static uint32_t report[REGISTER_REPORT];
 
-/* The spans as entered, for reading the answers to 05, 06, 08 and 0C. Those from 02 have duct 0. */
-static unsigned ends[SPANS][2], duct[SPANS];
+/* The ends of the spans as entered, for reading the answers to 05, 06, 08 and 0C. */
+static unsigned ends[SPANS][2];
 static size_t spans_entered;
 
 /* ---- Writing the journal ---- */
@@ -47,11 +53,10 @@ static void add_cabinet(void)
     put_byte(0x01);
 }
 
-static void enter_span(unsigned a, unsigned b, unsigned d)
+static void enter_span(unsigned a, unsigned b)
 {
     ends[spans_entered][0] = a;
     ends[spans_entered][1] = b;
-    duct[spans_entered] = d;
     spans_entered++;
 }
 
@@ -60,7 +65,7 @@ static void add_span(unsigned a, unsigned b)
     put_byte(0x02);
     put_operand(a);
     put_operand(b);
-    enter_span(a, b, 0);
+    enter_span(a, b);
 }
 
 static void add_in_duct(unsigned a, unsigned b, unsigned d)
@@ -69,7 +74,7 @@ static void add_in_duct(unsigned a, unsigned b, unsigned d)
     put_operand(a);
     put_operand(b);
     put_operand(d);
-    enter_span(a, b, d);
+    enter_span(a, b);
 }
 
 static void ask_names(unsigned cabinet)
@@ -171,19 +176,50 @@ static void measure_newest(size_t count, unsigned day)
         record_length(span, day, 100 + 10 * (unsigned)span + day);
 }
 
+/* A span of a link of the great loop: in duct 5, or for every other village with no duct told. */
+static void add_to_link(unsigned village, unsigned a, unsigned b)
+{
+    if (village % 2 == 0)
+        add_in_duct(a, b, 5);
+    else
+        add_span(a, b);
+}
+
+/* Two cabinets with two spans from 02, which are mates and leave them two rings; then one in a duct, which
+   is no mate of these and makes them one, with two routes. */
+static void write_pair(unsigned first, unsigned cabinets)
+{
+    add_span(first, first + 1);
+    add_span(first + 1, first);
+    ask_all(cabinets);
+    add_in_duct(first, first + 1, 5);
+    ask_all(cabinets);
+    ask_all_routes(first, 2);
+}
+
+/* The sheets that were late, for both spans of each link, the first of which is this: one of the earlier
+   of the two days, and another one of the later day. They change no length. */
+static void write_late_sheets(size_t first)
+{
+    for (size_t span = first; span < spans_entered; span++) {
+        unsigned village = (unsigned)(span - first) / 2;
+        record_length(span, 2 * village + 1, 1);
+        record_length(span, 2 * village + 2, 2);
+    }
+}
+
 /* Villages of three cabinets, each closed to a ring, every other one with an exchange; then the
-   villages one after the other in a great loop. Each link of it is two spans in one duct, which
-   protect nothing; the last makes all the rings one: a join of equal sizes. The last cabinet stays by
-   itself, so that a share can need rounding. The first question is about an empty network. Two routes
-   are asked for in each village once it is a ring, and between all of the villages in the end.
+   villages one after the other in a great loop. Each link of it is two spans that are mates, which
+   protect nothing; the last makes all the rings one: a join of equal sizes. The last two cabinets stay
+   by themselves, so that a share can need rounding. The first question is about an empty network. Two
+   routes are asked for in each village once it is a ring, and between all of the villages in the end.
 
    The spans of a village are measured when it is closed, on day 0; but for the last village entered, so
    that some spans have no length. The first span of a link is measured before the second is laid, and
-   again with it, a day after. In the end come the sheets that were late, for both spans of each link: one
-   of the earlier of the two days, and another one of the later day. They change no length. */
+   again with it, a day after. In the end come the late sheets. */
 static void write_journal(unsigned villages)
 {
-    unsigned cabinets = 3 * villages + 1;
+    unsigned cabinets = 3 * villages + 2;
     ask_share();
     for (unsigned cabinet = 0; cabinet < cabinets; cabinet++)
         add_cabinet();
@@ -199,20 +235,18 @@ static void write_journal(unsigned villages)
         ask_all(cabinets);
         ask_all_routes(first, 3);
     }
+    write_pair(3 * villages, cabinets);
+    size_t first_link = spans_entered;
     for (unsigned village = 0; village < villages; village++) {
         unsigned here = 3 * village + 1, there = 3 * ((village + 1) % villages);
-        add_in_duct(here, there, 5);
+        add_to_link(village, here, there);
         measure_newest(1, 2 * village + 1);
         ask_all(cabinets);
-        add_in_duct(there, here, 5);
+        add_to_link(village, there, here);
         measure_newest(2, 2 * village + 2);
         ask_all(cabinets);
     }
-    for (size_t span = 3 * villages; span < spans_entered; span++) {
-        unsigned village = (unsigned)(span - 3 * villages) / 2;
-        record_length(span, 2 * village + 1, 1);
-        record_length(span, 2 * village + 2, 2);
-    }
+    write_late_sheets(first_link);
     ask_all(cabinets);
     ask_all_routes(0, 3 * villages);
 }
@@ -237,8 +271,8 @@ static int make_room(void)
     return 1;
 }
 
-/* Runs the journal; 0 if it is refused, which for want of room it cannot be. */
-static int run_journal(void)
+/* Runs the journal; 0 if another number than this is returned. For want of room it is never refused. */
+static int run_journal(uint32_t wanted)
 {
     uint32_t number = register_run(CABINETS, SPANS, journal, journal_length,
                                    work, sizeof work / sizeof work[0],
@@ -246,17 +280,18 @@ static int run_journal(void)
                                    report, sizeof report / sizeof report[0]);
     if (number == REGISTER_NO_ROOM)
         printf("%u bytes were forecast, and do not suffice\n", (unsigned)answers_length);
-    else if (number != REGISTER_ACCEPTED)
-        printf("refused: %u at byte %u\n", (unsigned)number,
-               (unsigned)report[REGISTER_REPORT_PLACE]);
-    return number == REGISTER_ACCEPTED;
+    else if (number != wanted)
+        printf("returned %u at byte %u, wanted %u\n", (unsigned)number,
+               (unsigned)report[REGISTER_REPORT_PLACE], (unsigned)wanted);
+    return number == wanted;
 }
 
 /* ---- Reading the answers ---- */
 
-/* The planner's name list, its marks, and its records of lengths: for each span whether it was measured,
-   the latest day, and the metres of the first record of that day. */
-static unsigned district[CABINETS], ring[CABINETS], mesh[SPANS];
+/* The planner's name list, the ducts, its marks, and its records of lengths: for each span whether it was
+   measured, the latest day, and the metres of the first record of that day. A span has the duct that was
+   told, or 0 if none was. */
+static unsigned district[CABINETS], ring[CABINETS], mesh[SPANS], duct[SPANS];
 static int exchange[CABINETS], measured[SPANS];
 static unsigned latest_day[SPANS], metres[SPANS];
 static size_t cabinets_known, spans_known;
@@ -266,7 +301,7 @@ static size_t asked_at, answered_at;
 
 /* What was asked for and what the list had, for the last answer about each item. */
 static unsigned asked_district[CABINETS], asked_ring[CABINETS], asked_mesh[SPANS];
-static unsigned asked_length[SPANS];
+static unsigned asked_length[SPANS], asked_sole[SPANS];
 static unsigned asked_share, notices_read, routes_read, lengths_read, compared, differences;
 
 /* Where the answer about the last two routes begins. */
@@ -317,11 +352,11 @@ static int beside(size_t one, size_t other)
         || (ends[one][0] == ends[other][1] && ends[one][1] == ends[other][0]);
 }
 
-/* The least of a span and its mates. */
+/* The least of a span and its mates. Spans with no duct told lie in one, which is no other span's. */
 static size_t least_mate(size_t span)
 {
     for (size_t other = 0; other < span; other++)
-        if (duct[span] != 0 && duct[other] == duct[span] && beside(other, span))
+        if (duct[other] == duct[span] && beside(other, span))
             return other;
     return span;
 }
@@ -334,6 +369,7 @@ static void read_span(size_t command_length)
     unsigned number = two_bytes(answer + 1), count = two_bytes(answer + 5);
     hold("span", spans_known, number, (unsigned)spans_known);
     mesh[number] = two_bytes(answer + 3);
+    duct[number] = command_length == 7 ? two_bytes(journal + asked_at + 5) : 0;
     spans_known = number + 1;
     for (unsigned i = 0; i < count; i++)
         read_notice(answer + 7 + 5 * i);
@@ -379,7 +415,8 @@ static unsigned is_sole(size_t span)
 static void read_sole(void)
 {
     unsigned span = two_bytes(journal + asked_at + 1);
-    hold("sole span", span, answers[answered_at + 1], is_sole(span));
+    asked_sole[span] = answers[answered_at + 1];
+    hold("sole span", span, asked_sole[span], is_sole(span));
     asked_at += 3;
     answered_at += 2;
 }
@@ -544,7 +581,8 @@ static int read_answer(void)
     }
 }
 
-/* Reads all answers; 0 if one does not answer its command. */
+/* Reads all answers; 0 if one does not answer its command, or they do not end with the last command
+   that was accepted. */
 static int read_answers(void)
 {
     while (answered_at < report[REGISTER_REPORT_ANSWERS]) {
@@ -553,7 +591,8 @@ static int read_answers(void)
             return 0;
         }
     }
-    return 1;
+    return answered_at == report[REGISTER_REPORT_ANSWERS]
+        && asked_at == report[REGISTER_REPORT_PLACE];
 }
 
 static void print_names(void)
@@ -573,46 +612,197 @@ static void print_names(void)
     printf("share of cabinets whose ring holds an exchange: %u thousandths\n", asked_share);
 }
 
-/* The last two routes, of which it is known that they serve, and how long each is as far as its spans
- * were measured. */
-static void print_routes(void)
+/* Prints the spans of a route, from its count on; gives where the next one begins. */
+static const uint8_t *print_route(const uint8_t *list)
 {
-    const uint8_t *list = last_routes + 1;
-    for (int route = 0; route < 2; route++) {
-        unsigned count = two_bytes(list), length = 0, without = 0;
-        printf("%s route:", route == 0 ? "working" : "standby");
-        for (unsigned i = 0; i < count; i++) {
-            unsigned span = two_bytes(list + 2 + 2 * i);
-            printf(" %u", span);
-            if (asked_length[span] == NO_LENGTH)
-                without++;
-            else
-                length += asked_length[span];
-        }
-        printf(", %u metres, %u spans not measured\n", length, without);
-        list += 2 + 2 * count;
-    }
+    unsigned count = two_bytes(list);
+    for (unsigned i = 0; i < count; i++)
+        printf(" %u", two_bytes(list + 2 + 2 * i));
+    return list + 2 + 2 * count;
 }
 
-int main(void)
+/* Prints how long a route is, as far as its spans were measured. */
+static void print_metres(const uint8_t *list)
 {
-    for (size_t item = 0; item < SPANS; item++)
-        asked_length[item] = NO_LENGTH;
-    write_journal(5);
-    if (!make_room() || !run_journal() || !read_answers()) {
-        free(answers);
-        return 1;
+    unsigned count = two_bytes(list), length = 0, without = 0;
+    for (unsigned i = 0; i < count; i++) {
+        unsigned span = two_bytes(list + 2 + 2 * i);
+        if (asked_length[span] == NO_LENGTH)
+            without++;
+        else
+            length += asked_length[span];
     }
+    printf(", %u metres, %u spans not measured\n", length, without);
+}
+
+/* The last two routes, of which it is known that they serve. */
+static void print_routes(void)
+{
+    const uint8_t *working = last_routes + 1;
+    printf("working route:");
+    const uint8_t *standby = print_route(working);
+    print_metres(working);
+    printf("standby route:");
+    print_route(standby);
+    print_metres(standby);
+}
+
+/* ---- The villages ---- */
+
+/* Writes their journal, has it run and prints what it tells; 0 if anything is not as it must be. */
+static int plan_villages(void)
+{
+    write_journal(5);
+    if (!make_room() || !run_journal(REGISTER_ACCEPTED) || !read_answers())
+        return 0;
     print_names();
     if (differences == 0)
         print_routes();
-    free(answers);
     printf("%u bytes of room were forecast for the answers, %u were taken\n",
            (unsigned)answers_length, (unsigned)report[REGISTER_REPORT_ANSWERS]);
     printf("%u commands, %u notices, %u pairs of routes and %u lengths read, %u names, numbers, "
            "exchanges, sole spans, routes and lengths compared, %u differ\n",
            (unsigned)report[REGISTER_REPORT_COMMANDS], notices_read, routes_read, lengths_read,
            compared, differences);
-    return differences != 0 || asked_at != journal_length
-        || answered_at != report[REGISTER_REPORT_ANSWERS];
+    return differences == 0;
+}
+
+/* ---- A branch on the old reading ---- */
+
+/* Where the result of a rewriting is written: as long as a journal may be, so that it serves wherever
+   any buffer does. */
+static uint8_t rewritten[REGISTER_LONGEST_JOURNAL];
+
+/* Three cabinets in a row, with two spans from 02 between the first two and one behind them: by the old
+   reading the two protect each other. The last question is for two routes between the first two. */
+static void write_old_journal(void)
+{
+    journal_length = spans_entered = 0;
+    for (unsigned cabinet = 0; cabinet < 3; cabinet++)
+        add_cabinet();
+    add_span(0, 1);
+    add_span(1, 0);
+    add_span(1, 2);
+    ask_all(3);
+    ask_routes(0, 1);
+}
+
+/* Forgets what was read of another run. */
+static void forget_answers(void)
+{
+    free(answers);
+    answers = NULL;
+    asked_at = answered_at = 0;
+    cabinets_known = spans_known = 0;
+    memset(exchange, 0, sizeof exchange);
+    memset(measured, 0, sizeof measured);
+}
+
+/* Runs the journal, which must return this number, and reads its answers as all others. */
+static int run_branch(uint32_t wanted)
+{
+    forget_answers();
+    return make_room() && run_journal(wanted) && read_answers();
+}
+
+/* The ring of each cabinet, and the sole spans. */
+static void print_branch(void)
+{
+    printf("rings");
+    for (size_t item = 0; item < cabinets_known; item++)
+        printf(" %u", asked_ring[item]);
+    printf(", sole spans");
+    for (size_t span = 0; span < spans_known; span++)
+        if (asked_sole[span])
+            printf(" %zu", span);
+}
+
+/* Holds them against those that the branch must have. */
+static void hold_branch(const unsigned rings[3], const unsigned sole[3])
+{
+    for (size_t item = 0; item < 3; item++) {
+        hold("ring, in the branch, of cabinet", item, asked_ring[item], rings[item]);
+        hold("sole, in the branch, is span", item, asked_sole[item], sole[item]);
+    }
+}
+
+/* Has the journal rewritten, and puts the result in its place; 0 if it is refused, or its length is not
+   2 bytes more for each 02. */
+static int rewrite_journal(void)
+{
+    uint32_t place, length;
+    uint32_t number = register_rewrite(journal, journal_length, rewritten, sizeof rewritten,
+                                       &place, &length);
+    if (number != REGISTER_ACCEPTED) {
+        printf("not rewritten: %u at byte %u\n", (unsigned)number, (unsigned)place);
+        return 0;
+    }
+    hold("place, rewriting bytes", journal_length, place, (unsigned)journal_length);
+    hold("length, rewriting bytes", journal_length, length,
+         (unsigned)(journal_length + 2 * spans_entered));
+    memcpy(journal, rewritten, length);
+    journal_length = length;
+    return differences == 0;
+}
+
+/* A result is not rewritten again: its first 0B, behind the three cabinets, is refused. */
+static int refuse_again(void)
+{
+    uint32_t place, length;
+    uint32_t number = register_rewrite(journal, journal_length, rewritten, sizeof rewritten,
+                                       &place, &length);
+    printf("rewritten again: refused with %u at byte %u\n", (unsigned)number, (unsigned)place);
+    return number == REGISTER_DUCT_TOLD && place == 3 && length == 0;
+}
+
+/* As it stands, the two spans are mates: each cabinet is a ring, every span is sole, and there are no two
+   routes. */
+static int plan_as_it_stands(void)
+{
+    static const unsigned rings[3] = {0, 1, 2}, sole[3] = {1, 1, 1};
+    if (!run_branch(REGISTER_NO_SHARED_RING))
+        return 0;
+    printf("a journal of the old reading, as it stands: ");
+    print_branch();
+    printf(", no two routes from 0 to 1\n");
+    hold_branch(rings, sole);
+    return differences == 0;
+}
+
+/* Rewritten, each span has a duct of its own, and the two protect each other, as by the old reading. The
+   room that is forecast is the same. */
+static int plan_rewritten(void)
+{
+    static const unsigned rings[3] = {0, 0, 2}, sole[3] = {0, 0, 1};
+    size_t old_length = journal_length;
+    uint32_t room = answers_length;
+    if (!rewrite_journal() || !run_branch(REGISTER_ACCEPTED))
+        return 0;
+    printf("rewritten, %zu bytes in place of %zu: ", journal_length, old_length);
+    print_branch();
+    printf(", routes from 0 to 1:");
+    const uint8_t *other = print_route(last_routes + 1);
+    printf(" and");
+    print_route(other);
+    printf("\n");
+    hold_branch(rings, sole);
+    for (size_t span = 0; span < spans_known; span++)
+        hold("duct of span", span, duct[span], (unsigned)span + 1);
+    hold("room forecast for bytes", journal_length, answers_length, room);
+    return differences == 0;
+}
+
+static int plan_branch(void)
+{
+    write_old_journal();
+    return plan_as_it_stands() && plan_rewritten() && refuse_again();
+}
+
+int main(void)
+{
+    for (size_t item = 0; item < SPANS; item++)
+        asked_length[item] = NO_LENGTH;
+    int good = plan_villages() && plan_branch();
+    free(answers);
+    return !good;
 }

@@ -3,10 +3,11 @@
  *
  *     stack BYTES [CABINETS]
  *
- * Forecasts the longest journals, then runs those that make the register climb longest, in a thread
- * with a stack of BYTES bytes and a page below it that must not be touched. Prints the bytes that the
- * calls took, and exits with 0 if they are fewer than the header tells. With too small a stack it
- * ends by a signal; run it with falling sizes to find the least, which no thread's stack may go below.
+ * Forecasts the longest journals, rewrites them, and runs those that make the register climb longest,
+ * each in a thread of its own with a stack of BYTES bytes and a page below it that must not be touched.
+ * Prints the bytes that the calls took, and exits with 0 if they are fewer than the header tells. With
+ * too small a stack it ends by a signal; run it with falling sizes to find the least, which no thread's
+ * stack may go below.
  *
  * The stack is filled with a pattern first; what a call took is counted from the lowest byte that
  * lost the pattern up to the frame that made the call.
@@ -26,12 +27,12 @@ enum { PATTERN = 0xA5, ANSWER_BYTES = 1 << 20 };
 static uint8_t journal[REGISTER_LONGEST_JOURNAL + 1];
 static size_t journal_length;
 static uint32_t work[REGISTER_WORK(REGISTER_MOST_CABINETS, REGISTER_MOST_SPANS)];
-static uint8_t answers[ANSWER_BYTES];
+static uint8_t answers[ANSWER_BYTES], rewritten[REGISTER_LONGEST_JOURNAL];
 static uint32_t report[REGISTER_REPORT];
 
 static unsigned cabinets = REGISTER_MOST_CABINETS;
 static uint8_t *stack_low;
-static size_t runs_took, forecasts_took;
+static size_t runs_took, forecasts_took, rewritings_took;
 static int failed;
 
 /* ---- The journals ---- */
@@ -128,6 +129,17 @@ static void chain_of_mates(void)
     ask_and_close(0, cabinets - 1);
 }
 
+/* The same with no duct told. */
+static void chain_of_untold_mates(void)
+{
+    add_cabinets();
+    for (unsigned i = 1; i < cabinets; i++)
+        command(0x02, i - 1, i);
+    for (unsigned i = 1; i < cabinets; i++)
+        command(0x02, i, i - 1);
+    ask_and_close(0, cabinets - 1);
+}
+
 /* Two chains beside each other with a rung between each two of their cabinets, and two routes from end
    to end, along a chain and across; then a span from end to end, and the routes again. */
 static void ladder(void)
@@ -198,7 +210,7 @@ static void forecast_one(unsigned byte, size_t length, uint32_t wanted)
 }
 
 /* The longest journals of each command, one byte longer than whole commands, and too long. */
-static void forecast_all(void)
+static void *forecast_all(void *unused)
 {
     size_t longest = REGISTER_LONGEST_JOURNAL;
     forecast_one(0x01, longest, REGISTER_ACCEPTED);
@@ -212,16 +224,51 @@ static void forecast_all(void)
     forecast_one(0x10, longest, REGISTER_BAD_COMMAND);
     forecast_one(0x00, longest, REGISTER_BAD_COMMAND);
     forecast_one(0x01, longest + 1, REGISTER_LONG_JOURNAL);
+    return unused;
 }
 
-/* The forecasts come first, on a stack that no run has touched. */
-static void *call_all(void *unused)
+/* Rewrites a journal of one byte again and again. */
+static void rewrite_one(unsigned byte, size_t length, uint32_t wanted)
 {
-    forecast_all();
+    uint8_t here;
+    uint32_t place, result;
+    memset(journal, (int)byte, length);
+    uint32_t number = register_rewrite(journal, length, rewritten, sizeof rewritten, &place, &result);
+    note(&here, &rewritings_took);
+    if (number != wanted) {
+        printf("rewriting of %zu bytes %02X: %u\n", length, byte, (unsigned)number);
+        failed = 1;
+    }
+}
+
+/* The same journals; and the most spans whose result is short enough, and one more. */
+static void *rewrite_all(void *unused)
+{
+    size_t longest = REGISTER_LONGEST_JOURNAL, most_spans = longest / 7;
+    rewrite_one(0x01, longest, REGISTER_ACCEPTED);
+    rewrite_one(0x0F, longest, REGISTER_ACCEPTED);
+    rewrite_one(0x02, 5 * most_spans, REGISTER_ACCEPTED);
+    rewrite_one(0x02, 5 * (most_spans + 1), REGISTER_LONG_RESULT);
+    rewrite_one(0x02, longest - 1, REGISTER_LONG_RESULT);
+    rewrite_one(0x02, longest, REGISTER_CUT_OFF);
+    for (unsigned byte = 0x03; byte <= 0x0E; byte++) {
+        size_t over = byte == 0x0B || byte == 0x0D ? 2 : 1;
+        rewrite_one(byte, longest - over, byte == 0x0B ? REGISTER_DUCT_TOLD : REGISTER_ACCEPTED);
+        rewrite_one(byte, longest - over + 1, REGISTER_CUT_OFF);
+    }
+    rewrite_one(0x10, longest, REGISTER_BAD_COMMAND);
+    rewrite_one(0x00, longest, REGISTER_BAD_COMMAND);
+    rewrite_one(0x01, longest + 1, REGISTER_LONG_JOURNAL);
+    return unused;
+}
+
+static void *run_all(void *unused)
+{
     run_one("chain from the first", chain_from_the_first, cabinets);
     run_one("chain from the last", chain_from_the_last, cabinets);
     run_one("two chains", two_chains, cabinets);
     run_one("chain of mates", chain_of_mates, 2 * cabinets - 1);
+    run_one("chain of mates with no duct told", chain_of_untold_mates, 2 * cabinets - 1);
     run_one("ladder", ladder, 3 * (cabinets / 2) - 1);
     return unused;
 }
@@ -238,7 +285,8 @@ static uint8_t *make_stack(size_t bytes)
     return low + page;
 }
 
-static int run_with_stack(size_t bytes)
+/* Makes these calls in a thread with a new stack; 0 if there is none. */
+static int with_stack(size_t bytes, void *(*calls)(void *))
 {
     pthread_attr_t attributes;
     pthread_t thread;
@@ -247,7 +295,7 @@ static int run_with_stack(size_t bytes)
         return 0;
     if (pthread_attr_setstack(&attributes, stack_low, bytes) != 0)
         return 0;
-    if (pthread_create(&thread, &attributes, call_all, NULL) != 0)
+    if (pthread_create(&thread, &attributes, calls, NULL) != 0)
         return 0;
     return pthread_join(thread, NULL) == 0;
 }
@@ -263,12 +311,14 @@ int main(int count, char **words)
         return 2;
     }
     bytes = (bytes + page - 1) / page * page;
-    if (!run_with_stack(bytes)) {
+    if (!with_stack(bytes, forecast_all) || !with_stack(bytes, rewrite_all)
+        || !with_stack(bytes, run_all)) {
         fprintf(stderr, "no thread with a stack of %zu bytes\n", bytes);
         return 2;
     }
-    printf("stack of %zu bytes, %u cabinets: %s; the runs took %zu bytes, the forecasts %zu, of the "
-           "%u told\n", bytes, cabinets, failed ? "refused" : "run", runs_took, forecasts_took,
-           REGISTER_STACK);
-    return failed || runs_took >= REGISTER_STACK || forecasts_took >= REGISTER_STACK;
+    printf("stack of %zu bytes, %u cabinets: %s; the runs took %zu bytes, the forecasts %zu, the "
+           "rewritings %zu, of the %u told\n", bytes, cabinets, failed ? "refused" : "run", runs_took,
+           forecasts_took, rewritings_took, REGISTER_STACK);
+    return failed || runs_took >= REGISTER_STACK || forecasts_took >= REGISTER_STACK
+        || rewritings_took >= REGISTER_STACK;
 }

@@ -1,6 +1,6 @@
 //! A case: one call of the register, with its capacities, journal and lengths of buffers.
 
-use crate::engine::{work_needed, Forecast, REPORT_NUMBERS};
+use crate::engine::{work_needed, Forecast, Rewriting, REPORT_NUMBERS};
 
 /// The length of the answer buffer. What all answers take is the engine's to say where it gives the
 /// routes of a 0C.
@@ -51,6 +51,17 @@ pub struct Case {
     pub left: Option<(Vec<OneOf>, [u32; REPORT_NUMBERS])>,
     /// The journal's forecast, where it is known beforehand.
     pub forecast: Option<Forecast>,
+    /// The journal's rewriting, where it is known beforehand.
+    pub rewriting: Option<Rewritten>,
+}
+
+/// A rewriting known beforehand: what it tells with an output buffer of so many bytes, and the result,
+/// empty on a refusal.
+#[derive(Clone, Debug)]
+pub struct Rewritten {
+    pub room: usize,
+    pub told: Rewriting,
+    pub result: Vec<u8>,
 }
 
 impl Case {
@@ -71,6 +82,7 @@ impl Case {
             returned: None,
             left: None,
             forecast: None,
+            rewriting: None,
         }
     }
 
@@ -101,6 +113,12 @@ impl Case {
     /// This number, place and length must be forecast.
     pub fn forecasts(mut self, [number, place, length]: [u32; 3]) -> Case {
         self.forecast = Some(Forecast { number, place, length });
+        self
+    }
+
+    /// This must be told and written by a rewriting with an output buffer of so many bytes.
+    pub fn rewrites(mut self, room: usize, told: Rewriting, result: Vec<u8>) -> Case {
+        self.rewriting = Some(Rewritten { room, told, result });
         self
     }
 

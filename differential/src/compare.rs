@@ -1,11 +1,14 @@
-//! One case run and forecast by an engine and by the second implementation, and every byte compared.
+//! One case run, forecast and rewritten by an engine and by the second implementation, and every byte
+//! compared.
 //!
-//! First comes the forecast, then a run with exactly the room that is forecast, which is ample. Its
+//! First come the forecast and the rewriting, then a run with exactly the room that is forecast, which is ample. Its
 //! answers tell which pairs of routes the engine gives; each must serve. With these pairs the second
 //! implementation tells every byte of that run, and of the run with the room of the case.
 
 mod ample;
 mod forecast;
+mod held;
+mod rewrite;
 
 use crate::cases::{begin_with, hex, Case};
 use crate::engine::{Call, Engine};
@@ -14,6 +17,8 @@ use crate::random::Random;
 use crate::second::routes::Asked;
 use crate::second::{Accepted, Second};
 use ample::Ample;
+
+pub use held::hold;
 
 /// Entries before and after each buffer that no engine may touch.
 const GUARD: usize = 64;
@@ -35,6 +40,12 @@ pub struct Tally {
     /// Runs with exactly the room that was forecast, by the number that the journal's forecast
     /// returned: 0, or 4 and 5 with the room for the commands before the damaged place.
     pub exact: [usize; 6],
+    /// How often each number from 0 to 16 was returned by a rewriting.
+    pub rewritten: [usize; 17],
+    /// Journals held against what they are rewritten to: those accepted to the end, and those refused;
+    /// and the pairs of routes given there.
+    pub held: [usize; 2],
+    pub held_pairs: usize,
 }
 
 /// The buffers of one call, each between guards, with random contents.
@@ -116,6 +127,7 @@ pub fn compare(
 ) -> Result<usize, String> {
     let random = &mut Random::new(seed);
     let forecast = forecast::compare(engine, second, case, random, tally)?;
+    rewrite::compare(engine, second, case, random, tally)?;
     let ample = match forecast {
         Some(forecast) => ample::run(engine, second, case, forecast, random, tally)?,
         None => Ample::default(),

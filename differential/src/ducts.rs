@@ -1,10 +1,11 @@
-//! Histories with ducts. Their answers are worked out by hand from document 02's third request, and
-//! are document 01's where its spans are entered.
+//! Histories with ducts, and with several 02 spans between the same two cabinets. Their answers are
+//! worked out by hand from document 02's third and seventh requests, and are document 01's where its
+//! spans are entered.
 
 use crate::cases::{unhex, Case};
 use crate::engine::{MOST_CABINETS, MOST_SPANS};
 use crate::exchanges::{fields, TWO_RINGS};
-use crate::histories::{worked_out, Known, Line};
+use crate::histories::{worked_out, Known, Line, TRIANGLE, TRIANGLE_ANSWERS};
 use crate::journals::Writer;
 use crate::spans::Span;
 
@@ -37,7 +38,7 @@ const CLOSES: &str = "82 0001 0000 0001 02 0001 0000";
 /// The same, as span 2 beside two mates.
 const CLOSES_BESIDE_MATES: &str = "82 0002 0000 0001 02 0001 0000";
 
-const KNOWN: [Known; 27] = [
+const KNOWN: [Known; 26] = [
     // No cabinet lies between the two either.
     (
         "two spans of one duct: two rings, one mesh, both sole, 06 lists the lesser",
@@ -73,7 +74,7 @@ const KNOWN: [Known; 27] = [
         ],
         [0, 43, 11, 49, 2, 2],
     ),
-    // A span from 02 has no mate: it protects, and is protected.
+    // A span from 02 is a mate of no 0B span: it protects, and is protected.
     (
         "02 beside 0B",
         &[
@@ -239,8 +240,8 @@ const KNOWN: [Known; 27] = [
         "three mates against a ring of two spans",
         &[
             FOUR_CABINETS,
-            ("02 0002 0003", "82 0000 0000 0001 01 0003 0002"),
-            ("02 0003 0002", "82 0001 0000 0001 02 0003 0002"),
+            ("0B 0002 0003 0001", "82 0000 0000 0001 01 0003 0002"),
+            ("0B 0003 0002 0002", "82 0001 0000 0001 02 0003 0002"),
             ("0B 0000 0001 0005", "82 0002 0002 0001 01 0001 0000"),
             ("0B 0000 0001 0005 0B 0000 0001 0005", "82 0003 0002 0000 82 0004 0002 0000"),
             ("02 0001 0002", "82 0005 0005 0002 01 0002 0000 01 0003 0000"),
@@ -250,7 +251,7 @@ const KNOWN: [Known; 27] = [
                  03 0000 0002 03 0001 0002 03 0005 0002",
             ),
         ],
-        [0, 45, 11, 111, 4, 7],
+        [0, 49, 11, 111, 4, 7],
     ),
     // Spans 4 and 5 are mates between two rings, which stay two. Span 6 has their duct at another
     // pair: it closes the loop. The meshes of spans 0 and 1, of 2 and 3, of 4 and 5 have size 2
@@ -269,7 +270,7 @@ const KNOWN: [Known; 27] = [
             ),
             ("06 0000 0003 08 0005", "86 0000 88 00"),
         ],
-        [0, 61, 15, 134, 4, 7],
+        [0, 69, 15, 134, 4, 7],
     ),
     // Spans 0, 2 and 4 are mates, between 0 and 1. From 0 to 3 each link parts: the set by its
     // least, then 1, then 3. The last span closes the loop; the set's mesh has size 3.
@@ -321,12 +322,6 @@ const KNOWN: [Known; 27] = [
         ],
         [0, 35, 11, 50, 2, 3],
     ),
-    // Two spans from 02 have no duct, and are no mates for that.
-    (
-        "02 beside 02",
-        &[TWO_CABINETS, ("02 0000 0001", FIRST), ("02 0001 0000", CLOSES), (ASKED_OF_2, ONE_RING)],
-        [0, 33, 9, 46, 2, 2],
-    ),
     ("duct 0", &[TWO_CABINETS, ("0B 0000 0001 0000", "")], [13, 2, 2, 6, 2, 0]),
     (
         "duct 0 beside a span from 02",
@@ -340,9 +335,200 @@ const KNOWN: [Known; 27] = [
     ("8B is no command", &[TWO_CABINETS, ("8B 0000 0001 0005", "")], [4, 2, 2, 6, 2, 0]),
 ];
 
+/// Span 0, by 02, and a second one, its mate.
+const BY_02_FIRST: Line = ("02 0000 0001", FIRST);
+const BY_02_MATE: Line = ("02 0000 0001", "82 0001 0000 0000");
+
+/// Histories with several 02 spans between the same two cabinets, which are mates of each other and of
+/// no 0B span: document 02's seventh request.
+const BY_02: [Known; 13] = [
+    (
+        "02 beside 02: two rings, one mesh, both sole, 06 lists the lesser",
+        &[
+            TWO_CABINETS,
+            BY_02_FIRST,
+            BY_02_MATE,
+            (ASKED_OF_2, PARTED_BY_0),
+            ("08 0000 08 0001 07 0000 0001", "88 01 88 01 87 0000"),
+        ],
+        [0, 44, 12, 52, 2, 2],
+    ),
+    (
+        "there and back by 02",
+        &[
+            TWO_CABINETS,
+            BY_02_FIRST,
+            ("02 0001 0000", "82 0001 0000 0000"),
+            (ASKED_OF_2, PARTED_BY_0),
+            ("08 0000 08 0001", "88 01 88 01"),
+        ],
+        [0, 39, 11, 49, 2, 2],
+    ),
+    // Each is a mate of each, not of the first alone.
+    (
+        "four spans from 02",
+        &[
+            TWO_CABINETS,
+            BY_02_FIRST,
+            BY_02_MATE,
+            ("02 0001 0000 02 0000 0001", "82 0002 0000 0000 82 0003 0000 0000"),
+            (ASKED_OF_2, PARTED_BY_0),
+            ("08 0000 08 0001 08 0002 08 0003", "88 01 88 01 88 01 88 01"),
+        ],
+        [0, 55, 15, 67, 2, 4],
+    ),
+    // Whichever is lost of the 02 spans and the 0B span, the other is left. Duct 1 is not that of the 02
+    // spans, nor is any other.
+    (
+        "duct 1 beside two spans from 02",
+        &[
+            TWO_CABINETS,
+            BY_02_FIRST,
+            BY_02_MATE,
+            ("0B 0001 0000 0001", CLOSES_BESIDE_MATES),
+            (ASKED_OF_2, ONE_RING),
+            ("08 0000 08 0001 08 0002", "88 00 88 00 88 00"),
+        ],
+        [0, 49, 13, 59, 2, 3],
+    ),
+    (
+        "duct 65,535 beside two spans from 02",
+        &[
+            TWO_CABINETS,
+            BY_02_FIRST,
+            BY_02_MATE,
+            ("0B 0001 0000 FFFF", CLOSES_BESIDE_MATES),
+            (ASKED_OF_2, ONE_RING),
+        ],
+        [0, 40, 10, 53, 2, 3],
+    ),
+    // Its low byte is 0.
+    (
+        "duct 256 beside two spans from 02",
+        &[
+            TWO_CABINETS,
+            BY_02_FIRST,
+            BY_02_MATE,
+            ("0B 0001 0000 0100", CLOSES_BESIDE_MATES),
+            (ASKED_OF_2, ONE_RING),
+        ],
+        [0, 40, 10, 53, 2, 3],
+    ),
+    // The 02 spans 1 and 2 find a 0B span there, and are mates all the same.
+    (
+        "two spans from 02 beside a 0B span",
+        &[
+            TWO_CABINETS,
+            ("0B 0000 0001 0001", FIRST),
+            ("02 0000 0001", CLOSES),
+            ("02 0001 0000", "82 0002 0000 0000"),
+            (ASKED_OF_2, ONE_RING),
+            (
+                "0C 0000 0001",
+                "8C 0001 0000 0001 0001 | 8C 0001 0000 0001 0002 \
+                 | 8C 0001 0001 0001 0000 | 8C 0001 0002 0001 0000",
+            ),
+        ],
+        [0, 45, 11, 62, 2, 3],
+    ),
+    // From 0 to 2 the set of spans 0 and 2 comes first, then span 1: 02 spans of two pairs are no mates.
+    (
+        "a chain by 02, its first link doubled",
+        &[
+            THREE_CABINETS,
+            BY_02_FIRST,
+            ("02 0001 0002", "82 0001 0001 0001 01 0002 0000"),
+            ("02 0001 0000", "82 0002 0000 0000"),
+            ("06 0000 0002 06 0002 0000", "86 0002 0000 0001 86 0002 0001 0000"),
+            ("05 0000 0001 05 0001 0002 05 0000 0002", "85 01 0000 85 01 0001 85 00 0000"),
+            ("07 0000 0002", "87 0001 0001"),
+            ("08 0000 08 0001 08 0002", "88 01 88 01 88 01"),
+        ],
+        [0, 57, 15, 77, 3, 3],
+    ),
+    // Document 01's triangle: 02 spans of three pairs are no mates.
+    (
+        "a triangle by 02",
+        &[
+            (TRIANGLE, TRIANGLE_ANSWERS),
+            ("06 0000 0002 08 0000 08 0001 08 0002", "86 0000 88 00 88 00 88 00"),
+        ],
+        [0, 32, 10, 64, 3, 3],
+    ),
+    // Spans 0 and 1 are mates, a mesh of size 2, and so are spans 2 and 3. Span 4 closes the loop 0, 1,
+    // 2, and its own mesh has size 1: name 0 is kept. Span 5 finds its mates in one ring.
+    (
+        "a triangle by 02 with doubled links",
+        &[
+            THREE_CABINETS,
+            BY_02_FIRST,
+            BY_02_MATE,
+            ("02 0002 0001 02 0001 0002", "82 0002 0002 0001 01 0002 0000 82 0003 0002 0000"),
+            ("06 0002 0000", "86 0002 0002 0000"),
+            (
+                "02 0000 0002",
+                "82 0004 0000 0004 02 0001 0000 02 0002 0000 03 0002 0000 03 0003 0000",
+            ),
+            ("02 0001 0000", "82 0005 0000 0000"),
+            ("06 0000 0002 08 0005 08 0000", "86 0000 88 00 88 00"),
+        ],
+        [0, 49, 13, 95, 3, 6],
+    ),
+    // The last span closes a loop of four. Meshes before it: span 0, size 1; the mates 1 and 2, size 2;
+    // span 3, size 1. So name 1 is kept.
+    (
+        "a mesh of spans from 02 measured in single spans",
+        &[
+            FOUR_CABINETS,
+            ("02 0002 0003", "82 0000 0000 0001 01 0003 0002"),
+            ("02 0000 0001", "82 0001 0001 0001 01 0001 0000"),
+            ("02 0001 0000", "82 0002 0001 0000"),
+            ("02 0001 0002", "82 0003 0003 0002 01 0002 0000 01 0003 0000"),
+            (
+                "02 0003 0000",
+                "82 0004 0001 0005 02 0001 0000 02 0002 0000 02 0003 0000 \
+                 03 0000 0001 03 0003 0001",
+            ),
+        ],
+        [0, 29, 9, 92, 4, 5],
+    ),
+    // Spans 0 and 2 are one set, spans 1 and 3 the other.
+    (
+        "02 and duct 2 by turns",
+        &[
+            TWO_CABINETS,
+            BY_02_FIRST,
+            ("0B 0000 0001 0002", CLOSES),
+            ("02 0001 0000", "82 0002 0000 0000"),
+            ("0B 0001 0000 0002", "82 0003 0000 0000"),
+            (ASKED_OF_2, ONE_RING),
+            (
+                "0C 0001 0000",
+                "8C 0001 0000 0001 0001 | 8C 0001 0000 0001 0003 \
+                 | 8C 0001 0002 0001 0001 | 8C 0001 0002 0001 0003 \
+                 | 8C 0001 0001 0001 0000 | 8C 0001 0003 0001 0000 \
+                 | 8C 0001 0001 0001 0002 | 8C 0001 0003 0001 0002",
+            ),
+        ],
+        [0, 52, 12, 69, 2, 4],
+    ),
+    (
+        "two spans from 02 feed no other ring",
+        &[
+            TWO_CABINETS,
+            ("09 0000", "89"),
+            BY_02_FIRST,
+            BY_02_MATE,
+            ("0A 0000 0A 0001 0F", "8A 01 8A 00 8F 01F4"),
+        ],
+        [0, 22, 8, 33, 2, 2],
+    ),
+];
+
 /// All of them, each with room to the byte and, where a byte is needed, with one byte less.
 pub fn known() -> Vec<Case> {
     let mut cases = worked_out(&KNOWN);
+    cases.extend(worked_out(&BY_02));
     cases.push(asked_again());
     cases.push(every_bit());
     cases

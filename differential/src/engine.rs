@@ -1,5 +1,6 @@
 //! What every implementation of the register offers: the run of document 01, with the commands of
-//! document 02's requests 2, 3, 5 and 6, and the forecast of its first.
+//! document 02's requests 2, 3, 5 and 6 and the mates of its seventh, the forecast of its first and the
+//! rewriting of its seventh.
 
 /// The call: the capacities C and S, the journal, and the buffers that the caller lends.
 pub struct Call<'a> {
@@ -22,6 +23,17 @@ pub struct Forecast {
     pub length: u32,
 }
 
+/// What a rewriting tells beside the result that it writes.
+#[derive(Clone, Copy, PartialEq, Eq, Debug)]
+pub struct Rewriting {
+    /// 0 if the journal is rewritten.
+    pub number: u32,
+    /// The journal's length, or the refused command's first byte; 0 for the numbers 3 and 16.
+    pub place: u32,
+    /// The length of the result; 0 on a refusal.
+    pub length: u32,
+}
+
 pub trait Engine {
     fn name(&self) -> &'static str;
 
@@ -31,6 +43,10 @@ pub trait Engine {
     /// Forecasts the length of the answer buffer from the journal alone. Returns 0, or the number
     /// of the refusal; the caller's place and length are filled either way.
     fn forecast(&self, journal: &[u8], place: &mut u32, length: &mut u32) -> u32;
+
+    /// Rewrites a journal so that no two of its 02 spans are mates, into the output buffer. Returns 0, or
+    /// the number of the refusal; the caller's place and length are filled either way.
+    fn rewrite(&self, journal: &[u8], out: &mut [u8], place: &mut u32, length: &mut u32) -> u32;
 }
 
 pub const MOST_CABINETS: u32 = 4096;
@@ -60,8 +76,25 @@ impl Forecast {
     }
 }
 
+impl Rewriting {
+    pub fn accepted(journal: &[u8], length: usize) -> Rewriting {
+        Rewriting { number: 0, place: fit(journal.len()), length: fit(length) }
+    }
+
+    pub fn refused(number: u32, place: usize) -> Rewriting {
+        Rewriting { number, place: fit(place), length: 0 }
+    }
+
+    /// Fills the caller's place and length. Gives the number that is returned.
+    pub fn tell(self, place: &mut u32, length: &mut u32) -> u32 {
+        *place = self.place;
+        *length = self.length;
+        self.number
+    }
+}
+
 fn fit(number: usize) -> u32 {
-    u32::try_from(number).expect("every place and length of a forecast fits 32 bits")
+    u32::try_from(number).expect("every place and length fits 32 bits")
 }
 
 impl Call<'_> {

@@ -8,6 +8,7 @@ use crate::cases::{unhex, Case};
 use crate::engine::MOST_CABINETS;
 use crate::histories::{worked_out, Known, Line, TRIANGLE, TRIANGLE_ANSWERS};
 use crate::journals::Writer;
+use crate::spans::Span;
 
 const THREE_CABINETS: Line = ("01 01 01", "81 0000 81 0001 81 0002");
 
@@ -15,9 +16,9 @@ const THREE_CABINETS: Line = ("01 01 01", "81 0000 81 0001 81 0002");
 const RING_AND_SINGLE: [Line; 2] = [(TRIANGLE, TRIANGLE_ANSWERS), ("01", "81 0003")];
 
 /// Cabinets 0 and 1 in ring 0, cabinets 2 and 3 in ring 2. With the two lines below these are
-/// document 01's spans 0-1, 0-1, 2-3, 2-3, 1-2, 0-3.
+/// document 01's spans 0-1, 0-1, 2-3, 2-3, 1-2, 0-3, the doubled ones in ducts 1 and 2.
 pub const TWO_RINGS: Line = (
-    "01 01 01 01 02 0000 0001 02 0000 0001 02 0002 0003 02 0002 0003",
+    "01 01 01 01 0B 0000 0001 0001 0B 0000 0001 0002 0B 0002 0003 0001 0B 0002 0003 0002",
     "81 0000 81 0001 81 0002 81 0003 \
      82 0000 0000 0001 01 0001 0000 82 0001 0000 0001 02 0001 0000 \
      82 0002 0002 0001 01 0003 0002 82 0003 0002 0001 02 0003 0002",
@@ -36,7 +37,7 @@ const ONE_RING: Line = (
 const ASKED_OF_3: &str = "0A 0000 0A 0001 0A 0002 0F";
 const ASKED_OF_4: &str = "0A 0000 0A 0001 0A 0002 0A 0003 0F";
 
-const KNOWN: [Known; 18] = [
+const KNOWN: [Known; 19] = [
     // The share of an empty network is 0.
     ("empty network", &[("0F", "8F 0000")], [0, 1, 1, 3, 0, 0]),
     // 0 of 1 is 0, and 1 of 1 is 1000.
@@ -90,6 +91,16 @@ const KNOWN: [Known; 18] = [
             ("0A 0000 0A 0001 0F", "8A 01 8A 00 8F 01F4"),
         ],
         [0, 17, 7, 26, 2, 1],
+    ),
+    // Two 02 spans are mates: the rings stay two, and the exchange feeds one of them.
+    (
+        "two spans from 02 feed no other ring",
+        &[
+            ("01 01 02 0000 0001", "81 0000 81 0001 82 0000 0000 0001 01 0001 0000"),
+            ("09 0000 02 0000 0001", "89 82 0001 0000 0000"),
+            ("0A 0000 0A 0001 0F", "8A 01 8A 00 8F 01F4"),
+        ],
+        [0, 22, 8, 33, 2, 2],
     ),
     // Cabinet 2 is a ring by itself, also in the chain: 1 of 3. The last span makes one ring, whose
     // name is 0, so cabinet 2 takes its exchange into a ring of another name: 3 of 3.
@@ -155,7 +166,7 @@ const KNOWN: [Known; 18] = [
             ONE_RING,
             (ASKED_OF_4, "8A 01 8A 01 8A 01 8A 01 8F 03E8"),
         ],
-        [0, 76, 26, 143, 4, 6],
+        [0, 84, 26, 143, 4, 6],
     ),
     // The same with the exchange in ring 0, whose count stays when ring 2 brings none.
     (
@@ -169,7 +180,7 @@ const KNOWN: [Known; 18] = [
             ONE_RING,
             (ASKED_OF_4, "8A 01 8A 01 8A 01 8A 01 8F 03E8"),
         ],
-        [0, 76, 26, 143, 4, 6],
+        [0, 84, 26, 143, 4, 6],
     ),
     // Each ring holds one: 4 of 4 cabinets before and after. The one ring then holds two.
     (
@@ -183,7 +194,7 @@ const KNOWN: [Known; 18] = [
             ONE_RING,
             (ASKED_OF_4, "8A 01 8A 01 8A 01 8A 01 8F 03E8"),
         ],
-        [0, 79, 27, 144, 4, 6],
+        [0, 87, 27, 144, 4, 6],
     ),
     (
         "a cabinet marked twice",
@@ -196,12 +207,12 @@ const KNOWN: [Known; 18] = [
         &[
             ("01 01 09 0001", "81 0000 81 0001 89"),
             (
-                "02 0000 0001 02 0000 0001",
+                "0B 0000 0001 0001 0B 0000 0001 0002",
                 "82 0000 0000 0001 01 0001 0000 82 0001 0000 0001 02 0001 0000",
             ),
             ("09 0001", ""),
         ],
-        [12, 15, 5, 31, 2, 2],
+        [12, 19, 5, 31, 2, 2],
     ),
     ("09 of an unknown cabinet", &[("01", "81 0000"), ("09 0001", "")], [6, 1, 1, 3, 1, 0]),
     ("0A of an unknown cabinet", &[("01", "81 0000"), ("0A 0001", "")], [6, 1, 1, 3, 1, 0]),
@@ -235,8 +246,8 @@ fn growing_ring() -> Case {
     let mut answers = unhex("81 0000 89");
     for cabinet in 1..=40 {
         writer.cabinet();
-        writer.span(0, cabinet.into());
-        writer.span(0, cabinet.into());
+        writer.add(Span::in_duct(0, cabinet.into(), 1));
+        writer.add(Span::in_duct(0, cabinet.into(), 2));
         writer.command(0x0A, &[cabinet.into()]);
         writer.command(0x0F, &[]);
         // The first span joins the districts and is a mesh of its own. The second joins the rings,
@@ -247,10 +258,10 @@ fn growing_ring() -> Case {
         answers.extend([fields(0x82, &[span + 1, span, 1]), fields(0x02, &[cabinet, 0])].concat());
         answers.extend(unhex("8A 01 8F 03E8"));
     }
-    // 1 + 3 bytes, answered by 3 + 1; then 1 + 5 + 5 + 3 + 1 each time, answered by
+    // 1 + 3 bytes, answered by 3 + 1; then 1 + 7 + 7 + 3 + 1 each time, answered by
     // 3 + 12 + 12 + 2 + 3.
     let case = Case::with_room("a ring that grows", 256, 512, writer.bytes, 0);
-    case.leaves(answers, [0, 4 + 40 * 15, 2 + 40 * 5, 4 + 40 * 32, 41, 80])
+    case.leaves(answers, [0, 4 + 40 * 19, 2 + 40 * 5, 4 + 40 * 32, 41, 80])
 }
 
 /// As many cabinets as there can be, each a ring by itself, marked from the first on.

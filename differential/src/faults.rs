@@ -1,6 +1,7 @@
 //! Engines that are wrong on purpose. The comparison must find each of them.
 
 mod forecast;
+mod rewrite;
 
 use crate::engine::{work_needed, Call, Engine};
 use crate::kinds::KINDS;
@@ -13,6 +14,7 @@ use crate::second::Second;
 use std::ops::BitXor;
 
 pub use forecast::TOO_SMALL;
+pub use rewrite::{all as rewritings, OTHER_ANSWERS};
 
 /// What a right run left, with the number that it returned.
 struct Left<'a> {
@@ -114,6 +116,10 @@ impl Engine for Spoiled {
     fn forecast(&self, journal: &[u8], place: &mut u32, length: &mut u32) -> u32 {
         Second::new().forecast(journal, place, length)
     }
+
+    fn rewrite(&self, journal: &[u8], out: &mut [u8], place: &mut u32, length: &mut u32) -> u32 {
+        Second::new().rewrite(journal, out, place, length)
+    }
 }
 
 type Named = (String, Box<dyn Engine>);
@@ -154,6 +160,19 @@ pub fn forecasts() -> Vec<Named> {
     engines
 }
 
+/// Engines that the comparison with the second implementation must find by their rewritings.
+pub fn rewriters() -> Vec<Named> {
+    let mut engines: Vec<Named> = Vec::new();
+    for (name, misrewrite) in rewrite::all() {
+        engines.push((name.to_string(), Box::new(Second::with_misrewrite(misrewrite))));
+    }
+    for refused in [true, false] {
+        let unfilled = rewrite::Unfilled { refused };
+        engines.push((unfilled.name().to_string(), Box::new(unfilled)));
+    }
+    engines
+}
+
 /// Faults in the exchanges that a planner's own marks must find where the second implementation has
 /// them too, and what is said then.
 pub const IN_EXCHANGES: [(Misfeed, &str); 7] = [
@@ -168,12 +187,18 @@ pub const IN_EXCHANGES: [(Misfeed, &str); 7] = [
 
 /// Faults in the ducts that the histories worked out by hand must find where the second
 /// implementation has them too.
-pub const IN_DUCTS: [Misduct; 17] = [
+pub const IN_DUCTS: [Misduct; 23] = [
     Misduct::ByDuctAlone,
     Misduct::ByEndsAlone,
-    Misduct::WithoutDuct,
     Misduct::OneDirection,
     Misduct::LowByte,
+    Misduct::NoMateBy02,
+    Misduct::By02Alone,
+    Misduct::OneDirectionBy02,
+    Misduct::MatesOf0B,
+    Misduct::By02InDuctOne,
+    Misduct::By02InLastDuct,
+    Misduct::LowByteNought,
     Misduct::LostAlone,
     Misduct::ApartInMeshes,
     Misduct::RingOfMates,
@@ -190,8 +215,10 @@ pub const IN_DUCTS: [Misduct; 17] = [
 
 /// Those of them that a planner must find besides, by its name list and by its own mates, and what is
 /// said then.
-pub const IN_DUCTS_BY_PLANNER: [(Misduct, &str); 10] = [
+pub const IN_DUCTS_BY_PLANNER: [(Misduct, &str); 12] = [
     (Misduct::OneDirection, "has notices"),
+    (Misduct::NoMateBy02, "has notices"),
+    (Misduct::OneDirectionBy02, "has notices"),
     (Misduct::LostAlone, "has notices"),
     (Misduct::ApartInMeshes, "are in two meshes"),
     (Misduct::RingOfMates, "does not double"),

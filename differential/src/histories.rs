@@ -1,5 +1,5 @@
-//! The histories of document 01: the marked ones with the answers that it gives for them, and the
-//! unmarked ones.
+//! The histories of document 01 as document 02's seventh request has them: the marked ones with the
+//! answers that it gives for them, those with doubled spans also by 02, and the unmarked ones.
 
 use crate::cases::{one_of, unhex, Case, OneOf};
 use crate::engine::{LONGEST_JOURNAL, MOST_CABINETS, MOST_SPANS};
@@ -40,7 +40,14 @@ pub const TRIANGLE_ANSWERS: &str = "81 0000 81 0001 81 0002 \
     82 0001 0001 0001 01 0002 0000 \
     82 0002 0000 0003 02 0001 0000 02 0002 0000 03 0001 0000";
 
-const MARKED: [History; 14] = [
+/// The answers to document 01's spans 0-1, 0-1, 2-3, 2-3, 1-2, 0-3 of which no two are mates.
+const ALL_TO_NOUGHT: &str = "81 0000 81 0001 81 0002 81 0003 \
+    82 0000 0000 0001 01 0001 0000 82 0001 0000 0001 02 0001 0000 \
+    82 0002 0002 0001 01 0003 0002 82 0003 0002 0001 02 0003 0002 \
+    82 0004 0004 0002 01 0002 0000 01 0003 0000 \
+    82 0005 0000 0005 02 0002 0000 02 0003 0000 03 0002 0000 03 0003 0000 03 0004 0000";
+
+const MARKED: [History; 18] = [
     ("empty journal", "", "", [0, 0, 0, 0, 0, 0]),
     ("triangle", TRIANGLE, TRIANGLE_ANSWERS, [0, 18, 6, 55, 3, 3]),
     (
@@ -51,11 +58,20 @@ const MARKED: [History; 14] = [
         [0, 27, 9, 36, 2, 1],
     ),
     (
-        "two cabinets, two spans: ring 0, mesh 0, neither span sole",
-        "01 01 02 0000 0001 02 0000 0001 04 0000 04 0001 05 0000 0001 08 0000 08 0001",
+        "two cabinets, two spans: rings 0 and 1, mesh 0, both spans sole, 06 lists span 0",
+        "01 01 02 0000 0001 02 0000 0001 04 0000 04 0001 05 0000 0001 08 0000 08 0001 \
+         06 0000 0001 06 0001 0000",
+        "81 0000 81 0001 82 0000 0000 0001 01 0001 0000 \
+         82 0001 0000 0000 84 0000 84 0001 85 01 0000 88 01 88 01 \
+         86 0001 0000 86 0001 0000",
+        [0, 39, 11, 49, 2, 2],
+    ),
+    (
+        "two cabinets, two spans in ducts 1 and 2: ring 0, mesh 0, neither span sole",
+        "01 01 0B 0000 0001 0001 0B 0000 0001 0002 04 0000 04 0001 05 0000 0001 08 0000 08 0001",
         "81 0000 81 0001 82 0000 0000 0001 01 0001 0000 \
          82 0001 0000 0001 02 0001 0000 84 0000 84 0000 85 01 0000 88 00 88 00",
-        [0, 29, 9, 44, 2, 2],
+        [0, 33, 9, 44, 2, 2],
     ),
     (
         "chain: sole spans both ways, cut cabinet 1",
@@ -66,25 +82,53 @@ const MARKED: [History; 14] = [
         [0, 33, 9, 57, 3, 2],
     ),
     (
-        "spans 1-2, 1-2, 0-1, 0-1: one ring, two meshes",
-        "01 01 01 02 0001 0002 02 0001 0002 02 0000 0001 02 0000 0001 \
+        "spans 1-2, 1-2, 0-1, 0-1 in ducts 1 and 2: one ring, two meshes",
+        "01 01 01 0B 0001 0002 0001 0B 0001 0002 0002 0B 0000 0001 0001 0B 0000 0001 0002 \
          04 0000 04 0001 04 0002 05 0001 0002 05 0000 0001 05 0000 0002 06 0000 0002 07 0000 0002",
         "81 0000 81 0001 81 0002 \
          82 0000 0000 0001 01 0002 0001 82 0001 0000 0001 02 0002 0001 \
          82 0002 0002 0001 01 0000 0001 82 0003 0002 0001 02 0000 0001 \
          84 0001 84 0001 84 0001 85 01 0000 85 01 0002 85 00 0000 86 0000 87 0001 0001",
-        [0, 57, 15, 86, 3, 4],
+        [0, 65, 15, 86, 3, 4],
+    ),
+    // Cabinet 1 is cut, and each set of mates is sole.
+    (
+        "spans 1-2, 1-2, 0-1, 0-1 by 02: three rings, two meshes",
+        "01 01 01 02 0001 0002 02 0001 0002 02 0000 0001 02 0000 0001 \
+         04 0000 04 0001 04 0002 05 0001 0002 05 0000 0001 05 0000 0002 06 0000 0002 07 0000 0002",
+        "81 0000 81 0001 81 0002 \
+         82 0000 0000 0001 01 0002 0001 82 0001 0000 0000 \
+         82 0002 0002 0001 01 0000 0001 82 0003 0002 0000 \
+         84 0000 84 0001 84 0002 85 01 0000 85 01 0002 85 00 0000 86 0002 0002 0000 87 0001 0001",
+        [0, 57, 15, 80, 3, 4],
     ),
     (
-        "spans 0-1, 0-1, 2-3, 2-3, 1-2, 0-3: all to name 0",
+        "spans 0-1, 0-1, 2-3, 2-3 in ducts 1 and 2, 1-2, 0-3 by 02: all to name 0",
+        "01 01 01 01 0B 0000 0001 0001 0B 0000 0001 0002 0B 0002 0003 0001 0B 0002 0003 0002 \
+         02 0001 0002 02 0000 0003",
+        ALL_TO_NOUGHT,
+        [0, 42, 10, 109, 4, 6],
+    ),
+    (
+        "spans 0-1, 0-1, 2-3, 2-3 in ducts 1 and 2, 1-2, 0-3 in duct 1: all to name 0",
+        "01 01 01 01 0B 0000 0001 0001 0B 0000 0001 0002 0B 0002 0003 0001 0B 0002 0003 0002 \
+         0B 0001 0002 0001 0B 0000 0003 0001",
+        ALL_TO_NOUGHT,
+        [0, 46, 10, 109, 4, 6],
+    ),
+    // Each doubled pair is one set of mates, a mesh of size 2, so that name 0 is kept. The last span
+    // closes a loop of four: every ring takes the name 0, every other mesh too.
+    (
+        "spans 0-1, 0-1, 2-3, 2-3, 1-2, 0-3 by 02: four rings until the last",
         "01 01 01 01 02 0000 0001 02 0000 0001 02 0002 0003 02 0002 0003 02 0001 0002 \
          02 0000 0003",
         "81 0000 81 0001 81 0002 81 0003 \
-         82 0000 0000 0001 01 0001 0000 82 0001 0000 0001 02 0001 0000 \
-         82 0002 0002 0001 01 0003 0002 82 0003 0002 0001 02 0003 0002 \
+         82 0000 0000 0001 01 0001 0000 82 0001 0000 0000 \
+         82 0002 0002 0001 01 0003 0002 82 0003 0002 0000 \
          82 0004 0004 0002 01 0002 0000 01 0003 0000 \
-         82 0005 0000 0005 02 0002 0000 02 0003 0000 03 0002 0000 03 0003 0000 03 0004 0000",
-        [0, 34, 10, 109, 4, 6],
+         82 0005 0000 0006 02 0001 0000 02 0002 0000 02 0003 0000 \
+         03 0002 0000 03 0003 0000 03 0004 0000",
+        [0, 34, 10, 104, 4, 6],
     ),
     ("one cabinet, 06 0 0", "01 06 0000 0000", "81 0000 86 0000", [0, 6, 2, 6, 1, 0]),
     ("one cabinet, 07 0 0", "01 07 0000 0000", "81 0000 87 0000", [0, 6, 2, 6, 1, 0]),
@@ -178,8 +222,8 @@ pub fn largest() -> Vec<Case> {
         ("random", layouts::random_spans(&mut random, cabinets, spans)),
         ("sparse", layouts::random_spans(&mut random, cabinets, cabinets)),
         ("chain then loops", layouts::chain_then_loops(&mut random, cabinets, cabinets)),
-        ("pairwise doubling", layouts::doubling(&mut random, cabinets, 2)),
-        ("star", layouts::star(cabinets, 2)),
+        ("pairwise doubling", layouts::doubling(&mut random, cabinets, 2).parted()),
+        ("star", layouts::star(cabinets, 2).parted()),
         ("star in ducts", in_ducts),
     ];
     let mut cases = Vec::new();

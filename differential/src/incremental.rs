@@ -5,11 +5,13 @@
 mod forecast;
 mod forest;
 mod naming;
+mod rewrite;
 mod routes;
 
 use crate::engine::{Call, Engine, REPORT_NUMBERS};
 use forecast::forecast;
 use forest::{Forest, Survey};
+use rewrite::rewrite;
 use routes::Routes;
 
 pub struct Incremental;
@@ -327,5 +329,9 @@ impl Engine for Incremental {
 
     fn forecast(&self, journal: &[u8], place: &mut u32, length: &mut u32) -> u32 {
         forecast(journal).tell(place, length)
+    }
+
+    fn rewrite(&self, journal: &[u8], out: &mut [u8], place: &mut u32, length: &mut u32) -> u32 {
+        rewrite(journal, out).tell(place, length)
     }
 }

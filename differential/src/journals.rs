@@ -156,7 +156,7 @@ impl Writer {
     /// The other cabinets of a cabinet's ring.
     pub fn others_of_ring(&mut self, cabinet: usize) -> Vec<usize> {
         let Writer { cabinets, ref spans, .. } = *self;
-        let network = || Network { cabinets, spans: spans.clone(), fault: None };
+        let network = || Network::new(cabinets, spans.clone());
         let rings = self.rings.get_or_insert_with(|| groups(&network()).ring);
         let shares = |&other: &usize| other != cabinet && rings[other] == rings[cabinet];
         (0..cabinets).filter(shares).collect()
@@ -259,13 +259,20 @@ impl Writer {
     }
 }
 
-/// A layout of one of the styles, some with spans laid in ducts besides, and the style's name.
+/// A layout of one of the styles, some with spans laid in ducts besides, or with parallel spans laid
+/// apart, and the style's name.
 fn layout(random: &mut Random) -> (&'static str, Layout) {
     let (name, style) = if random.chance(1) { MEDIUM } else { *random.pick(&STYLES) };
     let mut layout = style(random);
-    let percent = *random.pick(&[0, 0, 0, 15, 50, 100]);
     let ducts = *random.pick(&DUCTS);
-    layout.lay(random, percent, ducts);
+    match random.below(6) {
+        0..=1 => {}
+        2 => layout.part(),
+        _ => {
+            let percent = *random.pick(&[15, 50, 100]);
+            layout.lay(random, percent, ducts);
+        }
+    }
     (name, layout)
 }
 
@@ -397,21 +404,31 @@ fn lists_of_spans(cabinets: usize, spans: usize, each: &mut dyn FnMut(usize, Vec
     });
 }
 
-/// Every list of so many spans between so many cabinets, each followed by every question; then one
-/// cabinet after the other is marked, each mark followed by every question about exchanges.
+/// Every list of so many spans between so many cabinets, by 02 and, where some are parallel, once more
+/// with these laid apart.
 pub fn every_list(cabinets: usize, spans: usize, each: &mut dyn FnMut(Case)) {
     lists_of_spans(cabinets, spans, &mut |number, spans| {
-        let count = spans.len();
-        let mut writer = Writer::new();
-        writer.enter(&Layout { cabinets, spans });
-        writer.sweep();
-        for i in 0..cabinets {
-            writer.mark((number + i) % cabinets);
-            writer.exchange_questions();
+        let layout = Layout { cabinets, spans };
+        if has_mates(&layout.spans) {
+            each(with_marks(number, &layout.clone().parted()));
         }
-        let label = format!("every list of {count} spans, number {number}");
-        each(Case::new(&label, cabinets as u32, count.max(1) as u32, writer.bytes).returns(0));
+        each(with_marks(number, &layout));
     });
+}
+
+/// A layout, followed by every question; then one cabinet after the other is marked, each mark followed
+/// by every question about exchanges.
+fn with_marks(number: usize, layout: &Layout) -> Case {
+    let (cabinets, count) = (layout.cabinets, layout.spans.len());
+    let mut writer = Writer::new();
+    writer.enter(layout);
+    writer.sweep();
+    for i in 0..cabinets {
+        writer.mark((number + i) % cabinets);
+        writer.exchange_questions();
+    }
+    let label = format!("every list of {count} spans, number {number}");
+    Case::new(&label, cabinets as u32, count.max(1) as u32, writer.bytes).returns(0)
 }
 
 /// Every list of so many spans between so many cabinets, each by 02 or in one of two ducts, and each
@@ -433,11 +450,13 @@ pub fn every_list_by_turns(cabinets: usize, spans: usize, each: &mut dyn FnMut(C
     });
 }
 
-/// The same with one duct, in which some span has a mate.
+/// The same with one duct, in which some span has a mate. Of two lists that differ only in that 02 and the
+/// duct are exchanged one comes: that whose first span is by 02, or the other, by turns.
 pub fn every_list_with_mates(cabinets: usize, spans: usize, each: &mut dyn FnMut(Case)) {
     let mut number = 0;
     layouts::every_list_by_turns(cabinets, 1, spans, &mut |spans| {
-        if has_mates(&spans) {
+        let turn = spans.iter().map(|span| span.a * span.b + span.a + span.b).sum::<usize>() % 2;
+        if spans[0].duct == turn && has_mates(&spans) {
             each(with_record(number, Layout { cabinets, spans }));
             number += 1;
         }
@@ -468,10 +487,12 @@ fn with_record(number: usize, layout: Layout) -> Case {
     Case::new(&label, cabinets as u32, count.max(1) as u32, writer.bytes).returns(0)
 }
 
-/// Every list of so many spans between so many cabinets, with every one of these marked before each
-/// span and after the last; every span is followed by every question about exchanges.
+/// Every list of so many spans between so many cabinets, parallel ones laid apart, with every one of these
+/// cabinets marked before each span and after the last; every span is followed by every question about
+/// exchanges.
 pub fn every_mark(cabinets: usize, spans: usize, each: &mut dyn FnMut(Case)) {
     lists_of_spans(cabinets, spans, &mut |number, spans| {
+        let spans = Layout { cabinets, spans }.parted().spans;
         for (marked, place) in (0..cabinets).flat_map(|a| (0..=spans.len()).map(move |i| (a, i))) {
             let mut writer = Writer::new();
             (0..cabinets).for_each(|_| writer.cabinet());
@@ -512,7 +533,7 @@ fn with_routes(number: usize, layout: &Layout, a: usize, b: usize) -> Case {
     let mut writer = Writer::new();
     writer.enter(layout);
     writer.command(0x0C, &[a, b]);
-    let network = Network { cabinets, spans: spans.clone(), fault: None };
+    let network = Network::new(cabinets, spans.clone());
     let answered = share_ring(Plant::of(&network), a, b);
     let label = format!("0C {a} {b} behind list {number} of {} spans", spans.len());
     let case = Case::new(&label, cabinets as u32, spans.len().max(1) as u32, writer.bytes);
@@ -525,8 +546,12 @@ pub fn small(seed: u64) -> Case {
     let cabinets = random.between(2, 5);
     let count = random.between(0, 7);
     let mut layout = random_spans(&mut random, cabinets, count);
-    let (percent, ducts) = (*random.pick(&[0, 50, 100]), *random.pick(&DUCTS));
-    layout.lay(&mut random, percent, ducts);
+    let ducts = *random.pick(&DUCTS);
+    match random.below(4) {
+        0 => {}
+        1 => layout.part(),
+        many => layout.lay(&mut random, 50 * (many - 1), ducts),
+    }
     let days = *random.pick(&DAYS);
     let mut writer = Writer::new();
     for &span in &layout.spans {

@@ -63,13 +63,31 @@ impl Layout {
         }
     }
 
-    /// Lays spans that lie in no duct into one of these, each in `percent` of a hundred cases.
+    /// Lays spans from 02 into one of these ducts, each in `percent` of a hundred cases.
     pub fn lay(&mut self, random: &mut Random, percent: usize, ducts: &[usize]) {
         for span in self.spans.iter_mut().filter(|span| span.duct == 0) {
             if random.chance(percent) {
                 span.duct = *random.pick(ducts);
             }
         }
+    }
+
+    /// Lays each span from 02 that lies beside an earlier one into a duct of its own number, so that the
+    /// two are no mates.
+    pub fn part(&mut self) {
+        for number in 1..self.spans.len() {
+            let span = self.spans[number];
+            let lies_beside = |other: &Span| other.duct == 0 && other.lies_beside(span);
+            if span.duct == 0 && self.spans[..number].iter().any(lies_beside) {
+                self.spans[number].duct = number;
+            }
+        }
+    }
+
+    /// The same layout with parallel spans laid apart.
+    pub fn parted(mut self) -> Layout {
+        self.part();
+        self
     }
 }
 
@@ -290,8 +308,8 @@ fn equal_loops(random: &mut Random) -> Layout {
     layout.mixed(random, 50, 1, 4)
 }
 
-/// Few pairs of cabinets with many spans each: most of them mates, the others in another duct or in
-/// none.
+/// Few pairs of cabinets with many spans each: most of them mates, the others in another duct or from
+/// 02.
 fn sets_of_mates(random: &mut Random) -> Layout {
     let cabinets = random.between(2, 7);
     let mut links = Layout::of(cabinets);

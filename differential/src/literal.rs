@@ -1,9 +1,10 @@
 //! The definitions of document 01, with the exchanges, the ducts, the routes and the survey lengths of
-//! document 02's requests 2, 3, 5 and 6, word for word, for small networks: every loss is tried, every
+//! document 02's requests 2, 3, 5, 6 and 7, word for word, for small networks: every loss is tried, every
 //! simple cycle and every route is searched for, every two records are compared. Slow on purpose.
 
 use crate::pairs::Pair;
 use crate::second::groups::Network;
+use crate::second::mates::Rule;
 use crate::second::surveys::Record;
 use crate::spans::Span;
 
@@ -15,12 +16,30 @@ pub fn never(_: Span, _: Span) -> bool {
     false
 }
 
-/// Spans of one duct between the same two cabinets, in either direction, are mates. A span from 02
-/// has no mate.
+/// All 02 spans between the same two cabinets are mates of each other, and of no 0B span; 0B spans are
+/// as by the rule below.
 pub fn of_one_duct(one: Span, other: Span) -> bool {
+    let from_02 = one.duct == 0 && other.duct == 0;
+    (from_02 && have_same_ends(one, other)) || of_one_told_duct(one, other)
+}
+
+/// Spans of one duct between the same two cabinets, in either direction, are mates. A span from 02
+/// has no mate: the rule before document 02's seventh request.
+pub fn of_one_told_duct(one: Span, other: Span) -> bool {
     let from_0b = one.duct != 0 && other.duct != 0;
-    let same = (one.a, one.b) == (other.a, other.b) || (one.a, one.b) == (other.b, other.a);
-    from_0b && one.duct == other.duct && same
+    from_0b && one.duct == other.duct && have_same_ends(one, other)
+}
+
+fn have_same_ends(one: Span, other: Span) -> bool {
+    (one.a, one.b) == (other.a, other.b) || (one.a, one.b) == (other.b, other.a)
+}
+
+/// The definition word for word of a rule.
+pub fn mates(rule: Rule) -> Mates {
+    match rule {
+        Rule::OneDuct => of_one_duct,
+        Rule::NoMate => of_one_told_duct,
+    }
 }
 
 /// A network, and which of its spans are mates.
@@ -31,9 +50,9 @@ pub struct Plant<'a> {
 }
 
 impl<'a> Plant<'a> {
-    /// The network as document 02 sees it.
+    /// The network as document 02 sees it, by the network's rule of mates.
     pub fn of(network: &'a Network) -> Plant<'a> {
-        Plant { network, mates: of_one_duct }
+        Plant { network, mates: mates(network.rule) }
     }
 
     /// The network as document 01 sees it: the ducts mean nothing.

@@ -6,20 +6,24 @@
 //!     differential --seeded-bug                 faults put in on purpose must be found
 
 use differential::cases::{Case, Room};
-use differential::compare::{compare, Tally};
+use differential::compare::{compare, hold, Tally};
 use differential::engine::Engine;
 use differential::incremental::Incremental;
+use differential::second::mates::Rule;
 use differential::second::routes::OTHER_CHOICES;
 use differential::second::Second;
 use differential::{
-    ducts, exchanges, faults, forecasts, histories, journals, program, records, refusals, routes,
-    surveys,
+    ducts, exchanges, faults, forecasts, histories, journals, program, records, refusals,
+    rewriting, routes, surveys,
 };
 use std::process::ExitCode;
 use std::time::{Duration, Instant};
 
 const RANDOM_JOURNALS: u64 = 24_000;
 const SMALL_JOURNALS: u64 = 200;
+
+/// The numbers that a rewriting can return.
+const REWRITING: [usize; 6] = [0, 3, 4, 5, 15, 16];
 
 /// What the command line asks for.
 struct Wish {
@@ -68,6 +72,11 @@ fn engine(name: Option<&str>) -> Result<Box<dyn Engine>, String> {
 struct Test {
     engine: Box<dyn Engine>,
     second: Second,
+    /// The second implementation by the old rule of mates, where journals are held against what they are
+    /// rewritten to.
+    old: Option<Second>,
+    /// The journal that was held last, and its capacities: where it comes again it is not held again.
+    last: (u32, u32, Vec<u8>),
     tally: Tally,
     /// The first difference.
     fault: Option<String>,
@@ -75,7 +84,8 @@ struct Test {
 
 impl Test {
     fn new(engine: Box<dyn Engine>) -> Test {
-        Test { engine, second: Second::new(), tally: Tally::default(), fault: None }
+        let (second, old) = (Second::new(), Some(Second::by(Rule::NoMate)));
+        Test { engine, second, old, last: (0, 0, Vec::new()), tally: Tally::default(), fault: None }
     }
 
     /// Compares a case. Gives the bytes that all its answers take, as far as they were counted.
@@ -84,12 +94,25 @@ impl Test {
             return 0;
         }
         let compared = compare(self.engine.as_ref(), &self.second, case, seed, &mut self.tally);
-        compared.unwrap_or_else(|fault| {
+        let held = compared.and_then(|needed| self.hold(case, seed).map(|()| needed));
+        held.unwrap_or_else(|fault| {
             let name = self.engine.name();
             let case = case.describe();
             self.fault = Some(format!("{name} differs: {fault}\n{case}\nseed {seed}"));
             0
         })
+    }
+
+    /// Holds a case's journal against what it is rewritten to.
+    fn hold(&mut self, case: &Case, seed: u64) -> Result<(), String> {
+        let (c, s, journal) = &self.last;
+        match &self.old {
+            Some(old) if (*c, *s, journal) != (case.c, case.s, &case.journal) => {
+                self.last = (case.c, case.s, case.journal.clone());
+                hold(self.engine.as_ref(), old, case, seed, &mut self.tally)
+            }
+            _ => Ok(()),
+        }
     }
 
     /// A case that does not come from a seed: each has other contents in its buffers.
@@ -122,6 +145,7 @@ impl Test {
         self.cases(&refusals::all(), seed);
         self.cases(&refusals::empty_buffers(), seed);
         self.cases(&forecasts::known(), seed);
+        self.cases(&rewriting::known(), seed);
         for (cabinets, spans) in [(2, 0), (2, 3), (3, 3), (3, 4), (4, 3), (4, 4)] {
             journals::every_list(cabinets, spans, &mut |case| self.given(&case, seed));
         }
@@ -139,6 +163,7 @@ impl Test {
         self.cases(&ducts::chain_of_mates(), seed);
         self.cases(&routes::long_ladder(), seed);
         self.given(&surveys::all_spans(), seed);
+        self.given(&rewriting::greatest(), seed);
         self.every_number();
     }
 
@@ -196,16 +221,20 @@ impl Test {
         }
     }
 
-    /// Every number that the table knows must have been returned by some run, and every one that
-    /// the forecast knows by some forecast, with runs in the room forecast unless it is 3. 0E must have
-    /// been answered without a length and with one.
+    /// Every number that the table knows must have been returned by some run, every one that the
+    /// forecast knows by some forecast, with runs in the room forecast unless it is 3, and every one that
+    /// a rewriting knows by some rewriting. 0E must have been answered without a length and with one, and
+    /// a journal that is accepted and one that is refused held against what they are rewritten to.
     fn every_number(&mut self) {
-        let Tally { returned, forecast, exact, lengths, .. } = &self.tally;
+        let Tally { returned, forecast, exact, lengths, rewritten, held, .. } = &self.tally;
         let runs = (0..=14).map(|number| ("run", number, returned[number]));
         let forecasts = [0, 3, 4, 5].map(|number| ("forecast", number, forecast[number]));
         let exact = [0, 4, 5].map(|number| ("run in the room forecast", number, exact[number]));
         let lengths = [0, 1].map(|flag| ("answer 8E", flag, lengths[flag]));
-        let mut all = runs.chain(forecasts).chain(exact).chain(lengths);
+        let rewritten = REWRITING.map(|number| ("rewriting", number, rewritten[number]));
+        let held = [0, 1].map(|refused| ("journal held against another", refused, held[refused]));
+        let in_runs = runs.chain(exact).chain(lengths).chain(held);
+        let mut all = in_runs.chain(forecasts).chain(rewritten);
         if let Some((what, number, _)) = all.find(|&(_, _, count)| count == 0) {
             self.fault.get_or_insert(format!("no {what} for number {number}"));
         }
@@ -215,14 +244,16 @@ impl Test {
         if let Some(fault) = &self.fault {
             return Err(fault.clone());
         }
-        let Tally { journals, returned, commands, notices, pairs, lengths, forecast, exact } =
-            self.tally;
+        let Tally { journals, returned, commands, notices, pairs, lengths, .. } = self.tally;
+        let Tally { forecast, exact, rewritten, held, held_pairs, .. } = self.tally;
         Ok(format!(
             "{} equals second, every byte: {journals} journals ({} accepted to the end, refused by \
              1 to 14: {:?}), {commands} commands, {notices} notices; {pairs} pairs of routes, all \
              of which serve; {} lengths of spans told, and {} times that there is none; {} \
              forecasts ({} accepted, refused by 3 to 5: {:?}), {} runs with exactly the room \
-             forecast, {} of them of damaged journals",
+             forecast, {} of them of damaged journals; {} rewritings ({} accepted, refused by 3, 4, \
+             5, 15 and 16: {:?}), {} journals that answer as they did once they are rewritten, {} \
+             of them refused, with {held_pairs} pairs of routes",
             self.engine.name(),
             returned[0],
             &returned[1..],
@@ -232,7 +263,12 @@ impl Test {
             forecast[0],
             &forecast[3..],
             exact.iter().sum::<usize>(),
-            exact[4] + exact[5]
+            exact[4] + exact[5],
+            rewritten.iter().sum::<usize>(),
+            rewritten[0],
+            REWRITING[1..].iter().map(|&number| rewritten[number]).collect::<Vec<usize>>(),
+            held[0] + held[1],
+            held[1]
         ))
     }
 }
@@ -325,11 +361,36 @@ fn seeded_bugs(seed: u64) -> Result<String, String> {
         found_by("bytes of room that are forecast", &format!("{name} in both"), test, seed)?;
         found += 1;
     }
+    found += rewriting_bugs(seed)?;
     let accepted = other_choices(seed)?;
     Ok(format!(
         "{found} faults put in on purpose, ties broken the other way among them, are found; \
          {accepted} pairs of routes by other choices are accepted"
     ))
+}
+
+/// Every fault in the rewriting must be found by the comparison, and where the second implementation has it
+/// too by the journals that are known beforehand; those that change answers also by holding a journal
+/// against what it is rewritten to. Gives how often one was found.
+fn rewriting_bugs(seed: u64) -> Result<usize, String> {
+    let known = rewriting::known();
+    let mut found = 0;
+    for (name, engine) in faults::rewriters() {
+        found_in(&known, ", second has", &name, Test::new(engine), seed)?;
+        found += 1;
+    }
+    for (name, misrewrite) in faults::rewritings() {
+        let test = in_both(|| Second::with_misrewrite(misrewrite));
+        found_in(&known, KNOWN, &format!("{name} in both"), test, seed)?;
+        found += 1;
+    }
+    for (name, misrewrite) in faults::OTHER_ANSWERS {
+        let mut test = in_both(|| Second::with_misrewrite(misrewrite));
+        test.old = Some(Second::by(Rule::NoMate));
+        found_by("against the old reading", &format!("{name} in both"), test, seed)?;
+        found += 1;
+    }
+    Ok(found)
 }
 
 /// Routes by every other choice must be accepted. Gives the number of pairs.
@@ -350,6 +411,7 @@ fn other_choices(seed: u64) -> Result<usize, String> {
 fn in_both(second: impl Fn() -> Second) -> Test {
     let mut test = Test::new(Box::new(second()));
     test.second = second();
+    test.old = None;
     test
 }
 

@@ -5,7 +5,7 @@
 //! that is read from an engine's answers must serve; then the second implementation takes it as its
 //! own.
 
-use crate::literal::of_one_duct;
+use crate::literal::{mates, Mates};
 use crate::names::{decode, Answer};
 use crate::second::routes::{self, Asked};
 use crate::spans::Span;
@@ -14,10 +14,11 @@ use std::collections::{BTreeMap, BTreeSet};
 /// Two routes, each as its spans in travelling order.
 pub type Pair = [Vec<usize>; 2];
 
-/// Is this pair what 0C may answer, from a to b over these spans? The error says why it is not.
-pub fn serve(spans: &[Span], a: usize, b: usize, pair: &Pair) -> Result<(), String> {
+/// Is this pair what 0C may answer, from a to b over these spans, by this rule of mates? The error says
+/// why it is not.
+pub fn serve(mates: Mates, spans: &[Span], a: usize, b: usize, pair: &Pair) -> Result<(), String> {
     pair.iter().try_for_each(|route| is_route(spans, a, b, route))?;
-    are_apart(spans, pair)
+    are_apart(mates, spans, pair)
 }
 
 /// In travelling order, and without a repeated cabinet.
@@ -41,13 +42,13 @@ fn is_route(spans: &[Span], a: usize, b: usize, route: &[usize]) -> Result<(), S
 }
 
 /// No span of one route is a span of the other, nor a mate of one.
-fn are_apart(spans: &[Span], [one, other]: &Pair) -> Result<(), String> {
+fn are_apart(mates: Mates, spans: &[Span], [one, other]: &Pair) -> Result<(), String> {
     for &s in one {
         for &t in other {
             if s == t {
                 return Err(format!("span {s} is in both routes"));
             }
-            if of_one_duct(spans[s], spans[t]) {
+            if mates(spans[s], spans[t]) {
                 return Err(format!("the mates {s} and {t} are in the two routes"));
             }
         }
@@ -88,7 +89,7 @@ impl<'a> Pairs<'a> {
         let Some((Answer::Routes(pair), _)) = decode(bytes) else {
             return Err("there are no two lists".to_string());
         };
-        serve(&network.spans, a, b, &pair)?;
+        serve(mates(network.rule), &network.spans, a, b, &pair)?;
         let key = [network.cabinets, network.spans.len(), a, b];
         let before = self.given.entry(key).or_insert_with(|| pair.clone());
         if *before != pair {

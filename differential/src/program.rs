@@ -127,7 +127,7 @@ fn inputs(seed: u64) -> Vec<Vec<u8>> {
     inputs
 }
 
-/// Two cabinets and so many spans between them, by 02 or, with a duct that is not 0, all mates.
+/// Two cabinets and so many spans between them, by 02 or in a duct that is not 0, all mates.
 fn spans(count: usize, duct: usize) -> Vec<u8> {
     let mut writer = Writer::new();
     writer.cabinet();

@@ -20,7 +20,7 @@ const DAYS_OF_TWO: [usize; 3] = [0, 1, 65_535];
 const MEASURED: [(usize, usize); 6] =
     [(0, 0), (65_535, 65_535), (1, 2), (2, 1), (65_535, 0), (0, 65_535)];
 
-/// What stands for no duct and for the two ducts of a list, by turns. Some differ in their high byte or in
+/// What stands for 02 and for the two ducts of a list, by turns. Some differ in their high byte or in
 /// their highest bit alone.
 const DUCTS: [[usize; 3]; 3] = [[0, 1, 2], [0, 0x0101, 0x0001], [0, 0xFFFF, 0x7FFF]];
 

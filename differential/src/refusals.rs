@@ -66,12 +66,12 @@ const SMALL: Beginning = Beginning {
 /// The same with a cabinet and a span to spare.
 const SMALL_TO_SPARE: Beginning = Beginning { c: 4, s: 2, ..SMALL };
 
-/// Three cabinets, of which 0 and 1 make a ring of name 0. Cabinet 1 was marked before that,
-/// cabinet 2 after it. C and S are full.
+/// Three cabinets, of which 0 and 1 make a ring of name 0, with spans in two ducts. Cabinet 1 was
+/// marked before that, cabinet 2 after it. C and S are full.
 const MARKED: Beginning = Beginning {
     c: 3,
     s: 2,
-    journal: "01 01 01 02 0000 0001 09 0001 02 0000 0001 09 0002",
+    journal: "01 01 01 0B 0000 0001 0001 09 0001 0B 0000 0001 0002 09 0002",
     answers: "81 0000 81 0001 81 0002 82 0000 0000 0001 01 0001 0000 89 \
               82 0001 0000 0001 02 0001 0000 89",
     commands: 7,
@@ -95,6 +95,12 @@ const MATES: Beginning = Beginning {
 
 /// The same with a cabinet and a span to spare.
 const MATES_TO_SPARE: Beginning = Beginning { c: 4, s: 3, ..MATES };
+
+/// Three cabinets, of which 0 and 1 are joined by two mates from 02. C and S are full.
+const MATES_BY_02: Beginning = Beginning { journal: "01 01 01 02 0000 0001 02 0001 0000", ..MATES };
+
+/// The same with a cabinet and a span to spare.
+const MATES_BY_02_TO_SPARE: Beginning = Beginning { c: 4, s: 3, ..MATES_BY_02 };
 
 /// Two cabinets and two mates in duct 5. Span 0 has a record of 250 metres on day 3 and one of 7 metres on
 /// day 2; span 1 has none. C and S are full.
@@ -313,6 +319,12 @@ fn equal_cabinets() -> Vec<Case> {
             cases.push(SMALL_TO_SPARE.stopped_at("equal", byte, &[cabinet, cabinet], 8));
             cases.push(MARKED.stopped_at("equal in a ring", byte, &[cabinet, cabinet], 8));
             cases.push(MATES.stopped_at("equal beside mates", byte, &[cabinet, cabinet], 8));
+            cases.push(MATES_BY_02.stopped_at(
+                "equal, mates from 02",
+                byte,
+                &[cabinet, cabinet],
+                8,
+            ));
         }
         cases.push(ONE_CABINET.stopped_at("one cabinet", byte, &[0, 0], 8));
     }
@@ -350,7 +362,16 @@ fn already_exchange() -> Vec<Case> {
 /// beside none, in both directions. It is for duct 0 only: 256 has 0 in its low byte.
 fn no_duct() -> Vec<Case> {
     let mut cases = vec![TWO_CABINETS.stopped_at("13, no span yet", 0x0B, &[0, 1, 0], 13)];
-    for beginning in [SMALL, SMALL_TO_SPARE, MARKED, MARKED_TO_SPARE, MATES, MATES_TO_SPARE] {
+    for beginning in [
+        SMALL,
+        SMALL_TO_SPARE,
+        MARKED,
+        MARKED_TO_SPARE,
+        MATES,
+        MATES_TO_SPARE,
+        MATES_BY_02,
+        MATES_BY_02_TO_SPARE,
+    ] {
         for [a, b] in [[0, 1], [1, 0], [0, 2], [2, 1]] {
             cases.push(beginning.stopped_at("13, before 11", 0x0B, &[a, b, 0], 13));
             let roomy = beginning.stopped_at("13 with room", 0x0B, &[a, b, 0], 13);
@@ -375,6 +396,8 @@ fn no_capacity() -> Vec<Case> {
         SMALL.stopped_at("0B with S spans, in one district", 0x0B, &[1, 0, 5], 9),
         MATES.stopped_at("a mate with S spans", 0x0B, &[0, 1, 5], 9),
         MATES.stopped_at("02 beside mates with S spans", 0x02, &[0, 1], 9),
+        MATES_BY_02.stopped_at("a mate by 02 with S spans", 0x02, &[0, 1], 9),
+        MATES_BY_02.stopped_at("0B beside mates from 02 with S spans", 0x0B, &[0, 1, 1], 9),
     ]
 }
 
@@ -403,6 +426,9 @@ fn no_shared_ring() -> Vec<Case> {
         (MATES, [0, 1], "14, mates protect nothing"),
         (MATES, [0, 2], "14, across districts"),
         (MATES_TO_SPARE, [0, 1], "14, mates protect nothing"),
+        (MATES_BY_02, [0, 1], "14, mates from 02 protect nothing"),
+        (MATES_BY_02, [1, 2], "14, across districts"),
+        (MATES_BY_02_TO_SPARE, [0, 1], "14, mates from 02 protect nothing"),
         (CHAIN, [0, 1], "14, a chain"),
         (CHAIN, [0, 2], "14, from end to end of a chain"),
     ];
@@ -420,10 +446,11 @@ fn no_shared_ring() -> Vec<Case> {
 /// A beginning, a command behind it, and its answer, or one of several.
 type Answered = (Beginning, u8, &'static [usize], &'static str);
 
-const ANSWERED: [Answered; 44] = [
+const ANSWERED: [Answered; 49] = [
     (SMALL_TO_SPARE, 0x01, &[], "81 0003"),
     (SMALL_TO_SPARE, 0x02, &[0, 2], "82 0001 0001 0001 01 0002 0000"),
-    (SMALL_TO_SPARE, 0x02, &[0, 1], "82 0001 0000 0001 02 0001 0000"),
+    (SMALL_TO_SPARE, 0x02, &[0, 1], "82 0001 0000 0000"),
+    (SMALL_TO_SPARE, 0x02, &[1, 0], "82 0001 0000 0000"),
     (SMALL_TO_SPARE, 0x03, &[0], "83 0000"),
     (SMALL_TO_SPARE, 0x04, &[1], "84 0001"),
     (SMALL_TO_SPARE, 0x05, &[0, 1], "85 01 0000"),
@@ -448,6 +475,10 @@ const ANSWERED: [Answered; 44] = [
     (MATES_TO_SPARE, 0x02, &[0, 1], "82 0002 0000 0001 02 0001 0000"),
     (MATES_TO_SPARE, 0x06, &[1, 0], "86 0001 0000"),
     (MATES_TO_SPARE, 0x08, &[1], "88 01"),
+    (MATES_BY_02_TO_SPARE, 0x02, &[0, 1], "82 0002 0000 0000"),
+    (MATES_BY_02_TO_SPARE, 0x0B, &[0, 1, 1], "82 0002 0000 0001 02 0001 0000"),
+    (MATES_BY_02_TO_SPARE, 0x06, &[1, 0], "86 0001 0000"),
+    (MATES_BY_02_TO_SPARE, 0x08, &[1], "88 01"),
     (MARKED, 0x0C, &[0, 1], "8C 0001 0000 0001 0001 | 8C 0001 0001 0001 0000"),
     (MARKED, 0x0C, &[1, 0], "8C 0001 0000 0001 0001 | 8C 0001 0001 0001 0000"),
     (MARKED_TO_SPARE, 0x0C, &[0, 1], "8C 0001 0000 0001 0001 | 8C 0001 0001 0001 0000"),

@@ -25,6 +25,15 @@ extern "C" {
         place: *mut u32,
         length: *mut u32,
     ) -> u32;
+
+    fn register_rewrite(
+        journal: *const u8,
+        journal_len: usize,
+        out: *mut u8,
+        out_len: usize,
+        place: *mut u32,
+        length: *mut u32,
+    ) -> u32;
 }
 
 /// For an empty buffer it is given the buffer's own pointer, or null.
@@ -74,5 +83,12 @@ impl Engine for Register {
         // The journal's pointer is good for its length, or of any kind if that is 0. The two
         // numbers are aligned, and overlap neither each other nor the journal.
         unsafe { register_forecast(pointer, journal.len(), place, length) }
+    }
+
+    fn rewrite(&self, journal: &[u8], out: &mut [u8], place: &mut u32, length: &mut u32) -> u32 {
+        let read = self.pointer(journal.as_ptr().cast_mut(), journal.len());
+        let written = self.pointer(out.as_mut_ptr(), out.len());
+        // As above; the output buffer is a slice of its own.
+        unsafe { register_rewrite(read, journal.len(), written, out.len(), place, length) }
     }
 }

@@ -1,4 +1,4 @@
-//! A second implementation of document 01 and of document 02's requests 1, 2, 3, 5 and 6, to compare
+//! A second implementation of document 01 and of document 02's requests 1, 2, 3, 5, 6 and 7, to compare
 //! others with. After each command everything is computed anew from the list of spans; nothing is
 //! kept but the naming book, the list of exchanges and the list of survey records. Which pair of routes
 //! 0C is answered with is not settled: a run takes the pairs from whoever asks for it, or makes its own
@@ -10,22 +10,25 @@ pub mod exchanges;
 pub mod forecast;
 pub mod groups;
 pub mod mates;
+pub mod rewrite;
 pub mod routes;
 pub mod surveys;
 
-use crate::engine::{Call, Engine, Forecast, REPORT_NUMBERS};
+use crate::engine::{Call, Engine, Forecast, Rewriting, REPORT_NUMBERS};
 use crate::pairs::Pair;
 use book::{Book, Fault};
 use command::{answer, read, refusal, Capacities, Command};
 use exchanges::{Exchanges, Misfeed};
 use forecast::forecast;
-use mates::Misduct;
+use mates::{Misduct, Rule};
+use rewrite::rewrite;
 use routes::{Asked, Choice, Misroute};
 use std::rc::Rc;
 use surveys::{Mismeasure, Surveys};
 
 #[derive(Default)]
 pub struct Second {
+    rule: Rule,
     fault: Option<Fault>,
     misfeed: Option<Misfeed>,
     misduct: Option<Misduct>,
@@ -33,10 +36,14 @@ pub struct Second {
     misroute: Option<Misroute>,
     mismeasure: Option<Mismeasure>,
     misforecast: Option<Misforecast>,
+    misrewrite: Option<Misrewrite>,
 }
 
 /// A fault put in on purpose: what is forecast for a journal in place of its right forecast.
 pub type Misforecast = fn(&[u8], Forecast) -> Forecast;
+
+/// A fault put in on purpose: a rewriting of a journal in place of the right one.
+pub type Misrewrite = fn(&[u8], &mut [u8]) -> Rewriting;
 
 /// Gives the pair that a 0C is answered with.
 pub type Choose<'a> = dyn FnMut(&Asked) -> Pair + 'a;
@@ -107,6 +114,11 @@ impl Second {
         Second::default()
     }
 
+    /// The same by another rule of mates.
+    pub fn by(rule: Rule) -> Second {
+        Second { rule, ..Second::default() }
+    }
+
     /// The same with a fault.
     pub fn with_fault(fault: Fault) -> Second {
         Second { fault: Some(fault), ..Second::default() }
@@ -142,6 +154,11 @@ impl Second {
         Second { misforecast: Some(misforecast), ..Second::default() }
     }
 
+    /// The same with a fault in the rewriting.
+    pub fn with_misrewrite(misrewrite: Misrewrite) -> Second {
+        Second { misrewrite: Some(misrewrite), ..Second::default() }
+    }
+
     /// Its own choice of a pair.
     pub fn own_pair(&self, asked: &Asked) -> Pair {
         let network = asked.surveys.network_of_routes(asked.network);
@@ -162,7 +179,7 @@ impl Second {
         watch: &mut dyn FnMut(Accepted),
     ) -> Run {
         let mut state = State {
-            book: Rc::new(Book::empty(self.fault, self.misduct)),
+            book: Rc::new(Book::empty(self.rule, self.fault, self.misduct)),
             exchanges: Exchanges::none(self.misfeed),
             surveys: Surveys::none(self.mismeasure),
         };
@@ -261,7 +278,8 @@ struct Taken {
     state: Option<State>,
 }
 
-fn report_of(run: &Run) -> [u32; REPORT_NUMBERS] {
+/// The report of a run that was not refused at the start.
+pub fn report_of(run: &Run) -> [u32; REPORT_NUMBERS] {
     let counts = [run.place, run.commands, run.answers.len(), run.cabinets, run.spans];
     let mut report = [run.refusal; REPORT_NUMBERS];
     for (entry, count) in report[1..].iter_mut().zip(counts) {
@@ -283,5 +301,9 @@ impl Engine for Second {
         let right = forecast(journal);
         let told = self.misforecast.map_or(right, |spoil| spoil(journal, right));
         told.tell(place, length)
+    }
+
+    fn rewrite(&self, journal: &[u8], out: &mut [u8], place: &mut u32, length: &mut u32) -> u32 {
+        self.misrewrite.unwrap_or(rewrite)(journal, out).tell(place, length)
     }
 }

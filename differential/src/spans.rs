@@ -1,6 +1,6 @@
 //! A span as it is entered: the two cabinets that it joins, and its duct.
 
-/// Duct 0 is written for a span from 02, which lies in no duct.
+/// Duct 0 is written for a span from 02, which no duct is told of.
 #[derive(Clone, Copy, PartialEq, Eq, Debug)]
 pub struct Span {
     pub a: usize,

@@ -35,7 +35,7 @@ const PARTED_BY_0: &str = "84 0000 84 0001 85 01 0000 86 0001 0000 86 0001 0000"
 /// What the three spans of a history are measured to be.
 const THREE_LENGTHS: Line = ("0E 0000 0E 0001 0E 0002", "8E 01 00FA 8E 01 0000 8E 01 0064");
 
-const KNOWN: [Known; 35] = [
+const KNOWN: [Known; 37] = [
     (
         "no record, no length",
         &[TWO_CABINETS, A_SPAN, ("0E 0000", "8E 00 0000")],
@@ -201,13 +201,13 @@ const KNOWN: [Known; 35] = [
         &[
             TWO_CABINETS,
             A_SPAN,
-            ("02 0000 0001", CLOSES),
+            ("0B 0000 0001 0001", CLOSES),
             ("0D 0000 0003 00FA 0E 0000 0E 0001", "8D 8E 01 00FA 8E 00 0000"),
             ("0D 0001 0001 0007 0E 0001 0E 0000", "8D 8E 01 0007 8E 01 00FA"),
             ("0D 0000 0001 0009 0E 0000", "8D 8E 01 00FA"),
             ("0D 0001 0002 000B 0E 0001", "8D 8E 01 000B"),
         ],
-        [0, 58, 14, 58, 2, 2],
+        [0, 60, 14, 58, 2, 2],
     ),
     // There are two cabinets only.
     (
@@ -215,11 +215,11 @@ const KNOWN: [Known; 35] = [
         &[
             TWO_CABINETS,
             A_SPAN,
-            ("02 0000 0001 02 0000 0001", "82 0001 0000 0001 02 0001 0000 82 0002 0000 0000"),
+            ("02 0000 0001 02 0000 0001", "82 0001 0000 0000 82 0002 0000 0000"),
             ("0D 0002 0001 0009", "8D"),
             ("0E 0002", "8E 01 0009"),
         ],
-        [0, 27, 7, 42, 2, 3],
+        [0, 27, 7, 37, 2, 3],
     ),
     (
         "two mates, each with its own record",
@@ -295,19 +295,54 @@ const KNOWN: [Known; 35] = [
         ],
         [0, 45, 11, 82, 3, 4],
     ),
-    // They have no duct, and are no mates though both have a record of one day.
+    // They are no mates, though both have a record of one day.
+    (
+        "spans of two ducts with records",
+        &[
+            TWO_CABINETS,
+            IN_5,
+            ("0D 0000 0001 0001", "8D"),
+            ("0B 0001 0000 0006", CLOSES),
+            ("0D 0001 0001 0001", "8D"),
+            ("0C 0000 0001", "8C 0001 0000 0001 0001 | 8C 0001 0001 0001 0000"),
+            ("08 0000 08 0001 06 0000 0001", "88 00 88 00 86 0000"),
+        ],
+        [0, 46, 10, 48, 2, 2],
+    ),
+    // They are mates, whatever is recorded of them between, and each has its own records.
     (
         "two spans from 02 with records",
         &[
             TWO_CABINETS,
             A_SPAN,
             ("0D 0000 0001 0001", "8D"),
-            ("02 0001 0000", CLOSES),
-            ("0D 0001 0001 0001", "8D"),
-            ("0C 0000 0001", "8C 0001 0000 0001 0001 | 8C 0001 0001 0001 0000"),
-            ("08 0000 08 0001 06 0000 0001", "88 00 88 00 86 0000"),
+            ("02 0001 0000", "82 0001 0000 0000"),
+            ("0D 0001 0002 0003", "8D"),
+            (ASKED_OF_2, PARTED_BY_0),
+            ("08 0000 08 0001 0E 0000 0E 0001", "88 01 88 01 8E 01 0001 8E 01 0003"),
         ],
-        [0, 42, 10, 48, 2, 2],
+        [0, 59, 15, 59, 2, 2],
+    ),
+    // Spans 0 and 1 are mates from 02 though only one has a record: one of them is a route, and the way
+    // over cabinet 2 the other. Span 2, in a duct, has a record too.
+    (
+        "a span from 02 with a record and one without, and a way round them",
+        &[
+            THREE_CABINETS,
+            A_SPAN,
+            ("0D 0000 0001 0064", "8D"),
+            ("02 0000 0001", "82 0001 0000 0000"),
+            ("0B 0000 0002 0005", "82 0002 0002 0001 01 0002 0000"),
+            ("0D 0002 0001 0064", "8D"),
+            ("02 0002 0001", "82 0003 0000 0003 02 0001 0000 02 0002 0000 03 0002 0000"),
+            (
+                "0C 0000 0001",
+                "8C 0001 0000 0002 0002 0003 | 8C 0001 0001 0002 0002 0003 \
+                 | 8C 0002 0002 0003 0001 0000 | 8C 0002 0002 0003 0001 0001",
+            ),
+            ("0E 0000 0E 0001 0E 0002", "8E 01 0064 8E 00 0000 8E 01 0064"),
+        ],
+        [0, 53, 13, 87, 3, 4],
     ),
     // Span 2 closes the loop, and the mesh of span 1 takes the name 0: its record stays.
     (
@@ -401,7 +436,7 @@ fn asked_again() -> Case {
 }
 
 /// Two cabinets and so many spans by 02 between them, and their answers: the first span joins the
-/// districts, the second the rings, and all are the mesh of the first.
+/// districts, and all are mates and the mesh of the first.
 fn parallel(spans: u16) -> (Writer, Vec<u8>) {
     let mut writer = Writer::new();
     writer.cabinet();
@@ -411,7 +446,6 @@ fn parallel(spans: u16) -> (Writer, Vec<u8>) {
         writer.add(Span::new(0, 1));
         answers.extend(match span {
             0 => unhex(FIRST),
-            1 => unhex(CLOSES),
             _ => fields(0x82, &[span, 0, 0]),
         });
     }
@@ -439,9 +473,9 @@ fn every_bit() -> Case {
         writer.command(0x0E, &[bit]);
         answers.extend(told(1 << bit));
     }
-    // 2 + 16 × 5 + 48 × 7 + 16 × 3 bytes, answered by 6 + 2 × 12 + 14 × 7 + 48 + 16 × 4.
+    // 2 + 16 × 5 + 48 × 7 + 16 × 3 bytes, answered by 6 + 12 + 15 × 7 + 48 + 16 × 4.
     let case = Case::with_room("every bit of a day and of a length", 256, 512, writer.bytes, 0);
-    case.leaves(answers, [0, 466, 82, 240, 2, 16])
+    case.leaves(answers, [0, 466, 82, 235, 2, 16])
 }
 
 /// Spans 256 and 257 have the low bytes of spans 0 and 1, and records of their own.
@@ -456,9 +490,9 @@ fn far_spans() -> Case {
         writer.command(0x0E, &[span]);
         answers.extend(metres.map_or(unhex("8E 00 0000"), told));
     }
-    // 2 + 258 × 5 + 3 × 7 + 5 × 3 bytes, answered by 6 + 2 × 12 + 256 × 7 + 3 + 5 × 4.
+    // 2 + 258 × 5 + 3 × 7 + 5 × 3 bytes, answered by 6 + 12 + 257 × 7 + 3 + 5 × 4.
     let case = Case::with_room("records of spans 0, 256 and 257", 256, 512, writer.bytes, 0);
-    case.leaves(answers, [0, 1_328, 268, 1_845, 2, 258])
+    case.leaves(answers, [0, 1_328, 268, 1_840, 2, 258])
 }
 
 /// As many spans as there can be. Every fourth has a record, from span 3 to the last, 8,191; every third
@@ -476,7 +510,7 @@ pub fn all_spans() -> Case {
         answers.extend(if is_recorded { told(metres(span)) } else { unhex("8E 00 0000") });
     }
     // 2 + 8,192 × 5 + 2,048 × 7 + 2,731 × 3 bytes, answered by
-    // 6 + 2 × 12 + 8,190 × 7 + 2,048 + 2,731 × 4.
+    // 6 + 12 + 8,191 × 7 + 2,048 + 2,731 × 4.
     let case = Case::with_room("records of every fourth span", 2, MOST_SPANS, writer.bytes, 0);
-    case.leaves(answers, [0, 63_491, 12_973, 70_332, 2, 8_192])
+    case.leaves(answers, [0, 63_491, 12_973, 70_327, 2, 8_192])
 }

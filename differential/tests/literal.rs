@@ -1,5 +1,7 @@
 //! The fast parts of the second implementation against the definitions word for word, and these
-//! against those of document 01 in the network in which each set of mates is one span.
+//! against those of document 01 in the network in which each set of mates is one span; by the rule of
+//! mates and by the old one. Also the definitions by the old rule against those of the network in which
+//! each span lies in the duct of its number and 1.
 
 use differential::layouts::{self, DUCTS};
 use differential::literal::{self, Plant};
@@ -11,6 +13,7 @@ use differential::second::exchanges::{counts, Exchanges};
 use differential::second::groups::{
     cut_cabinets, groups, is_sole, route, shared_mesh, sole_spans, Network,
 };
+use differential::second::mates::Rule;
 use differential::second::routes::{Choice, OTHER_CHOICES};
 use differential::second::surveys::{Record, Surveys};
 use differential::spans::Span;
@@ -72,7 +75,7 @@ fn check_shared_mesh(network: &Network, a: usize, b: usize) {
 
 /// The book's names for the spans of a network, entered one after the other.
 fn check_names(network: &Network) {
-    let mut book = Book::empty(None, None);
+    let mut book = Book::empty(network.rule, None, None);
     for _ in 0..network.cabinets {
         book = book.with_cabinet();
     }
@@ -157,7 +160,11 @@ fn check_routes(network: &Network) {
                 assert!(is_one, "{network:?} {a} {b} {choice:?}");
             }
             for pair in &all {
-                assert_eq!(serve(&network.spans, a, b, pair), Ok(()), "{network:?} {a} {b}");
+                assert_eq!(
+                    serve(plant.mates, &network.spans, a, b, pair),
+                    Ok(()),
+                    "{network:?} {a} {b}"
+                );
             }
         }
     }
@@ -176,7 +183,9 @@ fn check_lists(network: &Network) {
             let mut served: Vec<Pair> = Vec::new();
             for one in &lists {
                 let pairs = lists.iter().map(|other| [one.clone(), other.clone()]);
-                served.extend(pairs.filter(|pair| serve(&network.spans, a, b, pair).is_ok()));
+                served.extend(
+                    pairs.filter(|pair| serve(plant.mates, &network.spans, a, b, pair).is_ok()),
+                );
             }
             assert_eq!(served.len(), all.len(), "{network:?} {a} {b}");
             assert!(served.iter().all(|pair| all.contains(pair)), "{network:?} {a} {b}");
@@ -235,7 +244,44 @@ fn check_reduced_mesh(whole: Plant, single: Plant, number: &[usize], a: usize, b
     assert_eq!(kept, of_single, "{:?} {a} {b}", whole.network);
 }
 
+/// By the rule of mates and, where spans from 02 are parallel, by the old rule, which has other mates then.
+fn by_both(network: &Network, check: fn(&Network)) {
+    check(network);
+    let from_02: Vec<Span> = network.spans.iter().copied().filter(|span| span.duct == 0).collect();
+    let parallel = |i: usize| from_02[..i].iter().any(|&span| span.lies_beside(from_02[i]));
+    if (0..from_02.len()).any(parallel) {
+        check(&network.clone().by(Rule::NoMate));
+    }
+}
+
+/// The groups, the lists of 06 and 07 and the pairs of routes of spans from 02 by the old rule are those of
+/// the network in which each span lies in the duct of its number and 1.
+fn check_rewritten(network: &Network) {
+    let laid = |(number, span): (usize, &Span)| Span { duct: number + 1, ..*span };
+    let rewritten = network.spans.iter().enumerate().map(laid).collect();
+    let (old, new) = (network.clone().by(Rule::NoMate), Network::new(network.cabinets, rewritten));
+    let (old, new) = (Plant::of(&old), Plant::of(&new));
+    let numbers: Vec<usize> = (0..network.spans.len()).collect();
+    check_reduced_pairs(old, new, &numbers);
+    for a in 0..network.cabinets {
+        for b in (0..network.cabinets).filter(|&b| b != a) {
+            let pairs = literal::pairs(old, a, b);
+            assert_eq!(pairs, literal::pairs(new, a, b), "{network:?} {a} {b}");
+        }
+    }
+    for &s in &numbers {
+        for &t in &numbers {
+            let mesh = literal::share_mesh(old, s, t);
+            assert_eq!(mesh, literal::share_mesh(new, s, t), "{network:?} {s} {t}");
+        }
+    }
+}
+
 fn check(network: &Network) {
+    by_both(network, check_by_rule);
+}
+
+fn check_by_rule(network: &Network) {
     check_groups(network);
     check_questions(network);
     check_names(network);
@@ -246,7 +292,7 @@ fn check(network: &Network) {
 /// Every list of `count` spans from 02 between `cabinets` cabinets, each from less to greater.
 fn every_list(cabinets: usize, count: usize, each: &mut dyn FnMut(&Network)) {
     layouts::every_list(&layouts::rising(cabinets), count, &mut |spans| {
-        each(&Network { cabinets, spans, fault: None });
+        each(&Network::new(cabinets, spans));
     });
 }
 
@@ -254,7 +300,7 @@ fn every_list(cabinets: usize, count: usize, each: &mut dyn FnMut(&Network)) {
 /// directions by turns.
 fn every_list_in_ducts(cabinets: usize, count: usize, each: &mut dyn FnMut(&Network)) {
     layouts::every_list_by_turns(cabinets, 2, count, &mut |spans| {
-        each(&Network { cabinets, spans, fault: None });
+        each(&Network::new(cabinets, spans));
     });
 }
 
@@ -265,6 +311,9 @@ const REDUCED: [(usize, usize); 4] = [(2, 7), (3, 5), (4, 4), (5, 3)];
 #[test]
 fn every_small_network() {
     check(&Network::default());
+    for count in 0..=6 {
+        every_list(2, count, &mut check);
+    }
     for count in 0..=5 {
         every_list(3, count, &mut check);
     }
@@ -285,17 +334,22 @@ fn every_small_network_in_ducts() {
 
 #[test]
 fn every_small_network_reduced() {
+    let mut reduced = |network: &Network| by_both(network, check_reduced);
     for (cabinets, most) in REDUCED {
-        (0..=most).for_each(|count| every_list_in_ducts(cabinets, count, &mut check_reduced));
+        (0..=most).for_each(|count| every_list_in_ducts(cabinets, count, &mut reduced));
     }
 }
 
 /// Routes between up to four cabinets have at most three spans. The networks of four spans have them in
-/// one order.
+/// one order. By the old rule come those of up to three spans from 02 alone.
 #[test]
 fn every_pair_of_lists() {
+    let mut lists = |network: &Network| match network.spans.iter().all(|span| span.duct == 0) {
+        true => by_both(network, check_lists),
+        false => check_lists(network),
+    };
     for (cabinets, most) in [(2, 3), (3, 3), (4, 2)] {
-        (0..=most).for_each(|count| every_list_in_ducts(cabinets, count, &mut check_lists));
+        (0..=most).for_each(|count| every_list_in_ducts(cabinets, count, &mut lists));
     }
     every_list(4, 4, &mut |network| {
         if network.spans.is_sorted_by_key(|span| (span.a, span.b)) {
@@ -322,14 +376,23 @@ fn some_networks(count: usize, seed: u64, each: &mut dyn FnMut(&Network)) {
             layout.spans.extend(beside);
             layout.lay(&mut random, 80, ducts);
         }
-        each(&Network { cabinets, spans: layout.spans, fault: None });
+        each(&Network::new(cabinets, layout.spans));
     }
 }
 
 #[test]
 fn random_networks() {
     some_networks(4000, 1, &mut check);
-    some_networks(4000, 2, &mut check_reduced);
+    some_networks(4000, 2, &mut |network| by_both(network, check_reduced));
+}
+
+/// Every list of up to six spans from 02 between two cabinets, five between three, four between four and
+/// three between five.
+#[test]
+fn every_small_network_rewritten() {
+    for (cabinets, most) in [(2, 6), (3, 5), (4, 4), (5, 3)] {
+        (0..=most).for_each(|count| every_list(cabinets, count, &mut check_rewritten));
+    }
 }
 
 /// The length of each of three spans by these records.

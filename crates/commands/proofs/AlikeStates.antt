@@ -1,5 +1,5 @@
 -- States that are alike: their networks are, names and marks are the same, and for each span the same record of its length holds. Every
--- command is refused in both alike, and answered alike under a choice that gives networks alike the same routes.
+-- command is refused in both alike, and answered alike under choices that give the same routes.
 use mathlib.Core.Bool.{true, not, _&&_, _||_}
 use mathlib.Core.Option.{Option, none, some}
 use mathlib.Core.Path.{_≡_, refl, _∙_, ap, ap₂, fun-ext}
@@ -18,7 +18,7 @@ use Rattle.naming.specs.Survey.{holding}
 use Rattle.naming.specs.State.{State}
 use Rattle.naming.proofs.AlikeBooks.{AlikeBooks}
 use Rattle.commands.specs.Field.{Field, cabinet, span, name, number, byte}
-use Rattle.commands.specs.Command.{Command, addCabinet, addSpan, districtName, ringName, sharedMesh, soleSpans, cutCabinets, isSole, markExchange, holdsExchange, addDuctSpan, routesBetween, recordLength, spanLength, exchangeShare}
+use Rattle.commands.specs.Command.{Command, addCabinet, addSpan, districtName, ringName, sharedMesh, soleSpans, cutCabinets, isSole, markExchange, holdsExchange, addDuctSpan, routesBetween, recordLength, spanLength, exchangeShare, commandByte}
 use Rattle.commands.specs.Answer.{plain, districtNamed, ringNamed, soleSpansAre, cutCabinetsAre, soleIs, exchangeHeld, shareIs, cabinetAdded, notices}
 use Rattle.commands.specs.Exchange.{ringHoldsExchange, withExchange, thousandths, shareWithExchange}
 use Rattle.commands.specs.Facts.{Demand, differ, noExchange, someDuct, shareDistrict, shareRing, Facts, addsCabinet, addsSpan, addsNothing, facts, asks, meshAnswer, routesAnswer, lengthAnswer, operandsOf, demandsOf, additionOf, addition, spanAnswer, answerTo, answer}
@@ -111,7 +111,7 @@ module _ {s s′ : State} (a : AlikeStates s s′) (rule : MateRule (s .book .ne
   mesh-alike (some t) = rw (a .books .same-blocks)
 
   -- an added span is answered with its number, its mesh name and the notices, which are the same where the books after it are alike too
-  span-alike : (b b′ : Book) → AlikeBooks b b′ → spanAnswer (s′ .book) b′ ≡ spanAnswer (s .book) b
+  pub span-alike : (b b′ : Book) → AlikeBooks b b′ → spanAnswer (s′ .book) b′ ≡ spanAnswer (s .book) b
   unfolding spanAnswer notices
   span-alike b b′ after =
       rw (
@@ -124,41 +124,46 @@ module _ {s s′ : State} (a : AlikeStates s s′) (rule : MateRule (s .book .ne
         a .books .same-blocks,
       )
 
-  module _ (choice : Choice) (same-routes : SameRoutes choice) where
+  module _ (choice choice′ : Choice) where
+    -- where the command asks for routes, the two choices give the same
+    abbrev RoutesAlike : Command → Type 0
+    RoutesAlike c = commandByte c ≡ 0x0C → (x y : ℕ) → choice′ (s′ .book .network) x y ≡ choice (s .book .network) x y
+
     -- the answer to a question is the same in both
-    abbrev AnsweredAlike : Facts → Type 0
-    AnsweredAlike addsCabinet = Unit
-    AnsweredAlike (addsSpan e operands demands) = Unit
-    AnsweredAlike (addsNothing q) = q .told choice s′ ≡ q .told choice s
+    abbrev ToldAlike : Facts → Type 0
+    ToldAlike addsCabinet = Unit
+    ToldAlike (addsSpan e operands demands) = Unit
+    ToldAlike (addsNothing q) = q .told choice′ s′ ≡ q .told choice s
 
     -- so it is with every question about known spans
-    question-alike : Proper (s .book .network) → (c : Command) → spansKnown s c ≡ true → AnsweredAlike (facts c)
-    unfolding facts asks spansKnown operandsOf allIn spanKnown
-    question-alike proper addCabinet known = tt
-    question-alike proper (addSpan x y) known = tt
-    question-alike proper (districtName x) known = ap (λ names. districtNamed (nameOf names x)) (a .books .same-components)
-    question-alike proper (ringName x) known = ap (λ names. ringNamed (nameOf names x)) (a .books .same-bridge-blocks)
-    question-alike proper (sharedMesh x y) known =
+    question-alike : Proper (s .book .network) → (c : Command) → spansKnown s c ≡ true → RoutesAlike c → ToldAlike (facts c)
+    unfolding facts asks spansKnown operandsOf allIn spanKnown commandByte
+    question-alike proper addCabinet known routes = tt
+    question-alike proper (addSpan x y) known routes = tt
+    question-alike proper (districtName x) known routes = ap (λ names. districtNamed (nameOf names x)) (a .books .same-components)
+    question-alike proper (ringName x) known routes = ap (λ names. ringNamed (nameOf names x)) (a .books .same-bridge-blocks)
+    question-alike proper (sharedMesh x y) known routes =
         ap (meshAnswer (s′ .book)) (shared-block-alike networks rule rule′ x y) ∙ mesh-alike (sharedBlock (s .book .network) x y)
-    question-alike proper (soleSpans x y) known = ap soleSpansAre (bridges-between-alike networks rule rule′ x y)
-    question-alike proper (cutCabinets x y) known = ap cutCabinetsAre (cuts-between-alike networks rule′ proper x y)
-    question-alike proper (isSole x) known = ap soleIs (bridge-alike networks rule′ x (ltb-lt _ _ (and-left _ true known)))
-    question-alike proper (markExchange x) known = refl
-    question-alike proper (holdsExchange x) known = ap exchangeHeld (ring-holds-alike x)
-    question-alike proper (addDuctSpan x y d) known = tt
-    question-alike proper (routesBetween x y) known = ap routesAnswer (same-routes _ _ networks x y)
-    question-alike proper (recordLength x day metres) known = refl
-    question-alike proper (spanLength x) known = ap lengthAnswer (a .same-records x)
-    question-alike proper exchangeShare known = ap shareIs share-alike
+    question-alike proper (soleSpans x y) known routes = ap soleSpansAre (bridges-between-alike networks rule rule′ x y)
+    question-alike proper (cutCabinets x y) known routes = ap cutCabinetsAre (cuts-between-alike networks rule′ proper x y)
+    question-alike proper (isSole x) known routes = ap soleIs (bridge-alike networks rule′ x (ltb-lt _ _ (and-left _ true known)))
+    question-alike proper (markExchange x) known routes = refl
+    question-alike proper (holdsExchange x) known routes = ap exchangeHeld (ring-holds-alike x)
+    question-alike proper (addDuctSpan x y d) known routes = tt
+    question-alike proper (routesBetween x y) known routes = ap routesAnswer (routes refl x y)
+    question-alike proper (recordLength x day metres) known routes = refl
+    question-alike proper (spanLength x) known routes = ap lengthAnswer (a .same-records x)
+    question-alike proper exchangeShare known routes = ap shareIs share-alike
 
     -- so a command that is not refused is answered in one state as it is in the other, where the books after it are alike
-    pub answer-alike : (caps : Capacities) → Proper (s .book .network) → (c : Command) → refusalOf caps s c ≡ none
-        → AlikeBooks (feed (s .book) (addition c)) (feed (s′ .book) (addition c)) → answer choice s′ c ≡ answer choice s c
+    pub answer-alike : (caps : Capacities) → Proper (s .book .network) → (c : Command) → refusalOf caps s c ≡ none → RoutesAlike c
+        → AlikeBooks (feed (s .book) (addition c)) (feed (s′ .book) (addition c)) → answer choice′ s′ c ≡ answer choice s c
     unfolding answer addition
-    answer-alike caps proper c accepted after = go (facts c) (question-alike proper c (not-refused-exactly caps s c .0 accepted .spans-known)) after
+    answer-alike caps proper c accepted routes after =
+        go (facts c) (question-alike proper c (not-refused-exactly caps s c .0 accepted .spans-known) routes) after
       where
-        go : (f : Facts) → AnsweredAlike f → AlikeBooks (feed (s .book) (additionOf f)) (feed (s′ .book) (additionOf f))
-            → answerTo choice s′ f ≡ answerTo choice s f
+        go : (f : Facts) → ToldAlike f → AlikeBooks (feed (s .book) (additionOf f)) (feed (s′ .book) (additionOf f))
+            → answerTo choice′ s′ f ≡ answerTo choice s f
         go addsCabinet q after = unfold answerTo in ap cabinetAdded (networks .as-many-vertices)
         go (addsSpan e operands demands) q after = unfold answerTo additionOf in span-alike _ _ after
         go (addsNothing question) q after = unfold answerTo in ap plain q

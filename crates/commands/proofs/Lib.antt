@@ -1,4 +1,5 @@
 pub mod Computed
+pub mod Anew
 pub mod Shown
 pub mod Cases
 pub mod ByPlace
@@ -22,11 +23,14 @@ pub mod Refused
 pub mod Start
 pub mod Returned
 pub mod ForecastExactly
+pub mod FirstDuctTold
+pub mod RewriteExactly
 pub mod Kept
 pub mod Report
 pub mod Bytes
 pub mod NoticeBytes
 pub mod Spelled
+pub mod SpelledBack
 pub mod ReadFits
 pub mod Decode
 pub mod DecodeExact
@@ -42,7 +46,15 @@ pub mod NoticeBound
 pub mod ReadBack
 pub mod WholeRun
 pub mod AlikeStates
+pub mod EachRewritten
+pub mod OneDuct
 pub mod WithoutDucts
+pub mod RewrittenRun
+pub mod Rewritten
+pub mod RewrittenText
+pub mod RewrittenRoom
+pub mod RewrittenEntry
+pub mod RewrittenPlace
 pub mod AnswersTell
 pub mod Answers
 pub mod Marks

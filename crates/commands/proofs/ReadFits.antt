@@ -3,7 +3,7 @@ use mathlib.Core.Bool.{true}
 use mathlib.Core.List.{List, [], _∷_, map}
 use mathlib.Core.Logic.{_⊎_, inl, inr}
 use mathlib.Core.Option.{Option}
-use mathlib.Core.Path.{_≡_, sym, subst}
+use mathlib.Core.Path.{_≡_, refl, sym, _∙_, ap, subst}
 use Prim.Native.Nat.{ℕ, zero, suc, _+_, _*_, _<_, _≤_}
 use lib.ListN.{length, take, drop, getD, take-append-drop}
 use Rattle.graph.specs.Network.{edgeBetween, edgeInDuct}
@@ -13,14 +13,15 @@ use Rattle.commands.specs.Bytes.{allBytes}
 use Rattle.commands.specs.Command.{Command, Form, unknown, takes, forms, form, operand, command, readForm, readCommand}
 use Rattle.commands.specs.Facts.{facts, asks, operandsOf}
 use Rattle.commands.specs.Refusal.{Refusal, Capacities}
-use Rattle.commands.specs.Text.{textOf}
-use Rattle.commands.specs.Run.{Accepted, runText, runWithin}
+use Rattle.commands.specs.Text.{Read, textOf}
+use Rattle.commands.specs.Run.{runText, runWithin}
 use Rattle.commands.proofs.Cases.{le-or-gt, impossible}
 use Rattle.commands.proofs.ByPlace.{each-at, _also_}
 use Rattle.commands.proofs.Bytes.{number-below, all-bytes-behind, byte-at, Small, FieldsFit}
 use Rattle.commands.proofs.Reading.{long-enough, too-short}
-use Rattle.commands.proofs.Steps.{RunsTo, ends, refuses, accepts}
-use Rattle.commands.proofs.Place.{whole-run-steps, within-is-prefix}
+use Rattle.commands.proofs.Place.{within-is-prefix}
+use Rattle.commands.proofs.TextSteps.{Spells, no-more, unreadable, one-more, text-steps}
+use Rattle.commands.proofs.TextRun.{run-accepts-first}
 use Rattle.commands.proofs.Spelled.{AllSpelled}
 
 -- the command that a form makes of numbers that fit has operands that fit
@@ -73,33 +74,44 @@ command-fits byte bytes c width are e = go (form byte) (form-fits byte) e
             subst (λ d. FieldsFit (operandsOf (facts d))) same (h (operand bytes) small)
         made (inr l) = impossible (cc (too-short n make bytes l))
 
--- and every command that a run accepts
-steps-fit : (choice : Choice) (caps : Capacities) {s : State} {journal : List ℕ} {l : List Accepted} {end : Option Refusal}
-    → RunsTo choice caps s journal l end → allBytes journal ≡ true → AllSpelled (map (λ a. a .command) l)
-steps-fit choice caps ends are = tt
-steps-fit choice caps (refuses f) are = tt
-steps-fit choice caps (accepts {byte = byte} {bytes = bytes} {a = a} w rest) are =
+-- and every command that bytes spell
+spells-fit : {journal : List ℕ} {l : List Read} {end : Option Refusal} → Spells journal l end → allBytes journal ≡ true
+    → AllSpelled (map (λ r. r .command) l)
+spells-fit no-more are = tt
+spells-fit (unreadable u) are = tt
+spells-fit (one-more {byte = byte} {bytes = bytes} {r = r} q rest) are =
     let behind = all-bytes-behind (byte ∷ []) bytes are in (
-      command-fits byte bytes (a .command) (a .width) behind (w .was-read),
-      steps-fit choice caps rest
-          (all-bytes-behind (take (a .width) bytes) (drop (a .width) bytes)
-          (subst (λ l. allBytes l ≡ true) (sym (take-append-drop (a .width) bytes)) behind)),
+      command-fits byte bytes (r .command) (r .width) behind q,
+      spells-fit rest
+          (all-bytes-behind (take (r .width) bytes) (drop (r .width) bytes)
+          (subst (λ l. allBytes l ≡ true) (sym (take-append-drop (r .width) bytes)) behind)),
     )
 
+-- so do the commands of a journal's text
+pub text-spelled : (journal : List ℕ) → allBytes journal ≡ true → AllSpelled (map (λ r. r .command) (textOf journal .commands))
+text-spelled journal are = spells-fit (text-steps journal) are
+
 -- the first of commands that fit fit
-first-fit : (k : ℕ) (l : List Accepted) → AllSpelled (map (λ a. a .command) l) → AllSpelled (map (λ a. a .command) (take k l))
-first-fit zero l fit = tt
+first-fit : (k : ℕ) (cs : List Command) → AllSpelled cs → AllSpelled (take k cs)
+first-fit zero cs fit = tt
 first-fit (suc k) [] fit = tt
-first-fit (suc k) (a ∷ later) fit = (fit .0, first-fit k later (fit .1))
+first-fit (suc k) (c ∷ later) fit = (fit .0, first-fit k later (fit .1))
+
+-- what is made of the first of a list is the first of what is made of it
+map-take : {A B : Type 0} (f : A → B) (k : ℕ) (l : List A) → map f (take k l) ≡ take k (map f l)
+map-take f zero l = refl
+map-take f (suc k) [] = refl
+map-take f (suc k) (x ∷ l) = ap (λ rest. f x ∷ rest) (map-take f k l)
 
 -- so do those that a run accepts within the room
 pub run-fits : (room : ℕ) (choice : Choice) (caps : Capacities) (s : State) (journal : List ℕ) → allBytes journal ≡ true
     → AllSpelled (map (λ a. a .command) (runWithin room choice caps s (textOf journal) .accepted))
 run-fits room choice caps s journal are =
-    subst
-    (λ l. AllSpelled (map (λ a. a .command) l))
-    (sym (within-is-prefix room choice caps s journal .same))
-    (first-fit
-    (length (runWithin room choice caps s (textOf journal) .accepted))
-    (runText choice caps s (textOf journal) .accepted)
-    (steps-fit choice caps (whole-run-steps choice caps s journal) are))
+    let within = runWithin room choice caps s (textOf journal) .accepted in
+    let all = runText choice caps s (textOf journal) .accepted in
+    let done = map (λ a. a .command) all in
+    let first = run-accepts-first choice caps s (textOf journal) in
+    subst AllSpelled
+    (sym (ap (map (λ a. a .command)) (within-is-prefix room choice caps s journal .same) ∙ map-take (λ a. a .command) (length within) all))
+    (first-fit (length within) done
+    (subst AllSpelled (sym (first .same)) (first-fit (length done) (map (λ r. r .command) (textOf journal .commands)) (text-spelled journal are))))

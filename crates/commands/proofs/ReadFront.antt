@@ -1,5 +1,5 @@
 -- What is read hangs on the bytes that belong to it, and on nothing behind them.
-use mathlib.Core.List.{List}
+use mathlib.Core.List.{List, _∷_}
 use mathlib.Core.Logic.{_⊎_, inl, inr}
 use mathlib.Core.Option.{Option, none}
 use mathlib.Core.Path.{_≡_, refl, sym, _∙_, ap, ap₂}
@@ -10,12 +10,15 @@ use lib.ListN.{length, getD, take, drop, length-take}
 use lib.Seq.{getD-take, take-take, take-add, length-take-le, drop-at}
 use Rattle.commands.specs.Bytes.{number}
 use Rattle.commands.specs.Command.{Command, addCabinet, addSpan, districtName, ringName, sharedMesh, soleSpans, cutCabinets, isSole, markExchange, holdsExchange, addDuctSpan, routesBetween, recordLength, spanLength, exchangeShare, Form, unknown, takes, forms, form, operand, command, readForm, readCommand, commandByte}
+use Rattle.commands.specs.Field.{fieldBytes, fieldsBytes}
+use Rattle.commands.specs.Facts.{commandBytes}
 use Rattle.commands.specs.Refusal.{Refusal}
 use Rattle.commands.specs.Text.{Read, textOf, placeBehind}
 use Rattle.commands.proofs.ByPlace.{each-at, _also_}
-use Rattle.commands.proofs.Cases.{le-or-gt, impossible}
+use Rattle.commands.proofs.Cases.{le-or-gt}
 use Rattle.commands.proofs.Reading.{widthOf, long-enough, too-short, width-by-form, operands-fit}
 use Rattle.commands.proofs.Placed.{text-placed}
+use Rattle.commands.proofs.SpelledBack.{read-spelled}
 use Rattle.commands.proofs.TextSteps.{Spells, no-more, unreadable, one-more, text-steps, steps-are-the-text}
 
 -- the command of a form hangs on the operands that the form takes, and on no others
@@ -63,49 +66,14 @@ command-by-operands =
     also tt)
     (λ byte h. tt)
 
--- every command of a form has the form's byte
-abbrev HasByte : ℕ → Form → Type 0
-HasByte byte unknown = Unit
-HasByte byte (takes n make) = (x : ℕ → ℕ) → commandByte (make x) ≡ byte
-
-form-has-byte : (byte : ℕ) → HasByte byte (form byte)
-unfolding form forms commandByte
-form-has-byte =
-    each-at
-    HasByte
-    forms
-    unknown
-    (tt
-    also (λ x. refl)
-    also (λ x. refl)
-    also (λ x. refl)
-    also (λ x. refl)
-    also (λ x. refl)
-    also (λ x. refl)
-    also (λ x. refl)
-    also (λ x. refl)
-    also (λ x. refl)
-    also (λ x. refl)
-    also (λ x. refl)
-    also (λ x. refl)
-    also (λ x. refl)
-    also (λ x. refl)
-    also (λ x. refl)
-    also tt)
-    (λ byte h. tt)
+-- the first of a command's bytes is its own
+first-of-spelled : (c : Command) {byte : ℕ} {rest : List ℕ} → commandBytes c ≡ byte ∷ rest → commandByte c ≡ byte
+unfolding commandBytes fieldsBytes fieldBytes
+first-of-spelled c e = ap (λ (l : List ℕ). getD l 0 0) e
 
 -- the byte of a command is the one that it was read from
 pub byte-of-read : (byte : ℕ) (bytes : List ℕ) (c : Command) (width : ℕ) → readCommand byte bytes ≡ command c width → commandByte c ≡ byte
-unfolding readCommand
-byte-of-read byte bytes c width e = go (form byte) (form-has-byte byte) e
-  where
-    go : (f : Form) → HasByte byte f → readForm f bytes ≡ command c width → commandByte c ≡ byte
-    go unknown h e = unfold readForm in impossible (cc)
-    go (takes n make) h e = made (le-or-gt (2 * n) (length bytes))
-      where
-        made : (2 * n ≤ length bytes) ⊎ (length bytes < 2 * n) → commandByte c ≡ byte
-        made (inl l) = let same : make (operand bytes) ≡ c = cc (long-enough n make bytes l) in rw (← same) (h (operand bytes))
-        made (inr l) = impossible (cc (too-short n make bytes l))
+byte-of-read byte bytes c width e = first-of-spelled c (read-spelled byte bytes c width e .spells)
 
 -- bytes that begin alike have the same first operands
 operand-by-front : (n : ℕ) (xs ys : List ℕ) → take (2 * n) xs ≡ take (2 * n) ys → (k : ℕ) → k < n → operand xs k ≡ operand ys k
@@ -145,7 +113,7 @@ read-of-front byte bytes c width n e h =
     read-by-front byte (take n bytes) bytes (take-take (widthOf (form byte)) n bytes (omega arith)) ∙ e
 
 -- what is behind the first bytes of a front is a front of what is behind them
-behind-of-front : (n m : ℕ) (l : List ℕ) → n ≤ length l → drop n (take (n + m) l) ≡ take m (drop n l)
+pub behind-of-front : (n m : ℕ) (l : List ℕ) → n ≤ length l → drop n (take (n + m) l) ≡ take m (drop n l)
 behind-of-front n m l h = ap (drop n) (take-add n m l) ∙ drop-at (take n l) (take m (drop n l)) n (length-take-le n l h)
 
 -- the bytes before the place where the commands end spell these commands, and no refusal

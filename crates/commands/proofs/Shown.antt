@@ -7,13 +7,12 @@ use Rattle.graph.specs.Lists
 use Rattle.graph.specs.Cycle
 use Rattle.graph.specs.Travel
 use Rattle.graph.specs.Route
-use Rattle.commands.specs.Register.{program, programReport}
+use Rattle.commands.specs.Register.{program}
 use Rattle.commands.specs.Forecast.{forecast}
 use Rattle.commands.specs.Histories.{History, EachShown, histories}
 use Rattle.commands.specs.Histories
 use Rattle.commands.specs.ExchangeHistories
 use Rattle.commands.specs.ExchangeHistories.{exchangeHistories}
-use Rattle.commands.specs.DuctHistories
 use Rattle.commands.specs.DuctHistories.{ductHistories}
 use Rattle.commands.specs.RouteHistories
 use Rattle.commands.specs.RouteHistories.{routeHistories, offers, judged}
@@ -21,14 +20,11 @@ use Rattle.commands.specs.SurveyHistories
 use Rattle.commands.specs.SurveyHistories.{surveyHistories}
 use Rattle.commands.specs.Calls.{sevens, call, atStart, startCalls, stopCalls, cabinetAnswers, acceptedCalls, entered, foretold, forecasts}
 use Rattle.commands.proofs.Computed.{computed}
-
--- the history that the program makes of the same input
-abbrev made : History → History
-made h = record { input = h .input; output = program (h .input); report = programReport (h .input) }
+use Rattle.commands.proofs.Anew.{made, duct-histories-made}
 
 -- of the whole table the program makes the table
 histories-made : map made histories ≡ histories
-unfolding computed Histories.output Histories.accepted Histories.refusedWith Histories.notice Histories.emptyJournal Histories.triangle Histories.oneSpan Histories.twoSpans Histories.chain Histories.twoMeshes Histories.twoRingsJoined Histories.fromItselfToItself Histories.spanToItself Histories.spanToNowhere Histories.acrossDistricts Histories.cutShort Histories.histories
+unfolding computed Histories.output Histories.accepted Histories.refusedWith Histories.notice Histories.emptyJournal Histories.triangle Histories.oneSpan Histories.twoSpans Histories.chain Histories.twoMeshes Histories.twoRings Histories.joiningAnswers Histories.twoRingsJoined Histories.twoRingsJoinedInDucts Histories.fromItselfToItself Histories.spanToItself Histories.spanToNowhere Histories.acrossDistricts Histories.cutShort Histories.histories
 histories-made = refl
 
 each-shown : (hs : List History) → map made hs ≡ hs → EachShown hs
@@ -42,14 +38,9 @@ exchange-histories-made : map made exchangeHistories ≡ exchangeHistories
 unfolding computed Histories.output Histories.accepted Histories.refusedWith Histories.notice ExchangeHistories.exchangeInOneOfTwoRings ExchangeHistories.shareOfCabinets ExchangeHistories.sharesInThirds ExchangeHistories.markedTwice ExchangeHistories.markedNowhere ExchangeHistories.askedNowhere ExchangeHistories.exchangeHistories
 exchange-histories-made = refl
 
--- and of the one with ducts
-duct-histories-made : map made ductHistories ≡ ductHistories
-unfolding computed Histories.output Histories.accepted Histories.refusedWith Histories.notice DuctHistories.twoInOneDuct DuctHistories.twoInTwoDucts DuctHistories.besideADuct DuctHistories.loopAroundADuct DuctHistories.measuredInSpans DuctHistories.oneNumberAtTwoPairs DuctHistories.greatestDuct DuctHistories.inNoDuct DuctHistories.ductHistories
-duct-histories-made = refl
-
 -- and of the one with routes
 route-histories-made : map made routeHistories ≡ routeHistories
-unfolding computed Histories.output Histories.accepted Histories.refusedWith Histories.notice RouteHistories.routesInTwoDucts RouteHistories.triangleSpans RouteHistories.routesInTriangle RouteHistories.ladderSpans RouteHistories.rungGivenBack RouteHistories.twoMeshesSpans RouteHistories.routesThroughCut RouteHistories.matesAndASpan RouteHistories.routeBesideMates RouteHistories.matesOnTheWaySpans RouteHistories.matesOnTheWay RouteHistories.onlyMates RouteHistories.acrossRings RouteHistories.routesAcrossDistricts RouteHistories.routesToItself RouteHistories.routesToNowhere RouteHistories.routesFromNowhere RouteHistories.routeHistories
+unfolding computed Histories.output Histories.accepted Histories.refusedWith Histories.notice RouteHistories.routesInTwoDucts RouteHistories.triangleSpans RouteHistories.routesInTriangle RouteHistories.ladderSpans RouteHistories.rungGivenBack RouteHistories.twoMeshesSpans RouteHistories.routesThroughCut RouteHistories.matesAndASpan RouteHistories.routeBesideMates RouteHistories.matesOnTheWaySpans RouteHistories.matesOnTheWay RouteHistories.onlyMates RouteHistories.onlyWithNoDuctTold RouteHistories.acrossRings RouteHistories.routesAcrossDistricts RouteHistories.routesToItself RouteHistories.routesToNowhere RouteHistories.routesFromNowhere RouteHistories.routeHistories
 route-histories-made = refl
 
 -- and of the one with survey lengths

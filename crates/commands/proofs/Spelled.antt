@@ -1,6 +1,5 @@
--- Commands that were written are read back: the same commands, one behind another, and no refusal. For the requests that write journals
--- (7, 9).
-use mathlib.Core.List.{List, [], _∷_, _++_}
+-- Commands that were written are read back: the same commands, one behind another, and no refusal.
+use mathlib.Core.List.{List, [], _∷_, _++_, map}
 use mathlib.Core.Option.{none}
 use mathlib.Core.Path.{_≡_, refl, _∙_, ap, ap₂}
 use Prim.Native.Nat.{ℕ, _+_, _*_}
@@ -79,6 +78,12 @@ unfoldable pub readsFrom : ℕ → List Command → List Read
 readsFrom place [] = []
 readsFrom place (c ∷ cs) =
     record { command = c; place = place; width = operandWidth c } ∷ readsFrom (place + 1 + operandWidth c) cs
+
+-- they are these commands
+pub commands-of-reads : (place : ℕ) (cs : List Command) → map (λ r. r .command) (readsFrom place cs) ≡ cs
+unfolding readsFrom
+commands-of-reads place [] = refl
+commands-of-reads place (c ∷ cs) = ap (λ l. c ∷ l) (commands-of-reads (place + 1 + operandWidth c) cs)
 
 -- commands are read back from their bytes: just these, and no refusal
 pub journal-read-back : (place : ℕ) (cs : List Command) → AllSpelled cs

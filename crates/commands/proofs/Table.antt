@@ -10,7 +10,7 @@ use native.Mathlib.Omega.{arith}
 use lib.Dec.{leb, eqb}
 use lib.ListN.{getD, getElem?}
 use Rattle.graph.proofs.Truth.{true-or-false, not-both, and-left, and-right, eqb-eq, eqb-same, leb-le, false-of-not, false-of-not-true}
-use Rattle.commands.specs.Refusal.{Refusal, badCapacity, shortBuffer, longJournal, badByte, cutOperands, unknownCabinet, unknownSpan, equalCabinets, full, twoDistricts, noRoom, alreadyExchange, noDuct, noSharedRing, refusalNumber, Line, firstThatApplies}
+use Rattle.commands.specs.Refusal.{Refusal, badCapacity, shortBuffer, longJournal, badByte, cutOperands, unknownCabinet, unknownSpan, equalCabinets, full, twoDistricts, noRoom, alreadyExchange, noDuct, noSharedRing, ductTold, longResult, refusalNumber, Line, firstThatApplies}
 use Rattle.commands.proofs.Cases.{impossible}
 
 -- the refusal with a number
@@ -32,6 +32,8 @@ withNumber n =
     ∷ alreadyExchange
     ∷ noDuct
     ∷ noSharedRing
+    ∷ ductTold
+    ∷ longResult
     ∷ [])
     n
     badCapacity
@@ -52,6 +54,8 @@ with-its-number noRoom = refl
 with-its-number alreadyExchange = refl
 with-its-number noDuct = refl
 with-its-number noSharedRing = refl
+with-its-number ductTold = refl
+with-its-number longResult = refl
 
 -- refusals with the same number are the same
 pub same-number : (r s : Refusal) → refusalNumber r ≡ refusalNumber s → r ≡ s
@@ -74,6 +78,8 @@ number-above-zero noRoom = omega arith
 number-above-zero alreadyExchange = omega arith
 number-above-zero noDuct = omega arith
 number-above-zero noSharedRing = omega arith
+number-above-zero ductTold = omega arith
+number-above-zero longResult = omega arith
 
 -- a line that applies gives its refusal
 pub line-applies : (l : Line) (ls : List Line) → l .applies ≡ true → firstThatApplies (l ∷ ls) ≡ some (l .refusal)
@@ -174,7 +180,8 @@ given-passes p (l ∷ ls) r a e = go (given-passes p ls r (and-right (p (l .refu
         rw same at (and-left (p (l .refusal)) (everyRefusal p ls) a)
     go rest (inr d) = rest (sym (line-passed-over l ls d) ∙ e)
 
--- when a refusal is given: 0 at the start, 1 where no command can be read, 2 for a command that was read, 3 for want of room
+-- when a refusal is given: 0 at the start, 1 where no command can be read, 2 for a command that was read, 3 for want of room, 4 where a
+-- journal is rewritten and in no run
 unfoldable pub stage : Refusal → ℕ
 stage badCapacity = 0
 stage shortBuffer = 0
@@ -190,6 +197,8 @@ stage alreadyExchange = 2
 stage noDuct = 2
 stage noSharedRing = 2
 stage noRoom = 3
+stage ductTold = 4
+stage longResult = 4
 
 -- the refusal's stage lies between the two
 abbrev pub between : ℕ → ℕ → Refusal → Bool

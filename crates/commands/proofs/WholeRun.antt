@@ -8,7 +8,7 @@ use lib.ListN.{length, take}
 use lib.Seq.{length-take-le}
 use Rattle.graph.specs.Network.{Rule, MateRule}
 use Rattle.graph.specs.Route.{Choice, Serves}
-use Rattle.graph.proofs.Ducts.{same-duct-mates}
+use Rattle.graph.proofs.Ducts.{one-duct-mates}
 use Rattle.ways.proofs.TwoRoutes.{two-routes-serve}
 use Rattle.naming.specs.State.{State, emptyState}
 use Rattle.commands.specs.Bytes.{allBytes}
@@ -69,7 +69,7 @@ whole-run rule r choice serves caps journal are lent =
 -- the register's is a rule of mates
 pub register-mates : MateRule registerRule
 unfolding registerRule
-register-mates = same-duct-mates
+register-mates = one-duct-mates
 
 -- and its choice of routes serves under that rule
 pub register-serves : Serves registerRule registerRoutes

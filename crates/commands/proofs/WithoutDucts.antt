@@ -1,14 +1,15 @@
--- A journal without 0B is run as document 01 has it: whether a span is lost with the spans of its duct or no span with another, everything
--- that is returned and left is the same.
-use mathlib.Core.Bool.{true, not, false≢true}
+-- Under the rule of request 3, by which a span of 02 has no mate, a journal without 0B is run as document 01 has it: whether a span is lost
+-- with the spans of its duct or no span with another, everything that is returned and left is the same. (Under the rule of request 7 it is
+-- so with a journal that is rewritten: RewrittenRun.)
+use mathlib.Core.Bool.{true, false, not, false≢true}
+use mathlib.Core.Logic.{_⊎_, inl, inr}
 use mathlib.Core.List.{List, [], _∷_, map}
 use mathlib.Core.Option.{Option, none, some}
 use mathlib.Core.Path.{_≡_, refl, sym, _∙_, ap, ap₂}
 use Prim.Native.Nat.{ℕ}
-use native.Mathlib.Nat.{not-suc-le-zero}
 use lib.Dec.{eqb}
 use Rattle.graph.specs.Lists.{allIn}
-use Rattle.graph.specs.Network.{Edge, Rule, MateRule, never, sameDuct, parallel, edgeBetween, edge, edgeCount, addVertex, addEdge}
+use Rattle.graph.specs.Network.{Edge, Rule, MateRule, never, sameDuct, parallel, edgeBetween, edge, addVertex, addEdge}
 use Rattle.graph.specs.Cycle.{joins}
 use Rattle.graph.specs.Route.{Choice}
 use Rattle.graph.proofs.Truth.{and-left, and-right}
@@ -19,16 +20,18 @@ use Rattle.ways.proofs.RoutesAlike.{alike-routes}
 use Rattle.naming.specs.Book.{Book, emptyBook, enterVertex, enterEdge, feed, feedAll}
 use Rattle.naming.specs.Survey.{holding}
 use Rattle.naming.specs.State.{State, emptyState, afterAddition, surveysAfter, afterRecording}
-use Rattle.naming.proofs.AlikeBooks.{AlikeBooks, alike-vertex, alike-edge}
-use Rattle.commands.specs.Command.{Command, addCabinet, addSpan, districtName, ringName, sharedMesh, soleSpans, cutCabinets, isSole, markExchange, holdsExchange, addDuctSpan, routesBetween, recordLength, spanLength, exchangeShare, commandByte}
+use Rattle.naming.proofs.AlikeBooks.{AlikeBooks, alike-empty, alike-vertex, alike-edge}
+use Rattle.commands.specs.Command.{Command, commandByte}
 use Rattle.commands.specs.Facts.{Facts, addsCabinet, addsSpan, addsNothing, facts, asks, additionOf, addition, recording, after}
 use Rattle.commands.specs.Refusal.{Refusal, Capacities, refusalOf}
 use Rattle.commands.specs.Text.{Read, Text, followedBy, textOf}
 use Rattle.commands.specs.Run.{andThen, acceptedIn, runOver, runText, runWithin}
 use Rattle.commands.specs.Entry.{Whole, refusedAtStart, ran, Buffers, wholeRun, bookAfter, outcome, entryUnder}
 use Rattle.commands.specs.NameList.{namesOf}
-use Rattle.commands.specs.Register.{registerRule, registerRoutes, register}
+use Rattle.commands.specs.Register.{registerRoutes}
+use Rattle.commands.specs.Forecast.{isSpan}
 use Rattle.commands.specs.Ducts.{ductless, ductlessJournal}
+use Rattle.commands.proofs.EachRewritten.{Is02, Unchanged, each-rewritten}
 use Rattle.commands.proofs.Steps.{run-refuses, run-accepts}
 use Rattle.commands.proofs.Agree.{marks-same}
 use Rattle.commands.proofs.AlikeStates.{SameRoutes, AlikeStates, refusal-alike, answer-alike}
@@ -41,24 +44,21 @@ InNoDuct addsCabinet = Unit
 InNoDuct (addsSpan e operands demands) = e .duct ≡ 0
 InNoDuct (addsNothing q) = Unit
 
--- so it is with every command but 0B
+-- so it is where no span is added
+none-in-duct : (f : Facts) → isSpan (additionOf f) ≡ false → InNoDuct f
+unfolding isSpan additionOf
+none-in-duct addsCabinet e = tt
+none-in-duct (addsSpan x operands demands) e = absurd (false≢true (sym e))
+none-in-duct (addsNothing q) e = tt
+
+-- and with every command but 0B
 in-no-duct : (c : Command) → not (eqb (commandByte c) 0x0B) ≡ true → InNoDuct (facts c)
-unfolding facts asks edgeBetween commandByte
-in-no-duct addCabinet other = tt
-in-no-duct (addSpan x y) other = refl
-in-no-duct (districtName x) other = tt
-in-no-duct (ringName x) other = tt
-in-no-duct (sharedMesh x y) other = tt
-in-no-duct (soleSpans x y) other = tt
-in-no-duct (cutCabinets x y) other = tt
-in-no-duct (isSole x) other = tt
-in-no-duct (markExchange x) other = tt
-in-no-duct (holdsExchange x) other = tt
-in-no-duct (addDuctSpan x y d) other = absurd (false≢true other)
-in-no-duct (routesBetween x y) other = tt
-in-no-duct (recordLength x day metres) other = tt
-in-no-duct (spanLength x) other = tt
-in-no-duct exchangeShare other = tt
+unfolding facts edgeBetween
+in-no-duct c other = go (each-rewritten c other)
+  where
+    go : Is02 c ⊎ Unchanged c → InNoDuct (facts c)
+    go (inl w) = rw (w .is) refl
+    go (inr left) = none-in-duct (facts c) (unfold addition in left .adds-none)
 
 -- Two books alike, the first of which loses each span alone and the second with those of its duct.
 record Paired (b b′ : Book) : Type 0 where
@@ -104,29 +104,12 @@ paired-after p (c ∷ later) free =
 
 -- and before the first command
 paired-empty : Paired (emptyBook never) (emptyBook sameDuct)
-unfolding emptyBook edgeCount
-paired-empty =
-    record {
-      alike =
-          record {
-            networks =
-                record {
-                  as-many-vertices = refl;
-                  as-many-edges = refl;
-                  same-ends = λ s k. absurd (not-suc-le-zero k);
-                  same-mates = λ s t k. absurd (not-suc-le-zero k);
-                };
-            same-components = refl;
-            same-bridge-blocks = refl;
-            same-blocks = refl;
-          };
-      alone = refl;
-      by-duct = refl;
-    }
+unfolding emptyBook
+paired-empty = record { alike = unfold emptyBook in alike-empty never sameDuct; alone = refl; by-duct = refl }
 
 -- the books after commands without 0B hold the same names
-pub names-without-ducts : (cs : List Command) → ductless cs ≡ true → namesOf (bookAfter registerRule cs) ≡ namesOf (bookAfter never cs)
-unfolding registerRule bookAfter namesOf
+pub names-without-ducts : (cs : List Command) → ductless cs ≡ true → namesOf (bookAfter sameDuct cs) ≡ namesOf (bookAfter never cs)
+unfolding bookAfter namesOf
 names-without-ducts cs free =
     let a = paired-after paired-empty cs free .alike in
     rw (a .networks .as-many-vertices, a .networks .as-many-edges, a .same-components, a .same-bridge-blocks, a .same-blocks)
@@ -187,7 +170,7 @@ run-without-ducts choice same caps s s′ p sound (r ∷ later) end free =
     same-accepted : refusalOf caps s c ≡ none → acceptedIn choice s′ r ≡ acceptedIn choice s r
     same-accepted e =
         unfold acceptedIn addition in
-        rw (answer-alike alike rule rule′ choice same caps (sound .laws .proper) c e (paired-fed (p .books) (facts c) (in-no-duct c other) .alike))
+        rw (answer-alike alike rule rule′ choice choice caps (sound .laws .proper) c e (λ asks. same _ _ (p .books .alike .networks)) (paired-fed (p .books) (facts c) (in-no-duct c other) .alike))
 
     go : (PairedStates (after s c) (after s′ c) → Sound caps (after s c) → runText choice caps (after s′ c) t ≡ runText choice caps (after s c) t)
         → (o : Option Refusal) → refusalOf caps s c ≡ o
@@ -201,31 +184,25 @@ run-without-ducts choice same caps s s′ p sound (r ∷ later) end free =
 -- A journal without 0B: the whole run is that where no span is lost with another,
 pub whole-run-without-ducts : (choice : Choice) → SameRoutes choice
     → (caps : Capacities) (journal : List ℕ) (workLength answersLength reportLength : ℕ) → ductlessJournal journal ≡ true
-    → wholeRun registerRule choice caps journal workLength answersLength reportLength
+    → wholeRun sameDuct choice caps journal workLength answersLength reportLength
     ≡ wholeRun never choice caps journal workLength answersLength reportLength
-unfolding registerRule wholeRun ductlessJournal runWithin emptyState
+unfolding wholeRun ductlessJournal runWithin emptyState
 whole-run-without-ducts choice same caps journal workLength answersLength reportLength free =
     rw
     (run-without-ducts choice same caps (emptyState never) (emptyState sameDuct) (record { books = paired-empty; same-marks = λ x. refl; same-surveys = refl })
     (empty-sound caps never never-mates) (textOf journal .commands) (textOf journal .refusal) free)
 
 -- and so whatever the capacities and the buffers, the same is returned and left.
-entry-without-ducts : (choice : Choice) → SameRoutes choice → (caps : Capacities) (journal : List ℕ) (lent : Buffers)
-    → ductlessJournal journal ≡ true → entryUnder registerRule choice caps journal lent ≡ entryUnder never choice caps journal lent
+pub without-ducts : (choice : Choice) → SameRoutes choice → (caps : Capacities) (journal : List ℕ) (lent : Buffers)
+    → ductlessJournal journal ≡ true → entryUnder sameDuct choice caps journal lent ≡ entryUnder never choice caps journal lent
 unfolding entryUnder
-entry-without-ducts choice same caps journal lent free = rw (whole-run-without-ducts choice same caps journal _ _ _ free) (same-outcome _)
+without-ducts choice same caps journal lent free = rw (whole-run-without-ducts choice same caps journal _ _ _ free) (same-outcome _)
   where
-    same-outcome : (w : Whole) → outcome registerRule caps lent w ≡ outcome never caps lent w
+    same-outcome : (w : Whole) → outcome sameDuct caps lent w ≡ outcome never caps lent w
     same-outcome (refusedAtStart r) = unfold outcome in refl
-    same-outcome (ran run) = unfold outcome in rw (report-is registerRule run, report-is never run)
+    same-outcome (ran run) = unfold outcome in rw (report-is sameDuct run, report-is never run)
 
 -- The register's choice is such a one: networks alike are searched alike.
 pub register-same-routes : SameRoutes registerRoutes
 unfolding registerRoutes
 register-same-routes g h a = alike-routes a
-
--- So with a journal without 0B the register returns and leaves what it would if no span were lost with another.
-pub without-ducts : (caps : Capacities) (journal : List ℕ) (lent : Buffers) → ductlessJournal journal ≡ true
-    → register caps journal lent ≡ entryUnder never registerRoutes caps journal lent
-unfolding register
-without-ducts = entry-without-ducts registerRoutes register-same-routes

@@ -1,5 +1,5 @@
 -- Calls of the entries in plain numbers. Of the run, line by line of the table of causes: what is handed in, what is returned, and what
--- every buffer then holds. Of the forecast: journals, and what is returned.
+-- every buffer then holds. Of the forecast and of rewriting: journals, and what is returned.
 use mathlib.Core.List.{List, [], _∷_, _++_}
 use Prim.Native.Nat.{ℕ, zero, suc}
 use lib.ListN.{replicate}
@@ -7,6 +7,7 @@ use Rattle.commands.specs.Refusal.{Capacities}
 use Rattle.commands.specs.Entry.{Buffers, Outcome}
 use Rattle.commands.specs.Register.{register}
 use Rattle.commands.specs.Forecast.{Forecast}
+use Rattle.commands.specs.Rewrite.{Rewriting, rewrite}
 
 -- What the run's entry is handed, and what it returns and leaves.
 pub record Call : Type 0 where
@@ -138,14 +139,14 @@ stopCalls =
     (replicate 120 0)
     (0x81 ∷ 0 ∷ 0 ∷ 0x81 ∷ 0 ∷ 1 ∷ replicate 11 7)
     (11 ∷ 2 ∷ 2 ∷ 6 ∷ 2 ∷ 0 ∷ [])
-    ∷ call 2 2 128 38 6 (0x01 ∷ 0x01 ∷ 0x02 ∷ 0 ∷ 0 ∷ 0 ∷ 1 ∷ 0x02 ∷ 0 ∷ 0 ∷ 0 ∷ 1 ∷ 0x0C ∷ 0 ∷ 0 ∷ 0 ∷ 1 ∷ []) 11
+    ∷ call 2 2 128 38 6 (0x01 ∷ 0x01 ∷ 0x02 ∷ 0 ∷ 0 ∷ 0 ∷ 1 ∷ 0x0B ∷ 0 ∷ 0 ∷ 0 ∷ 1 ∷ 0 ∷ 1 ∷ 0x0C ∷ 0 ∷ 0 ∷ 0 ∷ 1 ∷ []) 11
     (replicate 128 0)
     (0x81 ∷ 0 ∷ 0
     ∷ 0x81 ∷ 0 ∷ 1
     ∷ 0x82 ∷ 0 ∷ 0 ∷ 0 ∷ 0 ∷ 0 ∷ 1 ∷ 0x01 ∷ 0 ∷ 1 ∷ 0 ∷ 0
     ∷ 0x82 ∷ 0 ∷ 1 ∷ 0 ∷ 0 ∷ 0 ∷ 1 ∷ 0x02 ∷ 0 ∷ 1 ∷ 0 ∷ 0
     ∷ replicate 8 7)
-    (11 ∷ 12 ∷ 4 ∷ 30 ∷ 2 ∷ 2 ∷ [])
+    (11 ∷ 14 ∷ 4 ∷ 30 ∷ 2 ∷ 2 ∷ [])
     ∷ call 2 1 120 18 6 (0x01 ∷ 0x01 ∷ 0x02 ∷ 0 ∷ 0 ∷ 0 ∷ 1 ∷ 0x0D ∷ 0 ∷ 0 ∷ 0 ∷ 0 ∷ 0 ∷ 0 ∷ []) 11
     (replicate 120 0)
     (0x81 ∷ 0 ∷ 0 ∷ 0x81 ∷ 0 ∷ 1 ∷ 0x82 ∷ 0 ∷ 0 ∷ 0 ∷ 0 ∷ 0 ∷ 1 ∷ 0x01 ∷ 0 ∷ 1 ∷ 0 ∷ 0 ∷ [])
@@ -238,7 +239,7 @@ acceptedCalls =
     ∷ [])
     (0 ∷ 42 ∷ 12 ∷ 91 ∷ 4 ∷ 4 ∷ [])
     -- 8C that fits to the byte, with C cabinets and S spans present
-    ∷ call 2 2 128 39 6 (0x01 ∷ 0x01 ∷ 0x02 ∷ 0 ∷ 0 ∷ 0 ∷ 1 ∷ 0x02 ∷ 0 ∷ 0 ∷ 0 ∷ 1 ∷ 0x0C ∷ 0 ∷ 0 ∷ 0 ∷ 1 ∷ []) 0
+    ∷ call 2 2 128 39 6 (0x01 ∷ 0x01 ∷ 0x02 ∷ 0 ∷ 0 ∷ 0 ∷ 1 ∷ 0x0B ∷ 0 ∷ 0 ∷ 0 ∷ 1 ∷ 0 ∷ 1 ∷ 0x0C ∷ 0 ∷ 0 ∷ 0 ∷ 1 ∷ []) 0
     (replicate 128 0)
     (0x81 ∷ 0 ∷ 0
     ∷ 0x81 ∷ 0 ∷ 1
@@ -246,7 +247,7 @@ acceptedCalls =
     ∷ 0x82 ∷ 0 ∷ 1 ∷ 0 ∷ 0 ∷ 0 ∷ 1 ∷ 0x02 ∷ 0 ∷ 1 ∷ 0 ∷ 0
     ∷ 0x8C ∷ 0 ∷ 1 ∷ 0 ∷ 1 ∷ 0 ∷ 1 ∷ 0 ∷ 0
     ∷ [])
-    (0 ∷ 17 ∷ 5 ∷ 39 ∷ 2 ∷ 2 ∷ [])
+    (0 ∷ 19 ∷ 5 ∷ 39 ∷ 2 ∷ 2 ∷ [])
     -- 8E without a record, 8D, and 8E with one, that fit to the byte, with C cabinets and S spans present
     ∷ call 2 1 120 27 6 (0x01 ∷ 0x01 ∷ 0x02 ∷ 0 ∷ 0 ∷ 0 ∷ 1 ∷ 0x0E ∷ 0 ∷ 0 ∷ 0x0D ∷ 0 ∷ 0 ∷ 0x12 ∷ 0x34 ∷ 0x56 ∷ 0x78 ∷ 0x0E ∷ 0 ∷ 0 ∷ []) 0
     (replicate 120 0)
@@ -341,4 +342,107 @@ forecasts =
     ∷ foretold (0x0D ∷ 0 ∷ 0 ∷ 0 ∷ 0 ∷ 0 ∷ []) 5 0 0
     ∷ foretold (0x0E ∷ 0 ∷ []) 5 0 0
     ∷ foretold (0x01 ∷ 0x02 ∷ 0 ∷ 0 ∷ 0 ∷ 0 ∷ 0x07 ∷ 0 ∷ 0 ∷ 0 ∷ []) 5 6 0
+    ∷ []
+
+-- A journal and the length of the output buffer, and what rewriting returns and gives.
+pub record RewriteCall : Type 0 where
+  pub journal : List ℕ
+  pub room : ℕ
+  pub rewriting : Rewriting
+
+-- The journal and the room; then the number returned, the place and the result.
+unfoldable pub rewriteCall : List ℕ → ℕ → ℕ → ℕ → List ℕ → RewriteCall
+rewriteCall journal room number place result =
+    record { journal = journal; room = room; rewriting = record { number = number; place = place; result = result } }
+
+-- What rewriting returns and gives for the call.
+unfoldable pub rewritingOf : RewriteCall → Rewriting
+rewritingOf c = rewrite (c .room) (c .journal)
+
+-- So many spans of 02 between cabinets 0 and 1; and of 0B, each in a duct of its own, up to 255 of them.
+unfoldable pub spans02 : ℕ → List ℕ
+spans02 zero = []
+spans02 (suc k) = 0x02 ∷ 0 ∷ 0 ∷ 0 ∷ 1 ∷ spans02 k
+
+unfoldable pub spans0B : ℕ → List ℕ
+spans0B zero = []
+spans0B (suc k) = spans0B k ++ 0x0B ∷ 0 ∷ 0 ∷ 0 ∷ 1 ∷ 0 ∷ suc k ∷ []
+
+unfoldable pub rewritings : List RewriteCall
+rewritings =
+    -- no command, with room for no byte
+    rewriteCall [] 0 0 0 []
+    -- no 02: every other command but 0B stays as it is, with room to the byte
+    ∷ rewriteCall (0x01 ∷ 0x0F ∷ 0x01 ∷ []) 3 0 3 (0x01 ∷ 0x0F ∷ 0x01 ∷ [])
+    ∷ rewriteCall
+    (0x03 ∷ 0 ∷ 2
+    ∷ 0x04 ∷ 2 ∷ 0
+    ∷ 0x05 ∷ 0 ∷ 2 ∷ 2 ∷ 0
+    ∷ 0x06 ∷ 0 ∷ 2 ∷ 2 ∷ 0
+    ∷ 0x07 ∷ 0 ∷ 2 ∷ 2 ∷ 0
+    ∷ 0x08 ∷ 2 ∷ 2
+    ∷ 0x09 ∷ 0 ∷ 2
+    ∷ 0x0A ∷ 0 ∷ 2
+    ∷ 0x0C ∷ 0 ∷ 2 ∷ 2 ∷ 0
+    ∷ 0x0D ∷ 0 ∷ 2 ∷ 0 ∷ 2 ∷ 0 ∷ 2
+    ∷ 0x0E ∷ 0 ∷ 2
+    ∷ [])
+    45
+    0
+    45
+    (0x03 ∷ 0 ∷ 2
+    ∷ 0x04 ∷ 2 ∷ 0
+    ∷ 0x05 ∷ 0 ∷ 2 ∷ 2 ∷ 0
+    ∷ 0x06 ∷ 0 ∷ 2 ∷ 2 ∷ 0
+    ∷ 0x07 ∷ 0 ∷ 2 ∷ 2 ∷ 0
+    ∷ 0x08 ∷ 2 ∷ 2
+    ∷ 0x09 ∷ 0 ∷ 2
+    ∷ 0x0A ∷ 0 ∷ 2
+    ∷ 0x0C ∷ 0 ∷ 2 ∷ 2 ∷ 0
+    ∷ 0x0D ∷ 0 ∷ 2 ∷ 0 ∷ 2 ∷ 0 ∷ 2
+    ∷ 0x0E ∷ 0 ∷ 2
+    ∷ [])
+    -- spans are numbered apart from the commands between them, and their ends stay in their order
+    ∷ rewriteCall
+    (0x01 ∷ 0x01 ∷ 0x02 ∷ 0 ∷ 0 ∷ 0 ∷ 1 ∷ 0x08 ∷ 0 ∷ 0 ∷ 0x0F ∷ 0x02 ∷ 0 ∷ 1 ∷ 0 ∷ 0 ∷ [])
+    100
+    0
+    16
+    (0x01 ∷ 0x01 ∷ 0x0B ∷ 0 ∷ 0 ∷ 0 ∷ 1 ∷ 0 ∷ 1 ∷ 0x08 ∷ 0 ∷ 0 ∷ 0x0F ∷ 0x0B ∷ 0 ∷ 1 ∷ 0 ∷ 0 ∷ 0 ∷ 2 ∷ [])
+    -- spans that a run refuses, with 8 and with 6, count too
+    ∷ rewriteCall
+    (0x01 ∷ 0x02 ∷ 0 ∷ 0 ∷ 0 ∷ 0 ∷ 0x02 ∷ 0 ∷ 0 ∷ 0 ∷ 1 ∷ 0x01 ∷ 0x02 ∷ 0 ∷ 0 ∷ 0 ∷ 1 ∷ [])
+    100
+    0
+    17
+    (0x01
+    ∷ 0x0B ∷ 0 ∷ 0 ∷ 0 ∷ 0 ∷ 0 ∷ 1
+    ∷ 0x0B ∷ 0 ∷ 0 ∷ 0 ∷ 1 ∷ 0 ∷ 2
+    ∷ 0x01
+    ∷ 0x0B ∷ 0 ∷ 0 ∷ 0 ∷ 1 ∷ 0 ∷ 3
+    ∷ [])
+    -- ducts 255 and 256
+    ∷ rewriteCall (spans02 256) 1792 0 1280 (spans0B 255 ++ 0x0B ∷ 0 ∷ 0 ∷ 0 ∷ 1 ∷ 1 ∷ 0 ∷ [])
+    -- 3: a journal too long, of bytes that are no command's, with room for no byte
+    ∷ rewriteCall (replicate 65537 0x00) 0 3 0 []
+    -- 4: an unknown byte, alone, and behind a command that a run refuses with 7, with room for no byte
+    ∷ rewriteCall (0x00 ∷ []) 9 4 0 []
+    ∷ rewriteCall (0x08 ∷ 0 ∷ 5 ∷ 0x10 ∷ []) 0 4 3 []
+    -- 5: operands cut off, alone, and behind a command that a run refuses with 8, with room for no byte
+    ∷ rewriteCall (0x02 ∷ 0 ∷ 0 ∷ []) 9 5 0 []
+    ∷ rewriteCall (0x01 ∷ 0x02 ∷ 0 ∷ 0 ∷ 0 ∷ 0 ∷ 0x02 ∷ 0 ∷ 0 ∷ 0 ∷ []) 0 5 6 []
+    -- 4 and 5 behind 0B, and 5 for a 0B that is cut off
+    ∷ rewriteCall (0x0B ∷ 0 ∷ 0 ∷ 0 ∷ 1 ∷ 0 ∷ 5 ∷ 0xFF ∷ []) 9 4 7 []
+    ∷ rewriteCall (0x0B ∷ 0 ∷ 0 ∷ 0 ∷ 1 ∷ 0 ∷ 5 ∷ 0x03 ∷ 0 ∷ []) 9 5 7 []
+    ∷ rewriteCall (0x0B ∷ 0 ∷ 0 ∷ 0 ∷ 1 ∷ 0 ∷ []) 9 5 0 []
+    -- 15: at the first of two 0B; also one in duct 0, with room for no byte
+    ∷ rewriteCall (0x01 ∷ 0x02 ∷ 0 ∷ 0 ∷ 0 ∷ 1 ∷ 0x0B ∷ 0 ∷ 0 ∷ 0 ∷ 1 ∷ 0 ∷ 5 ∷ 0x0B ∷ 0 ∷ 0 ∷ 0 ∷ 1 ∷ 0 ∷ 5 ∷ []) 100 15 6 []
+    ∷ rewriteCall (0x0B ∷ 0 ∷ 0 ∷ 0 ∷ 0 ∷ 0 ∷ 0 ∷ []) 0 15 0 []
+    -- 16: the result is longer, by one byte, than the output buffer, and one byte more of it suffices
+    ∷ rewriteCall (0x01 ∷ []) 0 16 0 []
+    ∷ rewriteCall (0x01 ∷ 0x02 ∷ 0 ∷ 0 ∷ 0 ∷ 1 ∷ []) 7 16 0 []
+    ∷ rewriteCall (0x01 ∷ 0x02 ∷ 0 ∷ 0 ∷ 0 ∷ 1 ∷ []) 8 0 6 (0x01 ∷ 0x0B ∷ 0 ∷ 0 ∷ 0 ∷ 1 ∷ 0 ∷ 1 ∷ [])
+    -- a journal of 65,536 bytes, without 02, and so a result of as many; and a result of 65,537, whatever the room
+    ∷ rewriteCall (0x01 ∷ 0x01 ∷ replicate 65534 0x0D) 65536 0 65536 (0x01 ∷ 0x01 ∷ replicate 65534 0x0D)
+    ∷ rewriteCall (0x01 ∷ 0x01 ∷ 0x01 ∷ 0x02 ∷ 0 ∷ 0 ∷ 0 ∷ 1 ∷ replicate 65527 0x0D) 70000 16 0 []
     ∷ []

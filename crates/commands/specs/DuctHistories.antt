@@ -1,4 +1,4 @@
--- Histories with ducts (request 3), worked out from document 02: journals with what the program writes for them, and the report.
+-- Histories with ducts (requests 3 and 7), worked out from document 02: journals with what the program writes for them, and the report.
 use mathlib.Core.Bool.{true, false}
 use mathlib.Core.List.{List, [], _∷_}
 use Rattle.commands.specs.Command.{addCabinet, addSpan, addDuctSpan, ringName, sharedMesh, soleSpans, cutCabinets, isSole}
@@ -75,7 +75,7 @@ twoInTwoDucts =
       report = 0 ∷ 32 ∷ 8 ∷ 42 ∷ 2 ∷ 2 ∷ [];
     }
 
--- A span of 02 has no mate: beside it a span in a duct makes one ring, and a mate of that one changes nothing.
+-- A span of 02 is no mate of a span in a duct: beside it that one makes one ring, and a mate of that one changes nothing.
 unfoldable pub besideADuct : History
 besideADuct =
     record {
@@ -227,6 +227,77 @@ greatestDuct =
       report = 0 ∷ 19 ∷ 5 ∷ 27 ∷ 2 ∷ 2 ∷ [];
     }
 
+-- Spans of 02 between one pair, in either direction, are mates: both sole, and 06 lists the lesser. A span in duct 1 beside them makes one
+-- ring.
+unfoldable pub twoWithNoDuctTold : History
+twoWithNoDuctTold =
+    record {
+      input =
+          journalBytes
+          (addCabinet
+          ∷ addCabinet
+          ∷ addSpan 0 1
+          ∷ addSpan 1 0
+          ∷ ringName 1
+          ∷ isSole 0
+          ∷ isSole 1
+          ∷ soleSpans 0 1
+          ∷ soleSpans 1 0
+          ∷ addDuctSpan 0 1 1
+          ∷ isSole 0
+          ∷ soleSpans 0 1
+          ∷ []);
+      output =
+          output
+          (cabinetAdded 0
+          ∷ cabinetAdded 1
+          ∷ spanAdded 0 0 (notice district 1 0 ∷ [])
+          ∷ spanAdded 1 0 []
+          ∷ plain (ringNamed 1)
+          ∷ plain (soleIs true)
+          ∷ plain (soleIs true)
+          ∷ plain (soleSpansAre (0 ∷ []))
+          ∷ plain (soleSpansAre (0 ∷ []))
+          ∷ spanAdded 2 0 (notice ring 1 0 ∷ [])
+          ∷ plain (soleIs false)
+          ∷ plain (soleSpansAre [])
+          ∷ [])
+          accepted;
+      report = 0 ∷ 46 ∷ 12 ∷ 59 ∷ 2 ∷ 3 ∷ [];
+    }
+
+-- A loop of spans of 02 closes around two that are mates, and a mate more is entered after it.
+unfoldable pub loopWithNoDuctTold : History
+loopWithNoDuctTold =
+    record {
+      input =
+          journalBytes
+          (addCabinet
+          ∷ addCabinet
+          ∷ addCabinet
+          ∷ addSpan 0 1
+          ∷ addSpan 1 0
+          ∷ addSpan 1 2
+          ∷ addSpan 2 0
+          ∷ addSpan 0 1
+          ∷ isSole 4
+          ∷ []);
+      output =
+          output
+          (cabinetAdded 0
+          ∷ cabinetAdded 1
+          ∷ cabinetAdded 2
+          ∷ spanAdded 0 0 (notice district 1 0 ∷ [])
+          ∷ spanAdded 1 0 []
+          ∷ spanAdded 2 2 (notice district 2 0 ∷ [])
+          ∷ spanAdded 3 0 (notice ring 1 0 ∷ notice ring 2 0 ∷ notice mesh 2 0 ∷ [])
+          ∷ spanAdded 4 0 []
+          ∷ plain (soleIs false)
+          ∷ [])
+          accepted;
+      report = 0 ∷ 31 ∷ 9 ∷ 71 ∷ 3 ∷ 5 ∷ [];
+    }
+
 -- A span in duct 0: 13.
 unfoldable pub inNoDuct : History
 inNoDuct =
@@ -245,5 +316,7 @@ ductHistories =
     ∷ measuredInSpans
     ∷ oneNumberAtTwoPairs
     ∷ greatestDuct
+    ∷ twoWithNoDuctTold
+    ∷ loopWithNoDuctTold
     ∷ inNoDuct
     ∷ []

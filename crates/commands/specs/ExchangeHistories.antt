@@ -1,7 +1,7 @@
 -- Histories with exchanges (request 2), worked out from document 02: journals with what the program writes for them, and the report.
 use mathlib.Core.Bool.{true, false}
 use mathlib.Core.List.{List, [], _∷_}
-use Rattle.commands.specs.Command.{addCabinet, addSpan, markExchange, holdsExchange, exchangeShare}
+use Rattle.commands.specs.Command.{addCabinet, addSpan, markExchange, holdsExchange, addDuctSpan, exchangeShare}
 use Rattle.commands.specs.Field.{district, ring, mesh}
 use Rattle.commands.specs.Answer.{cabinetAdded, spanAdded, plain, exchangeMarked, exchangeHeld, shareIs}
 use Rattle.commands.specs.Text.{journalBytes}
@@ -18,10 +18,10 @@ exchangeInOneOfTwoRings =
           ∷ addCabinet
           ∷ addCabinet
           ∷ addCabinet
-          ∷ addSpan 0 1
-          ∷ addSpan 0 1
-          ∷ addSpan 2 3
-          ∷ addSpan 2 3
+          ∷ addDuctSpan 0 1 1
+          ∷ addDuctSpan 0 1 2
+          ∷ addDuctSpan 2 3 1
+          ∷ addDuctSpan 2 3 2
           ∷ markExchange 2
           ∷ holdsExchange 0
           ∷ holdsExchange 3
@@ -58,7 +58,7 @@ exchangeInOneOfTwoRings =
           ∷ plain (shareIs 1000)
           ∷ [])
           accepted;
-      report = 0 ∷ 54 ∷ 18 ∷ 126 ∷ 4 ∷ 6 ∷ [];
+      report = 0 ∷ 62 ∷ 18 ∷ 126 ∷ 4 ∷ 6 ∷ [];
     }
 
 -- Three cabinets in a ring and one beside it in the same district, an exchange in the ring: 3 of 4 cabinets, and so with a second one there.

@@ -1,9 +1,10 @@
--- The histories of document 01 that are proved (marked † there): journals with what the program writes for them, and the report.
-use mathlib.Core.Bool.{true, false}
+-- The histories of document 01 that are proved (marked † there), as request 7 has them: journals with what the program writes for them, and
+-- the report.
+use mathlib.Core.Bool.{true}
 use mathlib.Core.List.{List, [], _∷_, _++_}
 use mathlib.Core.Path.{_≡_}
 use Prim.Native.Nat.{ℕ}
-use Rattle.commands.specs.Command.{addCabinet, addSpan, districtName, ringName, sharedMesh, soleSpans, cutCabinets, isSole}
+use Rattle.commands.specs.Command.{Command, addCabinet, addSpan, districtName, ringName, sharedMesh, soleSpans, cutCabinets, isSole, addDuctSpan}
 use Rattle.commands.specs.Field.{Kind, district, ring, mesh}
 use Rattle.commands.specs.Answer.{Notice, Answer, cabinetAdded, spanAdded, plain, districtNamed, ringNamed, meshShared, noMeshShared, soleSpansAre, cutCabinetsAre, soleIs, answerBytes}
 use Rattle.commands.specs.Text.{journalBytes}
@@ -101,7 +102,7 @@ oneSpan =
       report = 0 ∷ 27 ∷ 9 ∷ 36 ∷ 2 ∷ 1 ∷ [];
     }
 
--- Two cabinets, two spans: ring 0, mesh 0, neither span sole.
+-- Two cabinets, two spans: rings 0 and 1, mesh 0, both spans sole; 06 lists the lesser. (Request 7: they lie in one duct.)
 unfoldable pub twoSpans : History
 twoSpans =
     record {
@@ -116,21 +117,23 @@ twoSpans =
           ∷ sharedMesh 0 1
           ∷ isSole 0
           ∷ isSole 1
+          ∷ soleSpans 0 1
           ∷ []);
       output =
           output
           (cabinetAdded 0
           ∷ cabinetAdded 1
           ∷ spanAdded 0 0 (notice district 1 0 ∷ [])
-          ∷ spanAdded 1 0 (notice ring 1 0 ∷ [])
+          ∷ spanAdded 1 0 []
           ∷ plain (ringNamed 0)
-          ∷ plain (ringNamed 0)
+          ∷ plain (ringNamed 1)
           ∷ plain (meshShared 0)
-          ∷ plain (soleIs false)
-          ∷ plain (soleIs false)
+          ∷ plain (soleIs true)
+          ∷ plain (soleIs true)
+          ∷ plain (soleSpansAre (0 ∷ []))
           ∷ [])
           accepted;
-      report = 0 ∷ 29 ∷ 9 ∷ 44 ∷ 2 ∷ 2 ∷ [];
+      report = 0 ∷ 34 ∷ 10 ∷ 44 ∷ 2 ∷ 2 ∷ [];
     }
 
 -- Chain 0-1, 1-2: sole spans from 0 to 2 are 0, 1; from 2 to 0 they are 1, 0; cut cabinet 1.
@@ -165,8 +168,8 @@ chain =
       report = 0 ∷ 33 ∷ 9 ∷ 57 ∷ 3 ∷ 2 ∷ [];
     }
 
--- Spans 1-2, 1-2, 0-1, 0-1: all three cabinets in ring 1; meshes 0 and 2; 0 and 2 share no mesh; no sole span between them, cut
--- cabinet 1.
+-- Spans 1-2, 1-2, 0-1, 0-1, those of each pair in ducts 1 and 2: all three cabinets in ring 1; meshes 0 and 2; 0 and 2 share no mesh; no
+-- sole span between them, cut cabinet 1.
 unfoldable pub twoMeshes : History
 twoMeshes =
     record {
@@ -175,10 +178,10 @@ twoMeshes =
           (addCabinet
           ∷ addCabinet
           ∷ addCabinet
-          ∷ addSpan 1 2
-          ∷ addSpan 1 2
-          ∷ addSpan 0 1
-          ∷ addSpan 0 1
+          ∷ addDuctSpan 1 2 1
+          ∷ addDuctSpan 1 2 2
+          ∷ addDuctSpan 0 1 1
+          ∷ addDuctSpan 0 1 2
           ∷ ringName 0
           ∷ ringName 1
           ∷ ringName 2
@@ -207,45 +210,51 @@ twoMeshes =
           ∷ plain (cutCabinetsAre (1 ∷ []))
           ∷ [])
           accepted;
-      report = 0 ∷ 57 ∷ 15 ∷ 86 ∷ 3 ∷ 4 ∷ [];
+      report = 0 ∷ 65 ∷ 15 ∷ 86 ∷ 3 ∷ 4 ∷ [];
     }
 
--- Spans 0-1, 0-1, 2-3, 2-3, 1-2, 0-3: the last sends ring notices for cabinets 2 and 3 and mesh notices for spans 2, 3 and 4, all to
--- name 0.
+-- Spans 0-1, 0-1, 2-3, 2-3, 1-2, 0-3, those of 0-1 and of 2-3 in ducts 1 and 2: the last sends ring notices for cabinets 2 and 3 and mesh
+-- notices for spans 2, 3 and 4, all to name 0. The two single spans with no duct told, and once more in duct 1.
+unfoldable pub twoRings : List Command
+twoRings =
+    addCabinet
+    ∷ addCabinet
+    ∷ addCabinet
+    ∷ addCabinet
+    ∷ addDuctSpan 0 1 1
+    ∷ addDuctSpan 0 1 2
+    ∷ addDuctSpan 2 3 1
+    ∷ addDuctSpan 2 3 2
+    ∷ []
+
+unfoldable pub joiningAnswers : List Answer
+joiningAnswers =
+    cabinetAdded 0
+    ∷ cabinetAdded 1
+    ∷ cabinetAdded 2
+    ∷ cabinetAdded 3
+    ∷ spanAdded 0 0 (notice district 1 0 ∷ [])
+    ∷ spanAdded 1 0 (notice ring 1 0 ∷ [])
+    ∷ spanAdded 2 2 (notice district 3 2 ∷ [])
+    ∷ spanAdded 3 2 (notice ring 3 2 ∷ [])
+    ∷ spanAdded 4 4 (notice district 2 0 ∷ notice district 3 0 ∷ [])
+    ∷ spanAdded 5 0 (notice ring 2 0 ∷ notice ring 3 0 ∷ notice mesh 2 0 ∷ notice mesh 3 0 ∷ notice mesh 4 0 ∷ [])
+    ∷ []
+
 unfoldable pub twoRingsJoined : History
 twoRingsJoined =
     record {
-      input =
-          journalBytes
-          (addCabinet
-          ∷ addCabinet
-          ∷ addCabinet
-          ∷ addCabinet
-          ∷ addSpan 0 1
-          ∷ addSpan 0 1
-          ∷ addSpan 2 3
-          ∷ addSpan 2 3
-          ∷ addSpan 1 2
-          ∷ addSpan 0 3
-          ∷ []);
-      output =
-          output
-          (cabinetAdded 0
-          ∷ cabinetAdded 1
-          ∷ cabinetAdded 2
-          ∷ cabinetAdded 3
-          ∷ spanAdded 0 0 (notice district 1 0 ∷ [])
-          ∷ spanAdded 1 0 (notice ring 1 0 ∷ [])
-          ∷ spanAdded 2 2 (notice district 3 2 ∷ [])
-          ∷ spanAdded 3 2 (notice ring 3 2 ∷ [])
-          ∷ spanAdded 4 4 (notice district 2 0 ∷ notice district 3 0 ∷ [])
-          ∷ spanAdded
-          5
-          0
-          (notice ring 2 0 ∷ notice ring 3 0 ∷ notice mesh 2 0 ∷ notice mesh 3 0 ∷ notice mesh 4 0 ∷ [])
-          ∷ [])
-          accepted;
-      report = 0 ∷ 34 ∷ 10 ∷ 109 ∷ 4 ∷ 6 ∷ [];
+      input = journalBytes (twoRings ++ addSpan 1 2 ∷ addSpan 0 3 ∷ []);
+      output = output joiningAnswers accepted;
+      report = 0 ∷ 42 ∷ 10 ∷ 109 ∷ 4 ∷ 6 ∷ [];
+    }
+
+unfoldable pub twoRingsJoinedInDucts : History
+twoRingsJoinedInDucts =
+    record {
+      input = journalBytes (twoRings ++ addDuctSpan 1 2 1 ∷ addDuctSpan 0 3 1 ∷ []);
+      output = output joiningAnswers accepted;
+      report = 0 ∷ 46 ∷ 10 ∷ 109 ∷ 4 ∷ 6 ∷ [];
     }
 
 -- One cabinet, 06 0 0: empty list.
@@ -299,6 +308,7 @@ histories =
     ∷ chain
     ∷ twoMeshes
     ∷ twoRingsJoined
+    ∷ twoRingsJoinedInDucts
     ∷ fromItselfToItself
     ∷ spanToItself
     ∷ spanToNowhere

@@ -13,6 +13,7 @@ pub mod Entry
 pub mod Register
 pub mod Ducts
 pub mod Forecast
+pub mod Rewrite
 pub mod Decode
 pub mod NameList
 pub mod WholeRun
@@ -21,4 +22,5 @@ pub mod ExchangeHistories
 pub mod DuctHistories
 pub mod RouteHistories
 pub mod SurveyHistories
+pub mod RewriteHistories
 pub mod Calls

@@ -28,6 +28,8 @@ pub data Refusal : Type 0 where
   alreadyExchange : Refusal
   noDuct : Refusal
   noSharedRing : Refusal
+  ductTold : Refusal
+  longResult : Refusal
 
 unfoldable pub refusalNumber : Refusal → ℕ
 refusalNumber badCapacity = 1
@@ -44,6 +46,8 @@ refusalNumber noRoom = 11
 refusalNumber alreadyExchange = 12
 refusalNumber noDuct = 13
 refusalNumber noSharedRing = 14
+refusalNumber ductTold = 15
+refusalNumber longResult = 16
 
 -- A line of the table: whether its cause is there, and its refusal.
 pub record Line : Type 0 where

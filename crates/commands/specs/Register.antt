@@ -2,7 +2,7 @@
 use mathlib.Core.List.{List, [], _∷_, _++_}
 use mathlib.Core.Option.{Option, none, some}
 use Prim.Native.Nat.{ℕ}
-use Rattle.graph.specs.Network.{Rule, sameDuct}
+use Rattle.graph.specs.Network.{Rule, oneDuct}
 use Rattle.graph.specs.Route.{Choice}
 use Rattle.ways.specs.TwoRoutes.{twoRoutes}
 use Rattle.commands.specs.Bytes.{fourBytes}
@@ -10,9 +10,9 @@ use Rattle.commands.specs.Refusal.{Refusal, Capacities, refusalNumber}
 use Rattle.commands.specs.Run.{bytesOfAnswers, placeAfter}
 use Rattle.commands.specs.Entry.{Whole, refusedAtStart, ran, Buffers, Outcome, wholeRun, workNeeded, reportOf, entryUnder}
 
--- A span is lost with the spans of its duct between the same two cabinets; a span in no duct is lost alone.
+-- A span is lost with the spans of its duct between the same two cabinets; those of 02, with no duct told, lie in one.
 unfoldable pub registerRule : Rule
-registerRule = sameDuct
+registerRule = oneDuct
 
 -- The routes that 0C is answered with: document 02 leaves open which.
 unfoldable pub registerRoutes : Choice

@@ -123,9 +123,10 @@ rungGivenBack =
       report = 0 ∷ 46 ∷ 14 ∷ 154 ∷ 6 ∷ 7 ∷ [];
     }
 
--- Spans 1-2, 1-2, 0-1, 0-1.
+-- Spans 1-2, 1-2, 0-1, 0-1, those of each pair in ducts 1 and 2.
 unfoldable pub twoMeshesSpans : List Command
-twoMeshesSpans = addCabinet ∷ addCabinet ∷ addCabinet ∷ addSpan 1 2 ∷ addSpan 1 2 ∷ addSpan 0 1 ∷ addSpan 0 1 ∷ []
+twoMeshesSpans =
+    addCabinet ∷ addCabinet ∷ addCabinet ∷ addDuctSpan 1 2 1 ∷ addDuctSpan 1 2 2 ∷ addDuctSpan 0 1 1 ∷ addDuctSpan 0 1 2 ∷ []
 
 -- Two meshes that meet at cut cabinet 1: both routes pass through it. Either span of 0-1 goes on with either of 1-2; the register gives the
 -- two later ones, and then the two earlier ones.
@@ -146,7 +147,7 @@ routesThroughCut =
           ∷ plain (routesAre (3 ∷ 1 ∷ []) (2 ∷ 0 ∷ []))
           ∷ [])
           accepted;
-      report = 0 ∷ 33 ∷ 9 ∷ 75 ∷ 3 ∷ 4 ∷ [];
+      report = 0 ∷ 41 ∷ 9 ∷ 75 ∷ 3 ∷ 4 ∷ [];
     }
 
 -- Two mates and a span beside them: the span is one route, and either mate the other. The register gives the later mate.
@@ -208,13 +209,25 @@ onlyMates =
       report = 14 ∷ 16 ∷ 4 ∷ 25 ∷ 2 ∷ 2 ∷ [];
     }
 
+-- So it is with spans of 02 alone.
+unfoldable pub onlyWithNoDuctTold : History
+onlyWithNoDuctTold =
+    record {
+      input = journalBytes (addCabinet ∷ addCabinet ∷ addSpan 0 1 ∷ addSpan 1 0 ∷ routesBetween 0 1 ∷ []);
+      output =
+          output
+          (cabinetAdded 0 ∷ cabinetAdded 1 ∷ spanAdded 0 0 (notice district 1 0 ∷ []) ∷ spanAdded 1 0 [] ∷ [])
+          (refusedWith 14 12);
+      report = 14 ∷ 12 ∷ 4 ∷ 25 ∷ 2 ∷ 2 ∷ [];
+    }
+
 -- Two rings of one district: 14.
 unfoldable pub acrossRings : History
 acrossRings =
     record {
       input =
           journalBytes
-          (addCabinet ∷ addCabinet ∷ addCabinet ∷ addSpan 0 1 ∷ addSpan 0 1 ∷ addSpan 1 2 ∷ routesBetween 0 2 ∷ []);
+          (addCabinet ∷ addCabinet ∷ addCabinet ∷ addDuctSpan 0 1 1 ∷ addDuctSpan 0 1 2 ∷ addSpan 1 2 ∷ routesBetween 0 2 ∷ []);
       output =
           output
           (cabinetAdded 0
@@ -224,8 +237,8 @@ acrossRings =
           ∷ spanAdded 1 0 (notice ring 1 0 ∷ [])
           ∷ spanAdded 2 2 (notice district 2 0 ∷ [])
           ∷ [])
-          (refusedWith 14 18);
-      report = 14 ∷ 18 ∷ 6 ∷ 45 ∷ 3 ∷ 3 ∷ [];
+          (refusedWith 14 22);
+      report = 14 ∷ 22 ∷ 6 ∷ 45 ∷ 3 ∷ 3 ∷ [];
     }
 
 -- Two districts: 14, and not 10.
@@ -272,6 +285,7 @@ routeHistories =
     ∷ routeBesideMates
     ∷ matesOnTheWay
     ∷ onlyMates
+    ∷ onlyWithNoDuctTold
     ∷ acrossRings
     ∷ routesAcrossDistricts
     ∷ routesToItself

@@ -164,7 +164,7 @@ eachSpanItsOwn =
           journalBytes
           (oneSpan
           (recordLength 0 4 40
-          ∷ addSpan 1 0
+          ∷ addDuctSpan 1 0 1
           ∷ spanLength 1
           ∷ recordLength 1 3 30
           ∷ spanLength 0
@@ -185,7 +185,7 @@ eachSpanItsOwn =
           ∷ plain (lengthIs 40)
           ∷ []))
           accepted;
-      report = 0 ∷ 39 ∷ 11 ∷ 51 ∷ 3 ∷ 2 ∷ [];
+      report = 0 ∷ 41 ∷ 11 ∷ 51 ∷ 3 ∷ 2 ∷ [];
     }
 
 -- A span in a duct is measured before its mate is entered: the two are mates all the same, both sole, and 06 lists the lesser. The mate has no

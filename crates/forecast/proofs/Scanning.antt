@@ -6,7 +6,7 @@ use mathlib.Core.Path.{_≡_, sym, _∙_, ap, ap₂}
 use Prim.Native.Nat.{ℕ, suc, _+_, _*_, _≤_, _<_}
 use native.Mathlib.Nat.{add-zero, zero-add}
 use native.Mathlib.Omega.{arith}
-use lib.ListN.{length, getD, drop}
+use lib.ListN.{length}
 use Rattle.graph.proofs.Truth.{ge-ltb}
 use Rattle.naming.specs.Book.{Addition}
 use Rattle.commands.specs.Command.{Command, commandByte}
@@ -15,11 +15,10 @@ use Rattle.commands.specs.Refusal.{Refusal, badByte, cutOperands, refusalNumber
 use Rattle.commands.specs.Text.{Read, Text, endsWith, followedBy, textOf, placeBehind}
 use Rattle.commands.specs.Forecast.{isCabinet, isSpan, countAdding, cabinetCommands, spanCommands, plainLengths, lengthFor, sufficient}
 use Rattle.commands.specs.Forecast.{Forecast, noForecast, forecastText, forecast}
-use Rattle.commands.proofs.ReadFront.{byte-of-read}
 use Rattle.commands.proofs.Report.{count-one}
-use Rattle.commands.proofs.TextAt.{textHere, readingHere, text-at-end, text-at-unknown, text-at-cut-off, text-at-command, operands-stand}
-use Rattle.reading.specs.Inside.Reads.{Passing, noCommand, cutShort, whole, passOver}
-use Rattle.reading.proofs.ReadSteps.{CommandPassed, command-passed, unknown-passed, cut-passed}
+use Rattle.commands.proofs.TextAt.{textHere, text-at-end}
+use Rattle.reading.specs.Inside.Reads.{noCommand, cutShort, whole}
+use Rattle.reading.proofs.PassedAt.{passingHere, text-at-no-command, text-at-cut-short, command-here, its-own-byte, operands-here, text-goes-on-behind}
 use Rattle.forecast.specs.declared.Tally.{Tally}
 use Rattle.forecast.specs.Inside.Tallies.{plainLength, countedBy, Counted, lengthOf, lengthWith, forecastWith, CountedTo}
 use Rattle.forecast.proofs.Counting.{counted-by-byte, byte-in-tables}
@@ -111,51 +110,42 @@ module _ {journal : List ℕ} {t : Tally} {place : ℕ} (so-far : CountedTo jour
   refused-here q e n p = rw (n, p) (rw (add-zero place) at (leads-from e))
 
   module _ (at-command : place < length journal) where
-    -- what is known there of the reading, the operands passed over
-    abbrev passingHere : Passing
-    passingHere = passOver (getD journal place 0) (readingHere journal place)
-
     -- an unknown byte
-    pub unknown-here : {number at : ℕ} → noCommand ≡ passingHere → number ≡ 4 → at ≡ place
+    pub unknown-here : {number at : ℕ} → noCommand ≡ passingHere journal place at-command → number ≡ 4 → at ≡ place
         → record { number = number; place = at; length = 0 } ≡ forecast journal
     unfolding refusalNumber
-    unknown-here e = refused-here badByte (text-at-unknown journal place at-command (unknown-passed _ _ e))
+    unknown-here e = refused-here badByte (text-at-no-command journal place at-command e)
 
     -- cut-off operands
-    pub cut-off-here : {number at : ℕ} → cutShort ≡ passingHere → number ≡ 5 → at ≡ place
+    pub cut-off-here : {number at : ℕ} → cutShort ≡ passingHere journal place at-command → number ≡ 5 → at ≡ place
         → record { number = number; place = at; length = 0 } ≡ forecast journal
     unfolding refusalNumber
-    cut-off-here e = refused-here cutOperands (text-at-cut-off journal place at-command (cut-passed _ _ e))
+    cut-off-here e = refused-here cutOperands (text-at-cut-short journal place at-command e)
 
     -- A command with this byte and so many bytes of operands.
-    module _ (byte width : ℕ) (passed : whole byte width ≡ passingHere) where
-      command-here : CommandPassed (getD journal place 0) (readingHere journal place) byte width
-      command-here = command-passed _ _ byte width passed
+    module _ (byte width : ℕ) (passed : whole byte width ≡ passingHere journal place at-command) where
+      abbrev this : Command
+      this = command-here journal place at-command byte width passed .this
 
-      its-own-byte : commandByte (command-here .this) ≡ byte
-      its-own-byte =
-          byte-of-read (getD journal place 0) (drop (place + 1) journal) (command-here .this) width (command-here .is-read)
-          ∙ sym (command-here .its-byte)
+      own : commandByte this ≡ byte
+      own = its-own-byte journal place at-command byte width passed
 
-      -- its operands stand in the journal, and the tables have its byte
-      pub operands-here : place + 1 + width ≤ length journal
-      operands-here = operands-stand journal place at-command (command-here .this) width (command-here .is-read)
-
+      -- the tables have its byte
       pub byte-here : byte ≤ 15
-      byte-here = omega (arith, its-own-byte, byte-in-tables (command-here .this))
+      byte-here = omega (arith, own, byte-in-tables this)
 
       -- with it in the tally, the journal is counted up to the place behind it
       pub counted-behind : CountedTo journal (countedBy byte t) (place + 1 + width)
       counted-behind =
-          let read : Read = record { command = command-here .this; place = place; width = width } in
+          let read : Read = record { command = this; place = place; width = width } in
           let behind = textHere journal (place + 1 + width) in
           record {
-            in-journal = operands-here;
+            in-journal = operands-here journal place at-command byte width passed;
             few = omega (arith, counts .grows (5 * place) (so-far .few));
             leads =
                 sym (forecast-same read counts place (length journal) behind)
-                ∙ leads-from (text-at-command journal place at-command (command-here .this) width (command-here .is-read));
+                ∙ leads-from (text-goes-on-behind journal place at-command byte width passed);
           }
         where
-          counts : Counted t (countedBy byte t) (facts (command-here .this))
-          counts = rw its-own-byte at (counted-by-byte {t = t} (command-here .this))
+          counts : Counted t (countedBy byte t) (facts this)
+          counts = rw own at (counted-by-byte {t = t} this)

@@ -1,8 +1,8 @@
 -- The path that is written down: which bridge-blocks one edge more between its ends makes one, those of all its vertices, or none where
 -- the new edge lies in the duct of the path's only step.
-use mathlib.Core.Bool.{Bool, true, false, not, cond, _&&_, _||_, or-false}
+use mathlib.Core.Bool.{Bool, true, false, cond, _&&_, _||_, or-false}
 use mathlib.Core.List.{List, [], _∷_, map}
-use mathlib.Core.Logic.{_⊎_, inl, inr, ⊎-elim, _≢_}
+use mathlib.Core.Logic.{_⊎_, inl, inr, ⊎-elim}
 use mathlib.Core.Path.{_≡_, sym, _∙_, ap, ap₂, subst}
 use Prim.Native.Nat.{ℕ, suc, _+_, _≤_, _<_}
 use native.Mathlib.Numerals.{add-one}
@@ -10,12 +10,12 @@ use native.Mathlib.Omega.{arith}
 use lib.Dec.{eqb}
 use lib.ListN.{length, getD}
 use Rattle.graph.specs.Below.{tabulate, length-tabulate}
-use Rattle.graph.specs.Network.{Network, Edge, edgeInDuct, parallel, Rule, sameDuct, edge}
+use Rattle.graph.specs.Network.{Network, Edge, edgeInDuct, parallel, Rule, oneDuct, edge}
 use Rattle.graph.specs.Groups.{bridgeBlock}
 use Rattle.graph.specs.Cycle.{Step}
 use Rattle.graph.specs.BlockPath.{BlockPath}
-use Rattle.graph.proofs.Truth.{true-or-false, not-both, bool-ext, false-of-not, not-of-false, false-of-not-true, and-left, and-right, and-both, or-cases, or-left, eqb-eq, eqb-ne, eq-eqb, ne-eqb}
-use Rattle.graph.proofs.Ducts.{same-duct, in-same-duct}
+use Rattle.graph.proofs.Truth.{true-or-false, not-both, bool-ext, false-of-not, and-left, and-right, and-both, or-cases, or-left, eqb-eq, eq-eqb}
+use Rattle.graph.proofs.Ducts.{one-duct, in-one-duct}
 use Rattle.graph.proofs.EdgeMoreBridgeBlocks.{onBridgeBlocks}
 use Rattle.graph.proofs.MateMore.{bridge-block-step-mate, bridge-block-edge-path}
 use Rattle.naming.specs.Rename.{Grouping}
@@ -65,7 +65,7 @@ module _ {new : EdgeToAdd} {t : List ℕ} {k : ℕ} (w : PathWritten new t k)
   first = pathEdge t limits 0
 
   -- the rule of mates is that of ducts
-  rule-is : before new .rule ≡ sameDuct
+  rule-is : before new .rule ≡ oneDuct
   unfolding networkOf
   rule-is = table-rule
 
@@ -84,31 +84,26 @@ module _ {new : EdgeToAdd} {t : List ℕ} {k : ℕ} (w : PathWritten new t k)
       known = w .edges-known 0 (w .some)
 
   -- so what the code tests is told by the network's edges
-  step-duct-is : inStepDuct t limits m k ≡ (eqb k 1 && not (eqb d 0) && eqb (edge g first .duct) d)
+  step-duct-is : inStepDuct t limits m k ≡ (eqb k 1 && eqb (edge g first .duct) d)
   unfolding inStepDuct
   step-duct-is = rw (duct-new, duct-first)
 
   -- where the test holds, the path has one step, whose edge lies in the new edge's duct
-  step-duct-parts : inStepDuct t limits m k ≡ true → (k ≡ 1) × (d ≢ 0) × (edge g first .duct ≡ d)
+  step-duct-parts : inStepDuct t limits m k ≡ true → (k ≡ 1) × (edge g first .duct ≡ d)
   step-duct-parts j = (
-    eqb-eq k 1 (and-left (eqb k 1) (not (eqb d 0)) both),
-    eqb-ne d 0 (false-of-not-true (eqb d 0) (and-right (eqb k 1) (not (eqb d 0)) both)),
-    eqb-eq (edge g first .duct) d (and-right (eqb k 1 && not (eqb d 0)) (eqb (edge g first .duct) d) all),
+    eqb-eq k 1 (and-left (eqb k 1) (eqb (edge g first .duct) d) both),
+    eqb-eq (edge g first .duct) d (and-right (eqb k 1) (eqb (edge g first .duct) d) both),
   )
     where
-      all : (eqb k 1 && not (eqb d 0) && eqb (edge g first .duct) d) ≡ true
-      all = sym step-duct-is ∙ j
-
-      both : (eqb k 1 && not (eqb d 0)) ≡ true
-      both = and-left (eqb k 1 && not (eqb d 0)) (eqb (edge g first .duct) d) all
+      both : (eqb k 1 && eqb (edge g first .duct) d) ≡ true
+      both = sym step-duct-is ∙ j
 
   -- so that edge is a mate of the new one wherever it is parallel to it
   step-duct-mate : inStepDuct t limits m k ≡ true → parallel (edge g first) (edgeOf new) ≡ true → g .rule (edge g first) (edgeOf new) ≡ true
   unfolding edgeInDuct
   step-duct-mate j p =
-      let c = step-duct-parts j in
       subst (λ (r : Rule). r (edge g first) (edgeOf new) ≡ true) (sym rule-is)
-      (in-same-duct (edge g first) (edgeOf new) (λ z. c .1 (sym (c .2) ∙ z)) (c .2) p)
+      (in-one-duct (edge g first) (edgeOf new) (step-duct-parts j .1) p)
 
   -- where it does not, the edge of the path's only step is no mate of it
   step-duct-none : inStepDuct t limits m k ≡ false → k ≡ 1 → g .rule (edge g first) (edgeOf new) ≡ false
@@ -116,11 +111,8 @@ module _ {new : EdgeToAdd} {t : List ℕ} {k : ℕ} (w : PathWritten new t k)
   step-duct-none j one =
       false-of-not (g .rule (edge g first) (edgeOf new))
       (λ r.
-      let c = same-duct (edge g first) (edgeOf new) (subst (λ (r : Rule). r (edge g first) (edgeOf new) ≡ true) rule-is r) in
-      not-both
-      (step-duct-is
-      ∙ and-both (and-both (eq-eqb k 1 one) (not-of-false (ne-eqb d 0 (λ z. c .0 (c .1 ∙ z))))) (eq-eqb (edge g first .duct) d (c .1)))
-      j)
+      let c = one-duct (edge g first) (edgeOf new) (subst (λ (r : Rule). r (edge g first) (edgeOf new) ≡ true) rule-is r) in
+      not-both (step-duct-is ∙ and-both (eq-eqb k 1 one) (eq-eqb (edge g first .duct) d (c .0))) j)
 
   -- the vertices of the path
   vertices-are : a ∷ map (λ p. p .to) steps ≡ verticesOf t limits (suc k)

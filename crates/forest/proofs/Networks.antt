@@ -6,7 +6,7 @@ use Rattle.graph.specs.Below.{length-tabulate}
 use Rattle.graph.specs.Network.{Network, edgeCount, MateRule}
 use Rattle.graph.specs.Groups.{component, bridgeBlock}
 use Rattle.graph.specs.Block.{block}
-use Rattle.graph.proofs.Ducts.{same-duct-mates}
+use Rattle.graph.proofs.Ducts.{one-duct-mates}
 use Rattle.graph.proofs.Mates.{component-refl, component-sym, component-trans}
 use Rattle.graph.proofs.BridgeBlock.{bridge-block-refl, bridge-block-sym, bridge-block-trans}
 use Rattle.graph.proofs.Block.{block-refl, block-sym, block-trans}
@@ -52,7 +52,7 @@ network-same limits n m t t′ same = rw (tabulate-same m (storedEdge t′ limit
 -- the table's rule is a rule of mates
 pub network-rule : (limits : Limits) (n m : ℕ) (t : List ℕ) → MateRule (networkOf limits n m t .rule)
 unfolding networkOf
-network-rule limits n m t = rw table-rule same-duct-mates
+network-rule limits n m t = rw table-rule one-duct-mates
 
 -- two books with the same network and the same three lists of names are one
 pub book-is : {b b′ : Book} → b .network ≡ b′ .network → b .components ≡ b′ .components → b .bridgeBlocks ≡ b′ .bridgeBlocks

@@ -1,6 +1,5 @@
 -- What a caller may say of the working table, and what the operations on it promise. `Holds`, `stateOf` and what is read from the table
 -- one item at a time are never opened outside this crate: a caller knows of them only what stands here.
-use mathlib.Core.Bool.{true}
 use mathlib.Core.List.{List}
 use mathlib.Core.Option.{Option, none, some}
 use mathlib.Core.Path.{_≡_, refl, _∙_}
@@ -8,7 +7,7 @@ use Prim.Native.Nat.{ℕ, suc, _+_, _*_, _≤_, _<_}
 use native.Mathlib.Omega.{arith}
 use lib.ListN.{length, drop}
 use Rattle.graph.specs.Below.{tabulate, length-tabulate}
-use Rattle.graph.specs.Network.{Network, edgeInDuct, Proper, edgeCount, mates}
+use Rattle.graph.specs.Network.{Network, edgeInDuct, Proper, edgeCount}
 use Rattle.graph.specs.Groups.{component, bridgeBlock}
 use Rattle.naming.specs.Rename.{Grouping, Change, nameOf, changesBetween}
 use Rattle.naming.specs.Book.{Book, vertex, edge}
@@ -181,10 +180,6 @@ pub record SurveyEntered (shape : Shape) (r : Survey) (old new : List ℕ) : Typ
 abbrev pub lengthGiven : Option Survey → Length
 lengthGiven none = H.Nothing
 lengthGiven (some r) = H.Metres (r .metres)
-
--- An edge has no mate beside itself.
-abbrev pub Alone : Network → ℕ → Type 0
-Alone g s = (r : ℕ) → r < edgeCount g → mates g s r ≡ true → s ≡ r
 
 -- The shared block, by its name, or that there is none.
 abbrev pub sharedName : List ℕ → Option ℕ → Shared

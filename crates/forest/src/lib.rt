@@ -14,7 +14,7 @@ ghost use Rattle.naming.specs.Rename.{size, nameOf};
 ghost use Rattle.naming.specs.Survey.{holding};
 ghost use Rattle.naming.specs.State.{marksWith};
 ghost use Rattle.forest.specs.Inside.Words.{groupArea};
-ghost use Rattle.forest.specs.Promise.{wordsNeeded, Holds, stateOf, bookIn, networkIn, Begun, VertexAdded, EdgeAdded, VertexMarked, SurveyEntered, lengthGiven, Alone, ListWritten};
+ghost use Rattle.forest.specs.Promise.{wordsNeeded, Holds, stateOf, bookIn, networkIn, Begun, VertexAdded, EdgeAdded, VertexMarked, SurveyEntered, lengthGiven, ListWritten};
 ghost use Rattle.forest.specs.Promise.{vertexNames, vertexGroups, vertexChangeAt, edgeChangeAt, sharedName, bridgeAt, cutAt};
 ghost use Rattle.forest.specs.Promise.{scratchWords, vertexScratch, edgeScratch, VertexScratchStored, EdgeScratchStored};
 
@@ -144,7 +144,7 @@ pub fn add_vertex(t: &mut [u32], shape: Shape)
     tree::grow_vertex(t, limits, Vertex(shape.vertices));
 }
 
-// Adds the next edge, between two different vertices, in a duct or in none.
+// Adds the next edge, between two different vertices, in a duct, which is 0 where none is told.
 pub fn add_edge(t: &mut [u32], shape: Shape, a: Vertex, b: Vertex, duct: Duct) -> Growth
     requires { ⌜ Holds shape (now t) × (shape .edges < shape .limits .edges) × (a .0 < shape .vertices) × (b .0 < shape .vertices) × (a .0 ≡ b .0 → ⊥) ⌝ }
     ensures { λ r. ⌜ EdgeAdded shape (a .0) (b .0) (duct .0) (now (t .entry)) (now (t .exit)) r ⌝ }
@@ -275,15 +275,6 @@ pub fn are_mates(t: &[u32], shape: Shape, s: Edge, other: Edge) -> bool
         return true;
     }
     query::lost_together(t, limits, s, other)
-}
-
-// Whether an edge may have mates beside itself: where not, it has none. It is quicker told than by a look at other edges.
-pub fn may_have_mates(t: &[u32], shape: Shape, s: Edge) -> bool
-    requires { ⌜ Holds shape (now t) × (s .0 < shape .edges) ⌝ }
-    ensures { λ r. ⌜ (r ≡ false → Alone (networkIn shape (now (t .entry))) (s .0)) ⌝ }
-{
-    let limits = shape.limits;
-    survey::duct_of(t, limits, s) != 0
 }
 
 // The block that has an edge at each of two different vertices.

@@ -67,11 +67,7 @@ fn ends_agree(ends: u32, other: u32) -> bool
 pub(crate) fn lost_together(t: &[u32], limits: Limits, s: Edge, other: Edge) -> bool
     ensures { λ r. ⌜ r ≡ lostTogether (now (t .entry)) limits (s .0) (other .0) ⌝ }
 {
-    let duct = duct_of(t, limits, s);
-    if duct == 0 {
-        return false;
-    }
-    if duct_of(t, limits, other) != duct {
+    if duct_of(t, limits, s) != duct_of(t, limits, other) {
         return false;
     }
     let ends = word(t, edge_area(limits), ENDS, s.0);

@@ -229,12 +229,8 @@ fn in_step_duct(t: &[u32], limits: Limits, e: Edge, steps: u32) -> bool
     if steps != 1 {
         return false;
     }
-    let duct = duct_of(t, limits, e);
-    if duct == 0 {
-        return false;
-    }
     let other = word(t, vertex_area(limits), PATH_EDGE, 0);
-    duct_of(t, limits, Edge(other)) == duct
+    duct_of(t, limits, Edge(other)) == duct_of(t, limits, e)
 }
 
 // How many of the path's vertices have their bridge-blocks merged: only the first, which changes nothing, where e lies in the step's duct.
@@ -292,7 +288,7 @@ fn store_edge(t: &mut [u32], limits: Limits, e: Edge, a: Vertex, b: Vertex, duct
     set_word(t, edge_area(limits), DUCT, e.0, duct.0 as u32);
 }
 
-// One edge more, between two different vertices, in a duct or in none.
+// One edge more, between two different vertices, in a duct, which is 0 where none is told.
 pub(crate) fn grow_edge(
     t: &mut [u32],
     limits: Limits,

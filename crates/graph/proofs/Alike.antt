@@ -14,6 +14,7 @@ use Rattle.graph.specs.Between.{leastMate, bridgesBetween, cutsBetween}
 use Rattle.graph.proofs.Truth.{bool-ext, eqb-swap}
 use Rattle.graph.proofs.Below.{any-below-same, least-below-same}
 use Rattle.graph.proofs.Mates.{parallel-carries, mates-refl, mates-swap}
+use Rattle.graph.proofs.Ducts.{parallel-sym}
 use Rattle.graph.proofs.Joined.{edge-count-more, edge-old, edge-new, old-or-new, each-edge-more}
 use Rattle.graph.proofs.MateLoss.{mates-old, mates-new}
 use Rattle.graph.proofs.Block.{block-refl, block-below}
@@ -27,6 +28,16 @@ pub record Alike (g h : Network) : Type 0 where
   pub as-many-edges : edgeCount h ≡ edgeCount g
   pub same-ends : (s : ℕ) → s < edgeCount g → parallel (edge h s) (edge g s) ≡ true
   pub same-mates : (s t : ℕ) → s < edgeCount g → t < edgeCount g → mates h s t ≡ mates g s t
+
+-- a network is like another that is like it
+pub alike-sym : {g h : Network} → Alike g h → Alike h g
+alike-sym {g} {h} a =
+    record {
+      as-many-vertices = sym (a .as-many-vertices);
+      as-many-edges = sym (a .as-many-edges);
+      same-ends = λ s k. parallel-sym (edge h s) (edge g s) (a .same-ends s (rw (a .as-many-edges) at k));
+      same-mates = λ s t k l. sym (a .same-mates s t (rw (a .as-many-edges) at k) (rw (a .as-many-edges) at l));
+    }
 
 -- of two networks alike each is an image of the other, number for number
 pub alike-image : {g h : Network} → Alike g h → Image g h (λ x. x) (λ s. s)

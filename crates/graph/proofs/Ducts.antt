@@ -1,10 +1,10 @@
--- The rule of request 3, by which an edge is lost with the edges of its duct between the same two vertices: it is a rule of mates, under
--- which an edge in no duct has no mate.
+-- The rules of requests 3 and 7, by which an edge is lost with the edges of its duct between the same two vertices: they are rules of mates.
+-- Where no duct is told, an edge has no mate under the one; under the other it has those with none told either.
 use mathlib.Core.Bool.{true, false, not, _&&_}
 use mathlib.Core.Logic.{_≢_}
 use mathlib.Core.Path.{_≡_, sym, _∙_}
 use lib.Dec.{eqb}
-use Rattle.graph.specs.Network.{Edge, MateRule, sameDuct, parallel}
+use Rattle.graph.specs.Network.{Edge, MateRule, sameDuct, oneDuct, parallel}
 use Rattle.graph.specs.Cycle.{joins}
 use Rattle.graph.proofs.Truth.{false-of-not, not-of-false, false-of-not-true, and-left, and-right, and-both, eqb-eq, eq-eqb, ne-eqb, eqb-ne}
 use Rattle.graph.proofs.Walks.{joins-ends, joins-swap}
@@ -52,6 +52,36 @@ same-duct-mates =
       only-parallel = λ e f h. same-duct e f h .2;
     }
 
--- an edge in no duct is lost with no other
+-- an edge with no duct told is lost with no other
 pub no-duct-no-mate : (e f : Edge) → f .duct ≡ 0 → sameDuct e f ≡ false
 no-duct-no-mate e f none = false-of-not (sameDuct e f) (λ h. let k = same-duct e f h in k .0 (k .1 ∙ none))
+
+-- under the rule of request 7 two edges are lost together exactly if their ducts are the same, told or not, and they are parallel
+pub one-duct : (e f : Edge) → oneDuct e f ≡ true → (e .duct ≡ f .duct) × (parallel e f ≡ true)
+unfolding oneDuct
+one-duct e f h = (
+  eqb-eq (e .duct) (f .duct) (and-left (eqb (e .duct) (f .duct)) (parallel e f) h),
+  and-right (eqb (e .duct) (f .duct)) (parallel e f) h,
+)
+
+pub in-one-duct : (e f : Edge) → e .duct ≡ f .duct → parallel e f ≡ true → oneDuct e f ≡ true
+unfolding oneDuct
+in-one-duct e f one p = and-both (eq-eqb (e .duct) (f .duct) one) p
+
+-- it is a rule of mates
+pub one-duct-mates : MateRule oneDuct
+one-duct-mates =
+    record {
+      symmetric = λ e f h.
+          let k = one-duct e f h in
+          in-one-duct f e (sym (k .0)) (parallel-sym e f (k .1));
+      transitive = λ e f i h k.
+          let u = one-duct e f h in
+          let v = one-duct f i k in
+          in-one-duct e i (u .0 ∙ v .0) (parallel-trans e f i (u .1) (v .1));
+      only-parallel = λ e f h. one-duct e f h .1;
+    }
+
+-- an edge is lost with none of another duct
+pub other-duct-no-mate : (e f : Edge) → e .duct ≢ f .duct → oneDuct e f ≡ false
+other-duct-no-mate e f other = false-of-not (oneDuct e f) (λ h. other (one-duct e f h .0))

@@ -22,18 +22,18 @@ use Rattle.graph.proofs.CutsBetween.{cuts-between-across}
 use Rattle.graph.proofs.Image.{Image, image-joins, edge-loss-image, vertex-loss-image, component-image, parts-image}
 
 -- the image of a walk
-imageSteps : (ℕ → ℕ) → (ℕ → ℕ) → List Step → List Step
+unfoldable pub imageSteps : (ℕ → ℕ) → (ℕ → ℕ) → List Step → List Step
 imageSteps f p = map (λ q. record { along = p (q .along); to = f (q .to) })
 
 -- the vertices that it visits are the images of those that the walk visits
-visited-image : (f p : ℕ → ℕ) (v : ℕ) (ps : List Step) → visited (f v) (imageSteps f p ps) ≡ map f (visited v ps)
+pub visited-image : (f p : ℕ → ℕ) (v : ℕ) (ps : List Step) → visited (f v) (imageSteps f p ps) ≡ map f (visited v ps)
 unfolding imageSteps visited
 visited-image f p v [] = refl
 visited-image f p v (q ∷ ps) = ap (λ l. f v ∷ l) (visited-image f p (q .to) ps)
 
 module _ {g h : Network} {f p : ℕ → ℕ} (i : Image g h f p) where
   -- it leads from image to image
-  leads-image : (ps : List Step) (v w : ℕ) → leads g v ps w ≡ true → leads h (f v) (imageSteps f p ps) (f w) ≡ true
+  pub leads-image : (ps : List Step) (v w : ℕ) → leads g v ps w ≡ true → leads h (f v) (imageSteps f p ps) (f w) ≡ true
   unfolding imageSteps
   leads-image [] v w l = leads-none h (f v) (f w) ∙ eq-eqb (f v) (f w) (ap f (eqb-eq v w (sym (leads-none g v w) ∙ l)))
   leads-image (q ∷ ps) v w l =

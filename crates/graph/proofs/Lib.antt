@@ -53,6 +53,7 @@ pub mod Image
 pub mod ImageBlocks
 pub mod ImageLists
 pub mod Alike
+pub mod RoutesImage
 pub mod Places
 pub mod Reduced
 pub mod ReducedGroups

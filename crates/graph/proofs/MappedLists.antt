@@ -1,10 +1,10 @@
--- Laws of lists of numbers under a map: where two maps agree, and what becomes of first occurrences.
-use mathlib.Core.Bool.{Bool, true, false, not, cond, _&&_}
+-- Laws of lists of numbers under a map: where two maps agree, and what becomes of first occurrences, of tests and of members.
+use mathlib.Core.Bool.{Bool, true, false, not, cond, _&&_, _||_}
 use mathlib.Core.List.{List, [], _∷_, map}
 use mathlib.Core.Path.{_≡_, refl, ap, ap₂}
 use Prim.Native.Nat.{ℕ}
 use lib.Dec.{eqb}
-use Rattle.graph.specs.Lists.{isIn}
+use Rattle.graph.specs.Lists.{allIn, isIn, distinct}
 use Rattle.graph.specs.Travel.{firsts}
 use Rattle.graph.proofs.Truth.{bool-ext, eqb-eq, eq-eqb}
 use Rattle.graph.proofs.Members.{is-in-head, is-in-tail}
@@ -39,3 +39,21 @@ firsts-mapped k p q (x ∷ l) same one =
         ≡ map k (cond b (x ∷ firsts (except p x) l) (firsts (except p x) l))
     go true e r = rw e (ap (λ m. k x ∷ m) r)
     go false e r = rw e r
+
+-- a test of a mapped list is one of the list
+pub all-in-mapped : (k : ℕ → ℕ) (test : ℕ → Bool) (l : List ℕ) → allIn test (map k l) ≡ allIn (λ x. test (k x)) l
+unfolding allIn
+all-in-mapped k test [] = refl
+all-in-mapped k test (x ∷ l) = ap (λ rest. test (k x) && rest) (all-in-mapped k test l)
+
+-- where different numbers are mapped to different ones, a mapped list holds what the list holds
+pub is-in-mapped : (k : ℕ → ℕ) → ((x y : ℕ) → k x ≡ k y → x ≡ y) → (x : ℕ) (l : List ℕ) → isIn (k x) (map k l) ≡ isIn x l
+unfolding isIn
+is-in-mapped k one x [] = refl
+is-in-mapped k one x (y ∷ l) = ap₂ _||_ (eqb-mapped k x y (one x y)) (is-in-mapped k one x l)
+
+-- and holds none twice exactly if the list does not
+pub distinct-mapped : (k : ℕ → ℕ) → ((x y : ℕ) → k x ≡ k y → x ≡ y) → (l : List ℕ) → distinct (map k l) ≡ distinct l
+unfolding distinct
+distinct-mapped k one [] = refl
+distinct-mapped k one (x ∷ l) = ap₂ (λ in-rest rest. not in-rest && rest) (is-in-mapped k one x l) (distinct-mapped k one l)

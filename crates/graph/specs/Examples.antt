@@ -1,5 +1,5 @@
--- The networks of document 01's marked histories, and some with ducts (request 3); their groups. Pairs of routes (request 5), and which of
--- them serve.
+-- The networks of document 01's marked histories under its own rule, and some with ducts under the rule of request 7; their groups. Pairs of
+-- routes (request 5), and which of them serve.
 use mathlib.Core.Bool.{Bool, true, false}
 use mathlib.Core.List.{List, [], _∷_, map}
 use mathlib.Core.Path.{_≡_, refl}
@@ -126,18 +126,19 @@ pub examples-have-their-groups : map summary examples ≡ summaries
 unfolding summary examples summaries network between leasts Below.anyBelow Below.allBelow Below.leastBelow Below.listed Below.tabulate Labels.relabel Labels.labels Labels.same Network.touches Network.otherEnd Network.never Network.edgeCount Network.edge Network.mates Network.nothing Network.lossOf Network.without Network.kept Network.joined Groups.component Groups.parts Groups.bridge Groups.bridgeBlock Block.linkAt Block.link Block.pairsBelow Block.links Block.block Block.onBlock Block.atBoth Block.sharedBlock Between.insert Between.sort Between.leastMate Between.isBridgeBetween Between.bridgeBefore Between.bridgesBetween Between.isCutBetween Between.cutBefore Between.cutsBetween
 examples-have-their-groups = refl
 
--- The same for networks in which edges of one duct between the same two vertices are lost together.
+-- The same for networks in which edges of one duct between the same two vertices are lost together, also where none is told.
 unfoldable pub ductNetwork : ℕ → List Network.Edge → Network.Network
-ductNetwork n edges = record { rule = Network.sameDuct; vertices = n; edges = edges }
+ductNetwork n edges = record { rule = Network.oneDuct; vertices = n; edges = edges }
 
--- Two edges of one duct from either side; the same with an edge in no duct beside them; two pairs of mates on a chain, of one duct number;
--- a loop around two mates.
+-- Two edges of one duct from either side; the same with an edge beside them for which none is told; two pairs of mates on a chain, of one
+-- duct number; a loop around two mates; two edges with no duct told, and between the next two vertices one beside an edge in a duct.
 unfoldable pub ductExamples : List Network.Network
 ductExamples =
     ductNetwork 3 (inDuct 0 1 7 ∷ inDuct 1 0 7 ∷ [])
     ∷ ductNetwork 3 (inDuct 0 1 7 ∷ inDuct 1 0 7 ∷ between 0 1 ∷ [])
     ∷ ductNetwork 3 (inDuct 1 2 9 ∷ inDuct 0 1 9 ∷ inDuct 2 1 9 ∷ inDuct 0 1 9 ∷ [])
     ∷ ductNetwork 3 (inDuct 0 1 4 ∷ inDuct 0 1 4 ∷ between 1 2 ∷ between 2 0 ∷ [])
+    ∷ ductNetwork 3 (between 0 1 ∷ between 1 0 ∷ between 1 2 ∷ inDuct 1 2 1 ∷ [])
     ∷ []
 
 unfoldable pub ductSummaries : List Summary
@@ -182,25 +183,35 @@ ductSummaries =
       bridgesBack = [];
       cuts = [];
     }
+    ∷ record {
+      components = some 0 ∷ some 0 ∷ some 0 ∷ [];
+      bridgeBlocks = some 0 ∷ some 1 ∷ some 1 ∷ [];
+      blocks = some 0 ∷ some 0 ∷ some 2 ∷ some 2 ∷ [];
+      bridges = true ∷ true ∷ false ∷ false ∷ [];
+      shared = none;
+      bridgesThere = 0 ∷ [];
+      bridgesBack = 0 ∷ [];
+      cuts = 1 ∷ [];
+    }
     ∷ []
 
 -- The definitions give these groups.
 pub duct-examples-have-their-groups : map summary ductExamples ≡ ductSummaries
-unfolding summary ductExamples ductSummaries ductNetwork between inDuct leasts Below.anyBelow Below.allBelow Below.leastBelow Below.listed Below.tabulate Labels.relabel Labels.labels Labels.same Network.touches Network.otherEnd Network.parallel Network.sameDuct Network.edgeCount Network.edge Network.mates Network.nothing Network.lossOf Network.without Network.kept Network.joined Groups.component Groups.parts Groups.bridge Groups.bridgeBlock Block.linkAt Block.link Block.pairsBelow Block.links Block.block Block.onBlock Block.atBoth Block.sharedBlock Between.insert Between.sort Between.leastMate Between.isBridgeBetween Between.bridgeBefore Between.bridgesBetween Between.isCutBetween Between.cutBefore Between.cutsBetween
+unfolding summary ductExamples ductSummaries ductNetwork between inDuct leasts Below.anyBelow Below.allBelow Below.leastBelow Below.listed Below.tabulate Labels.relabel Labels.labels Labels.same Network.touches Network.otherEnd Network.parallel Network.oneDuct Network.edgeCount Network.edge Network.mates Network.nothing Network.lossOf Network.without Network.kept Network.joined Groups.component Groups.parts Groups.bridge Groups.bridgeBlock Block.linkAt Block.link Block.pairsBelow Block.links Block.block Block.onBlock Block.atBoth Block.sharedBlock Between.insert Between.sort Between.leastMate Between.isBridgeBetween Between.bridgeBefore Between.bridgesBetween Between.isCutBetween Between.cutBefore Between.cutsBetween
 duct-examples-have-their-groups = refl
 
 -- Each set of mates as one edge: of the third of these networks edges 0 and 1 are left.
 pub reduced-example : Reduced.reduced (ductNetwork 3 (inDuct 1 2 9 ∷ inDuct 0 1 9 ∷ inDuct 2 1 9 ∷ inDuct 0 1 9 ∷ []))
     ≡ network 3 (inDuct 1 2 9 ∷ inDuct 0 1 9 ∷ [])
-unfolding Reduced.reduced Reduced.leastEdges ductNetwork network inDuct between Below.anyBelow Below.listed Network.parallel Network.sameDuct Network.edgeCount Network.edge Network.mates Between.leastMate
+unfolding Reduced.reduced Reduced.leastEdges ductNetwork network inDuct between Below.anyBelow Below.listed Network.parallel Network.oneDuct Network.edgeCount Network.edge Network.mates Between.leastMate
 reduced-example = refl
 
--- Mates 0 and 1 and edge 2 between 0 and 1, two edges between 1 and 2, and two between 1 and 3.
+-- Mates 0 and 1 and edge 2 between 0 and 1, two edges between 1 and 2 that are no mates, and two between 1 and 3.
 unfoldable pub routeExample : Network.Network
 routeExample =
     ductNetwork
     4
-    (inDuct 0 1 7 ∷ inDuct 1 0 7 ∷ between 0 1 ∷ between 1 2 ∷ between 1 2 ∷ between 1 3 ∷ between 3 1 ∷ [])
+    (inDuct 0 1 7 ∷ inDuct 1 0 7 ∷ between 0 1 ∷ between 1 2 ∷ inDuct 1 2 1 ∷ inDuct 1 3 1 ∷ inDuct 3 1 2 ∷ [])
 
 -- Two lists of edges offered as routes between two vertices.
 pub record Offer : Type 0 where

@@ -7,13 +7,13 @@ use lib.Dec.{eqb}
 use lib.ListN.{length, getD}
 use Rattle.graph.specs.Labels.{Pair, same}
 
--- An edge (document 01: a span) by its two ends, in the order in which they were entered, and the duct that it lies in: 0 is no duct.
+-- An edge (document 01: a span) by its two ends, in the order in which they were entered, and the duct that it lies in: 0 where none is told.
 pub record Edge : Type 0 where
   pub left : ℕ
   pub right : ℕ
   pub duct : ℕ
 
--- The edge between two vertices, in the order in which they are entered, in no duct.
+-- The edge between two vertices, in the order in which they are entered, with no duct told.
 unfoldable pub edgeBetween : ℕ → ℕ → Edge
 edgeBetween a b = record { left = a; right = b; duct = 0 }
 
@@ -41,9 +41,14 @@ Rule = Edge → Edge → Bool
 unfoldable pub never : Rule
 never e f = false
 
--- The rule of request 3: an edge is lost with the edges of its duct between the same two vertices. An edge in no duct is lost alone.
+-- The rule of request 3: an edge is lost with the edges of its duct between the same two vertices. An edge with no duct told is lost alone.
 unfoldable pub sameDuct : Rule
 sameDuct e f = not (eqb (e .duct) 0) && eqb (e .duct) (f .duct) && parallel e f
+
+-- The rule of request 7, one duct unless told otherwise: an edge is lost with the edges of its duct between the same two vertices, and those
+-- with no duct told lie in one. (It is the duct of no edge that has one told: document 02 refuses duct 0, so none is entered in it.)
+unfoldable pub oneDuct : Rule
+oneDuct e f = eqb (e .duct) (f .duct) && parallel e f
 
 -- What every law asks of a rule.
 pub record MateRule (rule : Rule) : Type 0 where

@@ -6,10 +6,11 @@ use Prim.Native.Nat.{ℕ}
 use lib.ListN.{length, take}
 use Rattle.graph.specs.Route.{Serves}
 use Rattle.commands.specs.Refusal.{Capacities}
-use Rattle.commands.specs.Entry.{Buffers, wholeRun, acceptedCommands}
+use Rattle.commands.specs.Entry.{Buffers, wholeRun, acceptedCommands, over}
 use Rattle.commands.specs.Register.{registerRule, registerRoutes, register}
 use Rattle.commands.specs.WholeRun.{WholeRunClaim}
 use Rattle.commands.specs.Forecast.{forecast, Suffices}
+use Rattle.commands.specs.Rewrite.{rewrite, AnsweredAsBefore}
 
 -- For these capacities, this journal and these buffers: the returned number and every buffer are those of the register, and the
 -- whole-run claim holds of the accepted commands and of the answer buffer as it stands on return.
@@ -36,3 +37,15 @@ pub record ForecastPromise (journal : List ℕ) (returned place room : ℕ) : Ty
   -- length for these
   pub suffices-before : (returned ≡ 4) ⊎ (returned ≡ 5)
       → (forecast (take place journal) .number ≡ 0) × Suffices journal (forecast (take place journal) .length)
+
+-- For this journal and this output buffer: the returned number, the two numbers that are written and the buffer are those of the rewriting
+-- into as much room. Where it is refused its result is empty: nothing is written.
+pub record RewritePromise (journal lent : List ℕ) (returned place room : ℕ) (left : List ℕ) : Type 0 where
+  pub returned-is : returned ≡ rewrite (length lent) journal .number
+  pub place-is : place ≡ rewrite (length lent) journal .place
+  pub length-is : room ≡ length (rewrite (length lent) journal .result)
+  pub output-is : left ≡ over (rewrite (length lent) journal .result) lent
+  -- the bytes that it leaves at the front of the buffer are answered as the journal was where spans of 02 have no mates
+  pub answered-as-before : returned ≡ 0 → AnsweredAsBefore journal (take room left)
+  -- and as much room is forecast for their answers as for the journal's
+  pub same-forecast : returned ≡ 0 → forecast (take room left) ≡ record { number = 0; place = room; length = forecast journal .length }

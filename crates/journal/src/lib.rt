@@ -1,15 +1,17 @@
 // The entries that a planner calls. Of a run: the refusals before the journal is read, the run, and the report. Of the forecast: its three numbers.
+// Of rewriting: its three numbers, and the result.
 ghost use mathlib.Core.Bool.{not};
 ghost use mathlib.Core.Path.{_≡_};
 ghost use Rattle.commands.specs.Refusal.{firstThatApplies};
 ghost use Rattle.commands.specs.Entry.{workNeeded, goodCapacities, startLines, numberOf, over};
 ghost use Rattle.run.specs.Promise.{capacitiesOf, sixNumbers};
 ghost use Rattle.journal.specs.Inside.Report.{Reportable};
-ghost use Rattle.journal.specs.Promise.{RegisterPromise, ForecastPromise};
+ghost use Rattle.journal.specs.Promise.{RegisterPromise, ForecastPromise, RewritePromise};
 use forecast::forecast_of;
 use forest::clear;
 use forest::words_needed;
 use numbers::Limits;
+use rewriting::rewrite_into;
 use run::Progress;
 use run::run;
 
@@ -112,4 +114,20 @@ pub extern "C" fn register_forecast(journal: &[u8], place: &mut u32, length: &mu
     *place = f.place;
     *length = f.length;
     f.number
+}
+
+// Rewrites a journal of the old reading into the caller's output buffer, and tells a place, as the forecast does, and the result's length.
+#[no_mangle]
+pub extern "C" fn register_rewrite(
+    journal: &[u8],
+    out: &mut [u8],
+    place: &mut u32,
+    length: &mut u32,
+) -> u32
+    ensures { λ r. ⌜ RewritePromise (now (journal .entry)) (now (out .entry)) r (now (place .exit)) (now (length .exit)) (now (out .exit)) ⌝ }
+{
+    let told = rewrite_into(journal, out);
+    *place = told.place;
+    *length = told.length;
+    told.number
 }

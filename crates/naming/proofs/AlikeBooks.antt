@@ -1,13 +1,14 @@
 -- Books over networks that are alike, with the same names: what is fed to both keeps them so.
 use mathlib.Core.Bool.{true}
 use mathlib.Core.List.{List, [], _∷_, _++_}
-use mathlib.Core.Path.{_≡_, ap₂}
+use mathlib.Core.Path.{_≡_, refl, ap₂}
 use Prim.Native.Nat.{ℕ, _<_}
-use Rattle.graph.specs.Network.{Edge, MateRule, parallel, edge, edgeCount, addEdge}
+use native.Mathlib.Nat.{not-suc-le-zero}
+use Rattle.graph.specs.Network.{Edge, Rule, MateRule, parallel, edge, edgeCount, addEdge}
 use Rattle.graph.proofs.EdgeMoreBridges.{rule-more}
 use Rattle.graph.proofs.Alike.{Alike, component-alike, bridge-block-alike, block-alike, alike-vertex-more, alike-edge-more}
 use Rattle.naming.specs.Rename.{Grouping, rename}
-use Rattle.naming.specs.Book.{Book, enterVertex, enterEdge}
+use Rattle.naming.specs.Book.{Book, emptyBook, enterVertex, enterEdge}
 
 -- Two books with the same names, over networks that are alike.
 pub record AlikeBooks (b b′ : Book) : Type 0 where
@@ -15,6 +16,23 @@ pub record AlikeBooks (b b′ : Book) : Type 0 where
   pub same-components : b′ .components ≡ b .components
   pub same-bridge-blocks : b′ .bridgeBlocks ≡ b .bridgeBlocks
   pub same-blocks : b′ .blocks ≡ b .blocks
+
+-- empty books are alike, whatever their rules
+pub alike-empty : (rule rule′ : Rule) → AlikeBooks (emptyBook rule) (emptyBook rule′)
+unfolding emptyBook edgeCount
+alike-empty rule rule′ =
+    record {
+      networks =
+          record {
+            as-many-vertices = refl;
+            as-many-edges = refl;
+            same-ends = λ s k. absurd (not-suc-le-zero k);
+            same-mates = λ s t k. absurd (not-suc-le-zero k);
+          };
+      same-components = refl;
+      same-bridge-blocks = refl;
+      same-blocks = refl;
+    }
 
 -- a vertex more in each
 pub alike-vertex : {b b′ : Book} → AlikeBooks b b′ → AlikeBooks (enterVertex b) (enterVertex b′)

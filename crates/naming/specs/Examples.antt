@@ -70,7 +70,7 @@ unfoldable pub inDuct : ℕ → ℕ → ℕ → Addition
 inDuct x y d = edge (Network.edgeInDuct x y d)
 
 -- Blocks are measured in single edges: two mates outweigh an edge with a lesser name, and give a loop of five edges their name.
-pub mates-outweigh : namesAfter Network.sameDuct (vertex ∷ vertex ∷ vertex ∷ vertex ∷ between 2 3 ∷ inDuct 0 1 5 ∷ inDuct 0 1 5 ∷ between 1 2 ∷ between 3 0 ∷ [])
+pub mates-outweigh : namesAfter Network.oneDuct (vertex ∷ vertex ∷ vertex ∷ vertex ∷ between 2 3 ∷ inDuct 0 1 5 ∷ inDuct 0 1 5 ∷ between 1 2 ∷ between 3 0 ∷ [])
     ≡ record { components = 0 ∷ 0 ∷ 0 ∷ 0 ∷ []; bridgeBlocks = 0 ∷ 0 ∷ 0 ∷ 0 ∷ []; blocks = 1 ∷ 1 ∷ 1 ∷ 1 ∷ 1 ∷ [] }
-unfolding namesAfter between inDuct Below.anyBelow Below.allBelow Below.count Below.listed Below.tabulate Labels.relabel Labels.labels Labels.same Network.edgeBetween Network.edgeInDuct Network.touches Network.otherEnd Network.parallel Network.sameDuct Network.edgeCount Network.edge Network.addVertex Network.addEdge Network.mates Network.nothing Network.lossOf Network.without Network.kept Network.joined Groups.component Groups.bridgeBlock Block.linkAt Block.link Block.pairsBelow Block.links Block.block Rename.size Rename.nameOf Rename.better Rename.bestOf Rename.candidate Rename.holdsSeveral Rename.bestName Rename.rename Book.emptyBook Book.enterVertex Book.enterEdge Book.feed Book.feedAll
+unfolding namesAfter between inDuct Below.anyBelow Below.allBelow Below.count Below.listed Below.tabulate Labels.relabel Labels.labels Labels.same Network.edgeBetween Network.edgeInDuct Network.touches Network.otherEnd Network.parallel Network.oneDuct Network.edgeCount Network.edge Network.addVertex Network.addEdge Network.mates Network.nothing Network.lossOf Network.without Network.kept Network.joined Groups.component Groups.bridgeBlock Block.linkAt Block.link Block.pairsBelow Block.links Block.block Rename.size Rename.nameOf Rename.better Rename.bestOf Rename.candidate Rename.holdsSeveral Rename.bestName Rename.rename Book.emptyBook Book.enterVertex Book.enterEdge Book.feed Book.feedAll
 mates-outweigh = refl

@@ -98,7 +98,7 @@ fn grow(t: &mut [u32], shape: Shape, a: Vertex, b: Vertex, d: Duct) -> Shape
     grown
 }
 
-// Adds edges, each given by its two ends and its duct.
+// Adds edges, each given by its two ends and its duct, which is 0 where none is told.
 fn grow_all(t: &mut [u32], apart: Shape, edges: &[u16]) -> Shape
     requires { ⌜ Holds apart (now t) ⌝ }
     ensures { λ r. ⌜ Holds r (now (t .exit)) ⌝ }
@@ -259,12 +259,14 @@ fn show(title: &[u8], vertices: u16, most: u16, edges: &[u16]) {
 fn main() {
     show(b"One vertex\n", 1, 1, &[]);
     show(b"\nTwo vertices apart\n", 2, 1, &[]);
-    show(b"\nA doubled edge\n", 2, 2, &[0, 1, 0, 0, 1, 0]);
+    show(b"\nA doubled edge\n", 2, 2, &[0, 1, 1, 0, 1, 2]);
+    let untold = [0, 1, 0, 0, 1, 0];
+    show(b"\nA doubled edge with no duct told\n", 2, 2, &untold);
     show(b"\nA chain\n", 3, 2, &[0, 1, 0, 1, 2, 0]);
     show(b"\nA triangle\n", 3, 3, &[0, 1, 0, 1, 2, 0, 2, 0, 0]);
-    let meeting = [1, 2, 0, 1, 2, 0, 0, 1, 0, 0, 1, 0];
+    let meeting = [1, 2, 1, 1, 2, 2, 0, 1, 1, 0, 1, 2];
     show(b"\nTwo doubled edges that meet\n", 3, 4, &meeting);
-    let equal = [0, 1, 0, 0, 1, 0, 2, 3, 0, 2, 3, 0, 1, 2, 0, 0, 3, 0];
+    let equal = [0, 1, 1, 0, 1, 2, 2, 3, 1, 2, 3, 2, 1, 2, 0, 0, 3, 0];
     show(b"\nTwo doubled edges, joined twice\n", 4, 6, &equal);
     let lesser = [0, 1, 0, 2, 3, 0, 3, 4, 0, 1, 2, 0];
     show(b"\nA larger component and a lesser name\n", 5, 4, &lesser);

@@ -7,7 +7,7 @@ pub struct Vertex(pub u32);
 // The number of an edge. Block names are edges.
 pub struct Edge(pub u32);
 
-// The number of a duct; 0 is no duct.
+// The number of a duct; 0 where none is told.
 pub struct Duct(pub u16);
 
 // A length in metres, and the day on which it was measured.

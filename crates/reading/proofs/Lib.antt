@@ -1,4 +1,5 @@
 pub mod ReadSteps
+pub mod PassedAt
 pub mod ReaderLocals
 pub mod ReaderPromise
 pub mod ReaderWalk

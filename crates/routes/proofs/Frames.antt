@@ -9,7 +9,7 @@ use native.Mathlib.Omega.{arith}
 use lib.Dec.{eqb}
 use Rattle.graph.specs.Network.{Network, MateRule, Proper, edgeCount}
 use Rattle.graph.proofs.Truth.{true-or-false, not-both, eqb-eq, eqb-ne}
-use Rattle.graph.proofs.Ducts.{same-duct-mates}
+use Rattle.graph.proofs.Ducts.{one-duct-mates}
 use Rattle.naming.proofs.Listed.{tabulate-same}
 use Rattle.ways.specs.Used.{Used}
 use Rattle.forest.specs.declared.Shape.{Shape}
@@ -109,7 +109,7 @@ module _ (shape : Shape) (g : Network) (t : List ℕ) (is : networkIn shape t �
 
   -- which of them are lost together is a rule of mates
   pub held-rule : MateRule (g .rule)
-  held-rule = rw (← is, rule-held shape t, table-rule) same-duct-mates
+  held-rule = rw (← is, rule-held shape t, table-rule) one-duct-mates
 
 module _ {shape : Shape} {free : Free} {old new : List ℕ} (only : Only shape free old new) where
   -- the network is the same

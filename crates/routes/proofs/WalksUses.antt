@@ -1,6 +1,6 @@
 -- The two bits of edges' words: what one store, a store after another and no store set, that the lists stand meanwhile, and what is done
 -- for one edge that may be another mate.
-use mathlib.Core.Bool.{Bool, true, false, not, cond, _&&_, _||_, and-true, and-false}
+use mathlib.Core.Bool.{Bool, true, false, cond, _&&_, _||_, and-true, and-false}
 use mathlib.Core.List.{List}
 use mathlib.Core.Logic.{_⊎_, inl, inr}
 use mathlib.Core.Path.{_≡_, refl, sym, _∙_, ap}
@@ -8,12 +8,12 @@ use Prim.Native.Nat.{ℕ, _/_, _%_, _<_}
 use native.Mathlib.Omega.{arith}
 use lib.Dec.{eqb}
 use Rattle.graph.specs.Network.{Network, edgeCount, mates}
-use Rattle.graph.proofs.Truth.{true-or-false, false-of-not, false-of-not-true, and-left, and-right, eqb-eq, eqb-ne, eq-eqb, ne-eqb}
+use Rattle.graph.proofs.Truth.{true-or-false, eqb-eq, eqb-ne, eq-eqb, ne-eqb}
 use Rattle.forest.specs.declared.Shape.{Shape}
-use Rattle.forest.specs.Promise.{Holds, networkIn, Alone, edgeScratch, edges-held, edges-fit, vertices-fit, EdgeScratchStored}
+use Rattle.forest.specs.Promise.{Holds, networkIn, edgeScratch, edges-held, edges-fit, vertices-fit, EdgeScratchStored}
 use Rattle.routes.specs.Inside.Frame.{headColumn, edgesOnly}
 use Rattle.routes.specs.Inside.Lists.{Linked}
-use Rattle.routes.specs.Inside.Walks.{withUse, UsesSet, isOtherMate, MatesSet}
+use Rattle.routes.specs.Inside.Walks.{withUse, UsesSet, isOtherMate}
 use Rattle.routes.proofs.Frames.{only-refl, only-trans, only-edge}
 
 -- a word with other bits has the same entries
@@ -124,17 +124,3 @@ module _ (g : Network) (s r : ℕ) where
       → UsesSet shape (λ e. eqb r e && isOtherMate g s e) used t t
   mate-passed used {t} holds n =
       uses-none (λ e. eqb r e && isOtherMate g s e) t holds (λ e h. mate-alone e ∙ rw n (and-false (eqb r e)))
-
--- an edge that is alone has no other mates to be told
-pub mates-of-alone : (shape : Shape) (x s used : ℕ) (t : List ℕ) → Holds shape t → Alone (networkIn shape t) s → MatesSet shape x s used t t
-unfolding isOtherMate
-mates-of-alone shape x s used t holds alone =
-    record {
-      only = only-refl shape edgesOnly t holds;
-      mates-set = λ g is w touches.
-          uses-none (isOtherMate g s) t holds (λ r h.
-          false-of-not (isOtherMate g s r) (λ m.
-          let other = false-of-not-true (eqb s r) (and-left (not (eqb s r)) (mates g s r) m) in
-          let mate = rw (← is) at (and-right (not (eqb s r)) (mates g s r) m) in
-          eqb-ne s r other (alone r (omega (arith, h, edges-held shape t)) mate)));
-    }

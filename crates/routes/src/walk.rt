@@ -14,7 +14,6 @@ use forest::Shape;
 use forest::are_mates;
 use forest::edge_scratch;
 use forest::ends_of;
-use forest::may_have_mates;
 use forest::set_edge_scratch;
 use forest::set_vertex_scratch;
 use forest::vertex_scratch;
@@ -118,17 +117,6 @@ fn set_mates_use(t: &mut [u32], shape: Shape, x: Vertex, s: Edge, used: u32)
     }
 }
 
-// The same, where s may have other mates at all.
-fn tell_mates(t: &mut [u32], shape: Shape, x: Vertex, s: Edge, used: u32)
-    requires { ⌜ Holds shape (now t) × (s .0 < shape .edges) ⌝ }
-    ensures { λ r. ⌜ MatesSet shape (x .0) (s .0) used (now (t .entry)) (now (t .exit)) ⌝ }
-{
-    if !may_have_mates(t, shape, s) {
-        return;
-    }
-    set_mates_use(t, shape, x, s, used);
-}
-
 // Takes a step from vertex x along edge s: an edge that was not used is used from x, and one that was used is so no longer.
 fn take_step(t: &mut [u32], shape: Shape, x: Vertex, s: Edge)
     requires { ⌜ Holds shape (now t) × (s .0 < shape .edges) ⌝ }
@@ -137,7 +125,7 @@ fn take_step(t: &mut [u32], shape: Shape, x: Vertex, s: Edge)
     let used = edge_scratch(t, shape, s) % 4;
     let ends = ends_of(t, shape, s);
     set_use(t, shape, s, taken_use(used, ends.left.0 == x.0));
-    tell_mates(t, shape, x, s, mates_use(used));
+    set_mates_use(t, shape, x, s, mates_use(used));
 }
 
 // Takes the way from a whose edges are written down in a column.

@@ -244,7 +244,7 @@ module _ (shape : Shape) (a b d : ℕ) (old new : List ℕ) (growth : Growth) (a
         same-beyond = added .same-beyond;
       }
 
--- 02 and 0B: a span in no duct, or in a duct
+-- 02 and 0B: a span with no duct told, or in a duct
 pub span-carried : (shape : Shape) (a b : ℕ) (lay : Lay) (old new : List ℕ) (growth : Growth) → EdgeAdded shape a b (ductOf lay) old new growth
     → Holds shape old → Carried shape (spanCommand a b lay) old new (R.Span (record { 0 = shape .edges }) growth)
 unfolding facts edgeBetween edgeInDuct spanCommand ductOf

@@ -43,7 +43,7 @@ fn add_cabinet(t: &mut [u32], shape: Shape) -> Reply
     Reply::Cabinet(Vertex(shape.vertices))
 }
 
-// The duct that a new span lies in; 0 for none.
+// The duct that a new span lies in; 0 where none is told.
 fn duct_of(lay: Lay) -> Duct
     ensures { λ r. ⌜ r .0 ≡ ductOf lay ⌝ }
 {

@@ -1,3 +1,2 @@
-pub mod Sets
 pub mod WriteSteps
 pub mod RouteSteps

@@ -11,7 +11,7 @@ use Rattle.commands.specs.Answer.{plainFields, plain, routesAre, answerFields, 
 use Rattle.commands.proofs.Bytes.{spans-in-two-bytes, bytes-then-counted, length-two-bytes-each}
 use Rattle.step.specs.declared.Listed.the-variants as L
 use Rattle.writing.specs.Inside.Writes.{listField, routeBytes}
-use Rattle.writing.proofs.Sets.{sets-behind}
+use Rattle.storing.proofs.Sets.{sets-behind}
 use Rattle.writing.proofs.WriteSteps.{items-more}
 
 -- one span more

@@ -25,7 +25,7 @@ use Rattle.step.specs.Promise.{noticeAt, noticesOf, noticeCount, growthNotices,
 use Rattle.step.proofs.Replies.{count-notices, reply-counted}
 use Rattle.writing.specs.Inside.Notices.{headBytes}
 use Rattle.writing.specs.Inside.Writes.{nameCode, listCode, listField}
-use Rattle.writing.proofs.Sets.{sets-behind, sets-four, sets-front}
+use Rattle.storing.proofs.Sets.{sets-behind, sets-four, sets-front}
 
 -- items of a kind: `each` gives the bytes of a list of them, `one` those of one, which are `width` many
 module _

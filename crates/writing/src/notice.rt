@@ -9,8 +9,6 @@ ghost use Rattle.commands.specs.Field.{fieldsBytes};
 ghost use Rattle.commands.specs.Answer.{noticeFields, noticesFields, spanAdded, answerBytes};
 ghost use Rattle.step.specs.Promise.{noticeAt, noticesOf, noticeCount, growthNotices};
 ghost use Rattle.writing.specs.Inside.Notices.{kindOf, noticeOf, headBytes};
-use crate::write::put_byte;
-use crate::write::put_two;
 use forest::EdgeChange;
 use forest::Growth;
 use forest::Shape;
@@ -19,6 +17,8 @@ use forest::VertexGroups;
 use forest::edge_change_at;
 use forest::vertex_change_at;
 use numbers::Edge;
+use storing::put_byte;
+use storing::put_two;
 
 // The kinds of notices.
 pub enum Told {

@@ -10,12 +10,12 @@ ghost use Rattle.commands.specs.Answer.{plain, answerBytes};
 ghost use Rattle.routes.specs.Promise.{edgeAt};
 ghost use Rattle.step.specs.Promise.{routesTold};
 ghost use Rattle.writing.specs.Inside.Writes.{routeBytes};
-use crate::write::put_byte;
-use crate::write::put_two;
 use forest::Shape;
 use routes::Lengths;
 use routes::Route;
 use routes::edge_at;
+use storing::put_byte;
+use storing::put_two;
 
 // The spans of a route, one after another, from a place on.
 fn put_spans(t: &[u32], shape: Shape, out: &mut [u8], route: Route, count: u32, from: usize)

@@ -2,7 +2,7 @@
 ghost use mathlib.Core.List.{_∷_, [], map};
 ghost use mathlib.Core.Path.{_≡_};
 ghost use Prim.Native.Nat.{_+_, _*_, _≤_};
-ghost use lib.ListN.{length, set};
+ghost use lib.ListN.{length};
 ghost use lib.Seq.{sets};
 ghost use Rattle.graph.specs.Below.{tabulate};
 ghost use Rattle.commands.specs.Bytes.{twoBytes};
@@ -17,24 +17,8 @@ use forest::bridge_at;
 use forest::cut_at;
 use numbers::Vertex;
 use step::Listed;
-
-// Stores a byte; nothing beyond the buffer's end.
-pub(crate) fn put_byte(out: &mut [u8], at: usize, b: u8)
-    ensures { λ r. ⌜ now (out .exit) ≡ set (now (out .entry)) at b ⌝ }
-{
-    if at < out.len() {
-        out[at] = b;
-    }
-}
-
-// Stores a number in two bytes, high byte first.
-pub(crate) fn put_two(out: &mut [u8], at: usize, value: u32)
-    requires { ⌜ at ≤ length (now out) ⌝ }
-    ensures { λ r. ⌜ now (out .exit) ≡ sets (now (out .entry)) at (twoBytes value) ⌝ }
-{
-    put_byte(out, at, (value / 256 % 256) as u8);
-    put_byte(out, at + 1, (value % 256) as u8);
-}
+use storing::put_byte;
+use storing::put_two;
 
 // An answer of one byte.
 pub(crate) fn write_code(out: &mut [u8], code: u8)

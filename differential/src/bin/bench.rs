@@ -1,9 +1,10 @@
 //! Measures the engines against each other: runs of journals of several shapes at three sizes, two
-//! routes by the size of the network, and forecasts of long journals.
+//! routes by the size of the network, and forecasts and rewritings of long journals.
 //!
 //!     bench [--quick]             with --quick one run of each, for a look
 //!     bench --routes [--quick]    the routes by the size of the network alone
 //!     bench --forecast [--quick]  the forecasts alone
+//!     bench --rewrite [--quick]   the rewritings alone
 //!     bench --only SHAPE          the last engine alone, on this shape at the greatest size, for
 //!                                 two seconds: for a profiler
 //!
@@ -64,7 +65,7 @@ fn long_loop(cabinets: usize) -> Writer {
 }
 
 fn pairwise(cabinets: usize) -> Writer {
-    written(&layouts::doubling(&mut Random::new(3), cabinets, 2))
+    written(&layouts::doubling(&mut Random::new(3), cabinets, 2).parted())
 }
 
 /// A chain, then sole spans and cut cabinets from end to end.
@@ -78,7 +79,7 @@ fn deep_queries(cabinets: usize) -> Writer {
 }
 
 fn star(cabinets: usize) -> Writer {
-    written(&layouts::star(cabinets, 2))
+    written(&layouts::star(cabinets, 2).parted())
 }
 
 fn look_ups(cabinets: usize) -> Writer {
@@ -141,8 +142,8 @@ fn chain_of_mates(cabinets: usize) -> Writer {
     writer
 }
 
-/// Two spans from the first cabinet to each other one; then, by turns, records and questions about every
-/// eighth span, in random order and on few days.
+/// Two spans from 02, which are mates, from the first cabinet to each other one; then, by turns, records
+/// and questions about every eighth span, in random order and on few days.
 fn surveys(cabinets: usize) -> Writer {
     let mut random = Random::new(9);
     let mut writer = written(&layouts::star(cabinets, 2));
@@ -207,8 +208,20 @@ const LONG: [Long; 8] = [
     ("0C alone", || alike(0x0C)),
     ("0D alone", || alike(0x0D)),
     ("0E alone", || alike(0x0E)),
-    ("all but 0B", || mixed(|byte| byte != 0x0B)),
-    ("all commands", || mixed(|_| true)),
+    ("all but 0B", || mixed(|byte| byte != 0x0B, LONGEST_JOURNAL)),
+    ("all commands", || mixed(|_| true, LONGEST_JOURNAL)),
+];
+
+/// Journals to rewrite, so long that the result has nearly 65,536 bytes, or just as many. A run need not
+/// accept them.
+const REWRITTEN: [Long; 4] = [
+    ("02 alone", || command(0x02, &mut Random::new(5)).repeat(LONGEST_JOURNAL / 7)),
+    ("02 and 01 by turns", || {
+        let one = [vec![0x01], command(0x02, &mut Random::new(5))].concat();
+        one.repeat(LONGEST_JOURNAL / 8)
+    }),
+    ("all but 0B", || mixed(|byte| byte != 0x0B, 62_500)),
+    ("neither 02 nor 0B", || mixed(|byte| byte != 0x02 && byte != 0x0B, LONGEST_JOURNAL)),
 ];
 
 /// A command with this byte and random operands.
@@ -224,18 +237,18 @@ fn alike(byte: u8) -> Vec<u8> {
     one.repeat(LONGEST_JOURNAL / one.len())
 }
 
-/// Commands of every byte that passes the test, in random order; cabinets where no other command
-/// fits.
-fn mixed(passes: fn(u8) -> bool) -> Vec<u8> {
+/// So many bytes: commands of every byte that passes the test, in random order; cabinets where no other
+/// command fits.
+fn mixed(passes: fn(u8) -> bool, length: usize) -> Vec<u8> {
     let picked: Vec<_> = COMMANDS.into_iter().filter(|(byte, _)| passes(*byte)).collect();
     let longest = picked.iter().map(|(_, operands)| 1 + 2 * operands).max().unwrap_or(1);
     let mut random = Random::new(6);
     let mut journal = Vec::new();
-    while journal.len() + longest <= LONGEST_JOURNAL {
+    while journal.len() + longest <= length {
         let (byte, _) = *random.pick(&picked);
         journal.extend(command(byte, &mut random));
     }
-    journal.resize(LONGEST_JOURNAL, 0x01);
+    journal.resize(length, 0x01);
     journal
 }
 
@@ -516,6 +529,56 @@ fn print_forecast(name: &str, journal: &[u8], budget: Duration) {
     println!();
 }
 
+/// The best time of a rewriting among several, and the result.
+fn best_rewriting(engine: &dyn Engine, journal: &[u8], budget: Duration) -> (f64, Vec<u8>) {
+    let mut best = f64::INFINITY;
+    let mut out = vec![0; LONGEST_JOURNAL];
+    let (mut place, mut length) = (0, 0);
+    let start = Instant::now();
+    loop {
+        let clock = Instant::now();
+        let number = engine.rewrite(black_box(journal), &mut out, &mut place, &mut length);
+        best = best.min(clock.elapsed().as_secs_f64());
+        assert_eq!(number, 0, "{} refuses a journal of the benchmark", engine.name());
+        if start.elapsed() >= budget {
+            out.truncate(length as usize);
+            return (best, out);
+        }
+    }
+}
+
+/// What a rewriting of each long journal costs each engine.
+fn print_rewritings(quick: bool, budget: Duration) {
+    println!("Rewritings of long journals, {} of each, all in one process:", runs(quick));
+    println!("nanoseconds per command, then microseconds per journal. The hand-written version is");
+    println!("one pass over the bytes that makes the result beside the output buffer.");
+    println!();
+    print!("{:<18} {:>6} {:>6} {:>6}", "journal", "bytes", "cmds", "02");
+    for engine in engines() {
+        print!(" {:>14} {:>14}", format!("{} ns", engine.name()), "us/journal");
+    }
+    println!("{}", if engines().len() > 2 { "  reg/incr" } else { "" });
+    for (name, journal) in REWRITTEN {
+        print_rewriting(name, &journal(), budget);
+    }
+}
+
+fn print_rewriting(name: &str, journal: &[u8], budget: Duration) {
+    let counts = counts(journal).expect("the journal is well-formed");
+    let commands: usize = counts.iter().sum();
+    print!("{name:<18} {:>6} {commands:>6} {:>6}", journal.len(), counts[0x02]);
+    let measured: Vec<(f64, Vec<u8>)> =
+        engines().iter().map(|e| best_rewriting(e.as_ref(), journal, budget)).collect();
+    for (seconds, result) in &measured {
+        assert!(*result == measured[0].1, "the results differ");
+        print!(" {:>14.3} {:>14.1}", 1e9 * seconds / commands as f64, 1e6 * seconds);
+    }
+    if let [_, (incremental, _), (register, _)] = measured[..] {
+        print!(" {:>9.2}", register / incremental);
+    }
+    println!();
+}
+
 /// Runs the last engine on one shape, and prints its time.
 fn run_only(name: &str, buffers: &mut Buffers) {
     let (_, shape) = SHAPES.iter().find(|(each, _)| *each == name).expect("no such shape");
@@ -538,6 +601,9 @@ fn main() {
     if words.iter().any(|word| word == "--forecast") {
         return print_forecasts(quick, budget);
     }
+    if words.iter().any(|word| word == "--rewrite") {
+        return print_rewritings(quick, budget);
+    }
     if words.iter().any(|word| word == "--routes") {
         return print_routes(quick, &mut buffers, budget);
     }
@@ -558,4 +624,6 @@ fn main() {
     print_routes(quick, &mut buffers, budget);
     println!();
     print_forecasts(quick, budget);
+    println!();
+    print_rewritings(quick, budget);
 }

@@ -57,7 +57,7 @@ pub fn run(
 
 /// The case with a table and a report that are long enough. A capacity outside its range becomes the
 /// greatest.
-fn without_room(case: &Case) -> Case {
+pub fn without_room(case: &Case) -> Case {
     let inside = |own: u32, most: u32| if (1..=most).contains(&own) { own } else { most };
     let (c, s) = (inside(case.c, MOST_CABINETS), inside(case.s, MOST_SPANS));
     Case::with_room(&case.label, c, s, case.journal.clone(), 0)
@@ -65,7 +65,7 @@ fn without_room(case: &Case) -> Case {
 
 /// The guards of an empty buffer, moved apart for so many bytes. These are 0, so that a great room
 /// costs nothing where no answer is written.
-fn apart(guards: &[u8], room: usize) -> Vec<u8> {
+pub fn apart(guards: &[u8], room: usize) -> Vec<u8> {
     let mut bytes = vec![0; room + 2 * GUARD];
     bytes[..GUARD].copy_from_slice(&guards[..GUARD]);
     bytes[GUARD + room..].copy_from_slice(&guards[GUARD..]);

@@ -140,7 +140,7 @@ fn for_later(journal: &[u8]) -> usize {
 }
 
 /// Where a run with the greatest capacities and ample room stops.
-fn run_place(journal: &[u8]) -> u32 {
+pub fn run_place(journal: &[u8]) -> u32 {
     let capacities = Capacities::new(MOST_CABINETS, MOST_SPANS);
     let choose = &mut |asked: &Asked| Second::new().own_pair(asked);
     Second::new().walk(capacities, journal, usize::MAX, choose, &mut |_| ()).place as u32
@@ -165,5 +165,9 @@ impl Engine for Unfilled {
             (*place, *length) = before;
         }
         number
+    }
+
+    fn rewrite(&self, journal: &[u8], out: &mut [u8], place: &mut u32, length: &mut u32) -> u32 {
+        Second::new().rewrite(journal, out, place, length)
     }
 }

@@ -4,7 +4,7 @@
 use crate::engine::{Forecast, LONGEST_JOURNAL};
 
 /// The lengths of the commands 03 to 0F, each a hexadecimal digit at its byte's place.
-const LENGTHS: u64 = 0x1375_7333_5553_3000;
+pub const LENGTHS: u64 = 0x1375_7333_5553_3000;
 
 /// The whole part of log2 k, and 0 for 0.
 fn log(k: usize) -> usize {

@@ -15,7 +15,7 @@ pub struct Forest {
     /// A number for each vertex that falls on the way up.
     depth: Vec<u32>,
     ends: Vec<(u32, u32)>,
-    /// For each edge its duct, 0 for none.
+    /// For each edge its duct, 0 for an edge from 02.
     duct: Vec<u32>,
     /// For each edge the one survey record that holds.
     survey: Vec<Option<Survey>>,
@@ -143,7 +143,7 @@ impl Forest {
         self.exchanges.push(0);
     }
 
-    /// Adds an edge in a duct, 0 for none, and gives its block name.
+    /// Adds an edge in a duct, 0 for one from 02, and gives its block name.
     pub fn add_span(&mut self, a: u32, b: u32, duct: u32) -> u32 {
         self.ring.changed.clear();
         self.mesh.changed.clear();
@@ -163,7 +163,7 @@ impl Forest {
     /// The block of a new edge's mates, if its ends are in two bridge-blocks. A block that two such
     /// vertices share consists of mates alone, so one edge of it tells the duct of all.
     fn block_of_mates(&self, a: u32, b: u32, duct: u32) -> Option<u32> {
-        if duct == 0 || self.ring(a) == self.ring(b) {
+        if self.ring(a) == self.ring(b) {
             return None;
         }
         self.shared_mesh(a, b).filter(|&block| self.duct[block as usize] == duct)

@@ -21,7 +21,7 @@ pub struct Routes {
     next: Vec<u32>,
     to: Vec<u32>,
     used: Vec<bool>,
-    /// For each edge its duct, 0 for none.
+    /// For each edge its duct, 0 for an edge from 02.
     duct: Vec<u32>,
     /// For each vertex the side that a search came by, or its place in the route that is read.
     mark: Vec<u32>,
@@ -48,7 +48,7 @@ impl Routes {
     /// An edge that has a lesser mate is in no list.
     fn add_edge(&mut self, a: u32, b: u32, duct: u32) {
         let side = self.to.len() as u32;
-        let is_listed = duct == 0 || !self.has_mate(a, b, duct);
+        let is_listed = !self.has_mate(a, b, duct);
         self.to.extend([b, a]);
         self.next.extend([NONE, NONE]);
         self.used.extend([false, false]);

@@ -79,7 +79,7 @@ impl Mates {
         if rings[a] != rings[b] {
             return Err(format!("0C {a} {b} is answered across two rings"));
         }
-        serve(&self.spans, a, b, pair).map_err(|why| format!("0C {a} {b}: {why}"))
+        serve(of_one_duct, &self.spans, a, b, pair).map_err(|why| format!("0C {a} {b}: {why}"))
     }
 
     /// A span is sole between its ends exactly if these are in two rings.

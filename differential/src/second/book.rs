@@ -1,7 +1,7 @@
 //! The naming book of document 01.
 
 use super::groups::{groups, Labels, Network, NONE};
-use super::mates::Misduct;
+use super::mates::{Misduct, Rule};
 use crate::kinds::{ByKind, Kind, KINDS};
 use crate::spans::Span;
 
@@ -28,9 +28,9 @@ pub struct Book {
 }
 
 impl Book {
-    pub fn empty(fault: Option<Fault>, misduct: Option<Misduct>) -> Book {
+    pub fn empty(rule: Rule, fault: Option<Fault>, misduct: Option<Misduct>) -> Book {
         Book {
-            network: Network { fault: misduct, ..Network::default() },
+            network: Network { rule, fault: misduct, ..Network::default() },
             names: ByKind::default(),
             groups: ByKind::default(),
             fault,

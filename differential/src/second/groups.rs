@@ -3,7 +3,7 @@
 //!
 //! Groups are given by labels: two items share a group exactly if their labels agree.
 
-use super::mates::Misduct;
+use super::mates::{Misduct, Rule};
 use crate::kinds::ByKind;
 use crate::spans::Span;
 
@@ -12,8 +12,21 @@ use crate::spans::Span;
 pub struct Network {
     pub cabinets: usize,
     pub spans: Vec<Span>,
+    /// Which of the spans are mates.
+    pub rule: Rule,
     /// A fault in what is made of the ducts.
     pub fault: Option<Misduct>,
+}
+
+impl Network {
+    pub fn new(cabinets: usize, spans: Vec<Span>) -> Network {
+        Network { cabinets, spans, ..Network::default() }
+    }
+
+    /// The same by another rule of mates.
+    pub fn by(self, rule: Rule) -> Network {
+        Network { rule, ..self }
+    }
 }
 
 /// A label for each cabinet (districts, rings) or for each span (meshes).

@@ -1,24 +1,59 @@
-//! The mates of document 02's third request, and the faults that can be put into what is made of
-//! them.
+//! The mates of document 02's third and seventh requests, and the faults that can be put into what is
+//! made of them.
 
 use super::groups::{Labels, Near, Network, NONE};
 use crate::kinds::ByKind;
 use crate::spans::Span;
 
+/// Which spans are mates. Of 0B spans it is those of one duct between the same two cabinets, in either
+/// direction, whatever the rule.
+#[derive(Clone, Copy, PartialEq, Eq, Debug, Default)]
+pub enum Rule {
+    /// The seventh request: all 02 spans between the same two cabinets are mates of each other, and of
+    /// no 0B span.
+    #[default]
+    OneDuct,
+    /// The third request: a span from 02 has no mate.
+    NoMate,
+}
+
+impl Rule {
+    pub fn are_mates(self, one: Span, other: Span) -> bool {
+        let of_one_kind = match (one.duct, other.duct) {
+            (0, 0) => self == Rule::OneDuct,
+            (0, _) | (_, 0) => false,
+            (duct, other) => duct == other,
+        };
+        of_one_kind && one.lies_beside(other)
+    }
+}
+
 /// A fault put in on purpose, to see that it is found.
 #[derive(Clone, Copy, PartialEq, Eq, Debug)]
 pub enum Misduct {
-    /// Spans of one duct are mates though their ends differ: where they meet at a cabinet, or on the
+    /// 0B spans of one duct are mates though their ends differ: where they meet at a cabinet, or on the
     /// way from one cabinet to another.
     ByDuctAlone,
-    /// Spans in ducts between the same two cabinets are mates, whatever their ducts.
+    /// 0B spans between the same two cabinets are mates, whatever their ducts.
     ByEndsAlone,
-    /// Spans from 02 between the same two cabinets are mates.
-    WithoutDuct,
-    /// Only spans entered in one direction are mates.
+    /// 0B spans are mates only where they are entered in one direction.
     OneDirection,
     /// Ducts are told apart by their low byte alone.
     LowByte,
+    /// 02 spans have no mates.
+    NoMateBy02,
+    /// 02 spans are mates wherever they lie.
+    By02Alone,
+    /// 02 spans are mates only where they are entered in one direction.
+    OneDirectionBy02,
+    /// 02 spans are mates of every 0B span between the same two cabinets.
+    MatesOf0B,
+    /// 02 spans lie in duct 1.
+    By02InDuctOne,
+    /// 02 spans lie in duct 65,535.
+    By02InLastDuct,
+    /// Ducts whose low byte is 0 are that of the 02 spans.
+    LowByteNought,
     /// A span is lost without its mates.
     LostAlone,
     /// Mates that are on no simple cycle share no mesh.
@@ -45,30 +80,47 @@ pub enum Misduct {
     DuctAfterCapacity,
 }
 
-/// Spans of one duct between the same two cabinets, in either direction, are mates. A span from 02
-/// has no mate.
-pub fn are_mates(one: Span, other: Span) -> bool {
-    one.duct != 0 && one.duct == other.duct && one.lies_beside(other)
-}
-
 impl Network {
+    /// Are these two spans mates by the network's rule, whatever the fault?
+    pub fn rightly_mates(&self, s: usize, t: usize) -> bool {
+        self.rule.are_mates(self.spans[s], self.spans[t])
+    }
+
     /// Are these two spans mates, or one span?
     pub fn are_mates(&self, s: usize, t: usize) -> bool {
-        let (one, other) = (self.spans[s], self.spans[t]);
         s == t
             || match self.fault {
-                Some(Misduct::ByDuctAlone) => one.duct != 0 && one.duct == other.duct,
-                Some(Misduct::ByEndsAlone) => {
-                    one.duct != 0 && other.duct != 0 && one.lies_beside(other)
-                }
-                Some(Misduct::WithoutDuct) => one.duct == other.duct && one.lies_beside(other),
-                Some(Misduct::OneDirection) => one.duct != 0 && one == other,
-                Some(Misduct::LowByte) => {
-                    let in_ducts = one.duct != 0 && other.duct != 0;
-                    in_ducts && one.duct % 256 == other.duct % 256 && one.lies_beside(other)
-                }
-                _ => are_mates(one, other),
+                None => self.rightly_mates(s, t),
+                Some(fault) => self.wrongly_mates(fault, s, t),
             }
+    }
+
+    /// The same of two different spans, where there is a fault.
+    fn wrongly_mates(&self, fault: Misduct, s: usize, t: usize) -> bool {
+        let (one, other) = (self.spans[s], self.spans[t]);
+        let beside = one.lies_beside(other);
+        let right = self.rightly_mates(s, t);
+        let laid = |duct: usize| {
+            let span = |span: Span| if span.duct == 0 { duct } else { span.duct };
+            span(one) == span(other)
+        };
+        match (fault, one.duct != 0, other.duct != 0) {
+            (Misduct::ByDuctAlone, true, true) => one.duct == other.duct,
+            (Misduct::ByEndsAlone, true, true) => beside,
+            (Misduct::OneDirection, true, true) => one == other,
+            (Misduct::LowByte, true, true) => one.duct % 256 == other.duct % 256 && beside,
+            (Misduct::NoMateBy02, false, false) => false,
+            (Misduct::By02Alone, false, false) => true,
+            (Misduct::OneDirectionBy02, false, false) => one == other,
+            (Misduct::MatesOf0B, true, false) | (Misduct::MatesOf0B, false, true) => beside,
+            (Misduct::By02InDuctOne, _, _) => laid(1) && beside,
+            (Misduct::By02InLastDuct, _, _) => laid(0xFFFF) && beside,
+            (Misduct::LowByteNought, _, _) => {
+                let told = |span: Span| if span.duct.is_multiple_of(256) { 0 } else { span.duct };
+                told(one) == told(other) && beside
+            }
+            _ => right,
+        }
     }
 
     /// To lose a span is to lose its mates with it.

@@ -4,7 +4,6 @@
 use super::book::Book;
 use super::command::Command;
 use super::groups::{route, route_over, Near, Network, Step};
-use super::mates::are_mates;
 use super::surveys::Surveys;
 use crate::pairs::Pair;
 
@@ -37,8 +36,7 @@ fn pair_over(
     let near = Near::of(network);
     let mut two = [Vec::new(), Vec::new()];
     for step in route_over(&near, a, b, allowed)? {
-        let taken = network.spans[step.span];
-        let spared = |span: usize| span != step.span && !are_mates(network.spans[span], taken);
+        let spared = |span: usize| span != step.span && !network.rightly_mates(span, step.span);
         let round = route_over(&near, a, step.to, &|span| allowed(span) && spared(span))?;
         two = onward(a, two, step, &round);
     }
@@ -116,7 +114,7 @@ fn turned_round(pair: Pair) -> Pair {
 }
 
 fn greatest_mate(network: &Network, span: usize) -> usize {
-    let is_mate = |&other: &usize| are_mates(network.spans[span], network.spans[other]);
+    let is_mate = |&other: &usize| network.rightly_mates(span, other);
     (span + 1..network.spans.len()).rev().find(is_mate).unwrap_or(span)
 }
 
@@ -237,8 +235,7 @@ impl Misroute {
 fn longer(asked: &Asked, right: &Pair) -> Option<Pair> {
     let Asked { network, a, b, left, .. } = *asked;
     let first = right[0][0];
-    let spared =
-        |span: usize| span != first && !are_mates(network.spans[span], network.spans[first]);
+    let spared = |span: usize| span != first && !network.rightly_mates(span, first);
     let count = |[one, other]: &Pair| one.len() + other.len();
     let other = pair_over(network, a, b, &spared)?;
     (count(&other) > count(right) && 5 + 2 * count(&other) <= left).then_some(other)
@@ -259,7 +256,7 @@ fn beside(asked: &Asked, one: &[usize], first: impl Fn(usize) -> Option<usize>) 
     let there = if spans[first].a == a { spans[first].b } else { spans[first].a };
     let is_free = |span: usize| {
         !spans[span].touches(a)
-            && one[1..].iter().all(|&s| s != span && !are_mates(spans[s], spans[span]))
+            && one[1..].iter().all(|&s| s != span && !network.rightly_mates(s, span))
     };
     let rest = route_over(&Near::of(network), there, b, &is_free)?;
     let rest: Vec<usize> = rest.iter().map(|step| step.span).collect();
@@ -270,8 +267,8 @@ fn beside(asked: &Asked, one: &[usize], first: impl Fn(usize) -> Option<usize>) 
 /// is none.
 fn loop_at(asked: &Asked, right: &Pair) -> Option<Vec<usize>> {
     let Asked { network, a, .. } = *asked;
-    let (spans, near) = (&network.spans, Near::of(network));
-    let apart = |s: usize, t: usize| s != t && !are_mates(spans[s], spans[t]);
+    let near = Near::of(network);
+    let apart = |s: usize, t: usize| s != t && !network.rightly_mates(s, t);
     let is_free = |span: usize| right.iter().flatten().all(|&s| apart(s, span));
     near.from(a).iter().filter(|step| is_free(step.span)).find_map(|out| {
         let back = |span: usize| is_free(span) && apart(span, out.span);

@@ -4,7 +4,6 @@
 use super::book::Book;
 use super::command::{Capacities, Command};
 use super::groups::Network;
-use super::mates::are_mates;
 use super::State;
 use std::borrow::Cow;
 use std::rc::Rc;
@@ -171,9 +170,9 @@ pub enum Mismeasure {
     MetresRecorded,
     /// A record is flagged in its span's duct, and the flag taken for a part of the duct.
     FlaggedDuct,
-    /// The flag of a record is taken for a part of its span's duct in 0C alone, where there is a duct.
+    /// The flag of a record is taken for a part of its span's duct in 0C alone, where it is from 0B.
     FlaggedInRoutes,
-    /// The flag of a record is taken for its span's duct in 0C alone, where there is none.
+    /// The flag of a record is taken for its span's duct in 0C alone, where it is from 02.
     FlagForDuctInRoutes,
     /// A record takes its span out of its duct.
     DuctLost,
@@ -253,9 +252,8 @@ impl Mismeasure {
         };
         match self {
             Mismeasure::OfMates => {
-                let own = network.spans[newest.span];
                 let others = (0..network.spans.len()).filter(|&span| span != newest.span);
-                let mates = others.filter(|&span| are_mates(network.spans[span], own));
+                let mates = others.filter(|&span| network.rightly_mates(span, newest.span));
                 records.extend(mates.map(|span| Record { span, ..newest }));
             }
             Mismeasure::LostToRecords => records.retain(|r| r.span + 1 != newest.span),
@@ -266,12 +264,12 @@ impl Mismeasure {
 
     /// Changes the records after a span.
     fn after_span(self, records: &mut Vec<Record>, before: &Book, after: &Book) {
-        let spans = &after.network.spans;
-        let newest = spans[spans.len() - 1];
+        let network = &after.network;
+        let newest = network.spans.len() - 1;
         let names = |book: &Book, r: &Record| book.names.mesh.get(r.span).copied();
         match self {
             Mismeasure::LostInJoins => records.retain(|r| names(before, r) == names(after, r)),
-            Mismeasure::LostToMates => records.retain(|r| !are_mates(spans[r.span], newest)),
+            Mismeasure::LostToMates => records.retain(|r| !network.rightly_mates(r.span, newest)),
             _ => {}
         }
     }

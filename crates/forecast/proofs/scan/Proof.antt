@@ -5,9 +5,10 @@ use native.Mathlib.Omega.{arith}
 use lib.ListN.{length}
 use Rattle.commands.proofs.ForecastFits.{forecast-fits}
 use Rattle.reading.specs.Inside.Reads.{passingOf}
+use Rattle.reading.proofs.PassedAt.{operands-here}
 use Rattle.forecast.specs.Promise.{foretold}
 use Rattle.forecast.specs.Inside.Tallies.{CountedTo}
-use Rattle.forecast.proofs.Scanning.{counted-at-start, counted-to-end, unknown-here, cut-off-here, operands-here, byte-here, counted-behind}
+use Rattle.forecast.proofs.Scanning.{counted-at-start, counted-to-end, unknown-here, cut-off-here, byte-here, counted-behind}
 use borrow.Author.Needs.{needs}
 use Rattle.forecast.proofs.scan.Statement.{statement}
 use Rattle.forecast.proofs.scan.Tie as tie
@@ -85,7 +86,8 @@ place-after-requires c κs =
     let at-passed-at = at-passed .before .before in
     let at-loop = at-passed-at .before .before in
     operands-here
-    (at-loop .loop .inv)
+    (at-loop .before .before .args .journal .now)
+    (at-loop .loop .place)
     (omega arith)
     _
     _

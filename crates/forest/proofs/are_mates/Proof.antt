@@ -4,7 +4,7 @@ use mathlib.Core.List.{List}
 use Prim.Native.Nat.{ℕ, _<_}
 use borrow.Author.Needs.{needs}
 use borrow.Author.Tests.{eq-eqb, ne-eqb}
-use Rattle.graph.specs.Network.{edgeInDuct, parallel, sameDuct, edge, mates}
+use Rattle.graph.specs.Network.{edgeInDuct, parallel, oneDuct, edge, mates}
 use Rattle.forest.specs.declared.Shape.{Shape}
 use Rattle.forest.specs.Rule.{tableRule}
 use Rattle.forest.specs.Inside.Queries.{arePair, endsAgree, lostTogether}
@@ -17,7 +17,7 @@ use Rattle.forest.proofs.are_mates.Tie as tie
 -- the table's rule, by what the table has stored
 by-rule : (shape : Shape) (t : List ℕ) (s r : ℕ) → s < shape .edges → r < shape .edges
     → lostTogether t (shape .limits) s r ≡ networkIn shape t .rule (edge (networkIn shape t) s) (edge (networkIn shape t) r)
-unfolding lostTogether endsAgree arePair tableRule sameDuct parallel storedEdge edgeInDuct
+unfolding lostTogether endsAgree arePair tableRule oneDuct parallel storedEdge edgeInDuct
 by-rule shape t s r h k = rw (rule-held shape t, edge-held shape t s h, edge-held shape t r k) refl
 
 returns : tie.Need-returns

@@ -36,9 +36,7 @@ endsAgree ends other =
 -- Two edges lie in one duct, between the same two vertices.
 unfoldable pub lostTogether : List ℕ → Limits → ℕ → ℕ → Bool
 lostTogether t limits s other =
-    let duct = ductOf t limits s in
-    not (eqb duct 0)
-    && eqb duct (ductOf t limits other)
+    eqb (ductOf t limits s) (ductOf t limits other)
     && endsAgree (cell t (edgeArea limits) Column.ends s) (cell t (edgeArea limits) Column.ends other)
 
 -- Vertex x hangs below a block, and y is the vertex above that block.

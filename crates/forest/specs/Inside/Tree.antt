@@ -1,6 +1,6 @@
 -- What one vertex more, one edge more and a mark do to the table, step by step. An edge links two components, or condenses the path
 -- between two vertices.
-use mathlib.Core.Bool.{Bool, not, cond, _&&_}
+use mathlib.Core.Bool.{Bool, cond, _&&_}
 use mathlib.Core.List.{List}
 use mathlib.Core.Path.{_≡_}
 use Prim.Native.Nat.{ℕ, zero, suc, _+_, _*_, _-_, _%_, _^_}
@@ -147,9 +147,7 @@ enterBlock t limits e w v =
 
 -- The path has one step, and the new edge e lies in the duct of the edge of that step.
 unfoldable pub inStepDuct : List ℕ → Limits → ℕ → ℕ → Bool
-inStepDuct t limits e steps =
-    let duct = ductOf t limits e in
-    eqb steps 1 && not (eqb duct 0) && eqb (ductOf t limits (pathEdge t limits 0)) duct
+inStepDuct t limits e steps = eqb steps 1 && eqb (ductOf t limits (pathEdge t limits 0)) (ductOf t limits e)
 
 -- How many of the path's vertices have their bridge-blocks merged: all, or only the first, which changes nothing, where the new edge lies in
 -- the step's duct. (Then either the step's edge is a bridge and so, being parallel to e, a mate of it, or the path's two vertices share a

@@ -11,7 +11,7 @@ unfoldable pub asksName : VertexGroups → ℕ → Command
 asksName G.Components a = districtName a
 asksName G.BridgeBlocks a = ringName a
 
--- The duct that a new span lies in; 0 for none.
+-- The duct that a new span lies in; 0 where none is told.
 unfoldable pub ductOf : Lay → ℕ
 ductOf L.NoDuct = 0
 ductOf (L.InDuct d) = d .0

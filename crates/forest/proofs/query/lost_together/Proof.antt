@@ -1,5 +1,4 @@
 -- `query::lost_together` tells whether two edges lie in one duct, between the same two vertices.
-use mathlib.Core.Path.{sym}
 use borrow.Author.Needs.{needs}
 use borrow.Author.Tests.{eq-eqb, ne-eqb}
 use Rattle.forest.specs.Inside.Queries.{lostTogether}
@@ -9,27 +8,19 @@ use Rattle.forest.proofs.query.lost_together.Tie as tie
 duct-of-requires : tie.Need-duct-of-requires
 duct-of-requires c κs = search needs
 
-returns : tie.Need-returns
-unfolding lostTogether
-returns c =
-    let at-duct-of = c .before in
-    rw (← at-duct-of .duct-of .ensures, eq-eqb (at-duct-of .duct-of .result) 0 (c .if1 .taken))
-
 duct-of-requires-2 : tie.Need-duct-of-requires-2
 duct-of-requires-2 c κs = search needs
 
-returns-2 : tie.Need-returns-2
+returns : tie.Need-returns
 unfolding lostTogether
-returns-2 c =
+returns c =
     let at-duct-of2 = c .before in
-    let at-if1 = at-duct-of2 .before in
-    let at-duct-of = at-if1 .before in
-    let some = rw (at-duct-of .duct-of .ensures) at (ne-eqb (at-duct-of .duct-of .result) 0 (at-if1 .if1 .left)) in
-    let other =
-    rw (at-duct-of .duct-of .ensures, at-duct-of2 .duct-of2 .ensures) at
-    (ne-eqb (at-duct-of .duct-of .result) (at-duct-of2 .duct-of2 .result) (λ q. c .if2 .taken (sym q)))
-    in
-    rw (some, other)
+    let at-duct-of = at-duct-of2 .before in
+    rw (
+      ← at-duct-of .duct-of .ensures,
+      ← at-duct-of2 .duct-of2 .ensures,
+      ne-eqb (at-duct-of .duct-of .result) (at-duct-of2 .duct-of2 .result) (c .if1 .taken),
+    )
 
 edge-area-requires : tie.Need-edge-area-requires
 edge-area-requires c κs = search needs
@@ -46,30 +37,25 @@ word-requires-2 c κs = search needs
 ends-agree-requires : tie.Need-ends-agree-requires
 ends-agree-requires c κs = search needs
 
-returns-3 : tie.Need-returns-3
+returns-2 : tie.Need-returns-2
 unfolding lostTogether
-returns-3 c =
+returns-2 c =
     let at-word2 = c .before in
     let at-edge-area2 = at-word2 .before in
     let at-word = at-edge-area2 .before in
     let at-edge-area = at-word .before in
-    let at-if2 = at-edge-area .before in
-    let at-duct-of2 = at-if2 .before in
-    let at-if1 = at-duct-of2 .before in
-    let at-duct-of = at-if1 .before in
-    let some = rw (at-duct-of .duct-of .ensures) at (ne-eqb (at-duct-of .duct-of .result) 0 (at-if1 .if1 .left)) in
-    let one =
-    rw (at-duct-of .duct-of .ensures, at-duct-of2 .duct-of2 .ensures) at
-    (eq-eqb (at-duct-of .duct-of .result) (at-duct-of2 .duct-of2 .result) (sym (at-if2 .if2 .left)))
-    in
+    let at-if1 = at-edge-area .before in
+    let at-duct-of2 = at-if1 .before in
+    let at-duct-of = at-duct-of2 .before in
     rw (
       c .ends-agree .ensures,
       at-word2 .word2 .ensures,
       at-edge-area2 .edge-area2 .ensures,
       at-word .word .ensures,
       at-edge-area .edge-area .ensures,
-      some,
-      one,
+      ← at-duct-of .duct-of .ensures,
+      ← at-duct-of2 .duct-of2 .ensures,
+      eq-eqb (at-duct-of .duct-of .result) (at-duct-of2 .duct-of2 .result) (at-if1 .if1 .left),
     )
 
 pub lost-together-spec : {M : Type 1} → statement M
@@ -77,12 +63,11 @@ lost-together-spec =
     tie.close
     (tie.spec
     duct-of-requires
-    returns
     duct-of-requires-2
-    returns-2
+    returns
     edge-area-requires
     word-requires
     edge-area-requires-2
     word-requires-2
     ends-agree-requires
-    returns-3)
+    returns-2)

@@ -10,54 +10,35 @@ returns : tie.Need-returns
 unfolding inStepDuct
 returns c = rw (ne-eqb (c .before .before .args .steps) 1 (λ q. omega (arith, c .if1 .taken)))
 
-duct-of-requires : tie.Need-duct-of-requires
-duct-of-requires c κs = search needs
-
-returns-2 : tie.Need-returns-2
-unfolding inStepDuct
-returns-2 c =
-    let at-duct-of = c .before in
-    let at-if1 = at-duct-of .before in
-    let s = at-if1 .before .before in
-    let none = rw (at-duct-of .duct-of .ensures) at (eq-eqb (at-duct-of .duct-of .result) 0 (c .if2 .taken)) in
-    rw (eq-eqb (s .args .steps) 1 (omega (arith, at-if1 .if1 .left)), none)
-
 vertex-area-requires : tie.Need-vertex-area-requires
 vertex-area-requires c κs = search needs
 
 word-requires : tie.Need-word-requires
 word-requires c κs = search needs
 
+duct-of-requires : tie.Need-duct-of-requires
+duct-of-requires c κs = search needs
+
 duct-of-requires-2 : tie.Need-duct-of-requires-2
 duct-of-requires-2 c κs = search needs
 
-returns-3 : tie.Need-returns-3
+returns-2 : tie.Need-returns-2
 unfolding inStepDuct
-returns-3 c =
-    let at-word = c .before in
+returns-2 c =
+    let at-duct-of = c .before in
+    let at-word = at-duct-of .before in
     let at-vertex-area = at-word .before in
-    let at-if2 = at-vertex-area .before in
-    let at-duct-of = at-if2 .before in
-    let at-if1 = at-duct-of .before in
+    let at-if1 = at-vertex-area .before in
     let s = at-if1 .before .before in
-    let some = rw (at-duct-of .duct-of .ensures) at (ne-eqb (at-duct-of .duct-of .result) 0 (at-if2 .if2 .left)) in
     rw (
       c .duct-of2 .ensures,
+      at-duct-of .duct-of .ensures,
       at-word .word .ensures,
       at-vertex-area .vertex-area .ensures,
-      at-duct-of .duct-of .ensures,
       eq-eqb (s .args .steps) 1 (omega (arith, at-if1 .if1 .left)),
-      some,
     )
 
 pub in-step-duct-spec : {M : Type 1} → statement M
 in-step-duct-spec =
     tie.close
-    (tie.spec
-    returns
-    duct-of-requires
-    returns-2
-    vertex-area-requires
-    word-requires
-    duct-of-requires-2
-    returns-3)
+    (tie.spec returns vertex-area-requires word-requires duct-of-requires duct-of-requires-2 returns-2)

@@ -22,16 +22,16 @@ set-use-requires c κs = search needs
 mates-use-requires : tie.Need-mates-use-requires
 mates-use-requires c κs = search needs
 
-tell-mates-requires : tie.Need-tell-mates-requires
-tell-mates-requires c κs = search needs
+set-mates-use-requires : tie.Need-set-mates-use-requires
+set-mates-use-requires c κs = search needs
 
 same-length : tie.Need-same-length
 same-length c = search needs
 
 returns : tie.Need-returns
 returns c =
-    let at-tell-mates = c .before .before in
-    let at-mates-use = at-tell-mates .before in
+    let at-set-mates-use = c .before .before in
+    let at-mates-use = at-set-mates-use .before in
     let at-set-use = at-mates-use .before .before .before .before in
     let at-taken-use = at-set-use .before in
     let at-ends-of = at-taken-use .before .before .before .before in
@@ -44,7 +44,7 @@ returns c =
     (at-taken-use .taken-use .ensures)
     (at-mates-use .mates-use .ensures)
     (at-set-use .set-use .ensures)
-    (at-tell-mates .tell-mates .ensures)
+    (at-set-mates-use .set-mates-use .ensures)
 
 pub take-step-spec : {M : Type 1} → statement M
 take-step-spec =
@@ -55,6 +55,6 @@ take-step-spec =
     taken-use-requires
     set-use-requires
     mates-use-requires
-    tell-mates-requires
+    set-mates-use-requires
     same-length
     returns)

@@ -1,9 +1,9 @@
--- `write::put_byte` stores a byte; beyond the end it stores nothing.
+-- `put_byte` stores a byte; beyond the end it stores nothing.
 use mathlib.Core.Path.{sym}
 use borrow.Author.Needs.{needs}
 use lib.Seq.{set-out}
-use Rattle.writing.proofs.write.put_byte.Statement.{statement}
-use Rattle.writing.proofs.write.put_byte.Tie as tie
+use Rattle.storing.proofs.put_byte.Statement.{statement}
+use Rattle.storing.proofs.put_byte.Tie as tie
 
 slice-write-out : tie.Need-slice-write-out
 slice-write-out c = search needs

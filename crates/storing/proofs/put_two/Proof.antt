@@ -1,9 +1,9 @@
--- `write::put_two` stores the two bytes of a number, high byte first.
+-- `put_two` stores the two bytes of a number, high byte first.
 use native.Mathlib.Numerals.{add-one}
 use borrow.Author.Needs.{needs}
 use Rattle.commands.specs.Bytes.{twoBytes}
-use Rattle.writing.proofs.write.put_two.Statement.{statement}
-use Rattle.writing.proofs.write.put_two.Tie as tie
+use Rattle.storing.proofs.put_two.Statement.{statement}
+use Rattle.storing.proofs.put_two.Tie as tie
 
 cast-put-byte : tie.Need-cast-put-byte
 cast-put-byte c = search needs

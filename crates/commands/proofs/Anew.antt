@@ -1,0 +1,40 @@
+-- The histories with ducts, those of the old reading and the rewritings hold of the definitions: each table is computed at once. (By its name
+-- it comes before the laws about the register's rule and about rewriting: a wrong rule is refused here first.)
+use mathlib.Core.List.{map}
+use mathlib.Core.Logic.{_≢_}
+use mathlib.Core.Path.{_≡_, refl, ap}
+use native.Mathlib.Omega.{arith}
+use lib.ListN.{length}
+use Rattle.commands.specs.Register.{program, programReport}
+use Rattle.commands.specs.Histories.{History}
+use Rattle.commands.specs.Histories
+use Rattle.commands.specs.DuctHistories
+use Rattle.commands.specs.DuctHistories.{ductHistories}
+use Rattle.commands.specs.RewriteHistories
+use Rattle.commands.specs.RewriteHistories.{readAnew, doubledSpan, oldReadings}
+use Rattle.commands.specs.Calls.{rewriteCall, rewritingOf, spans02, spans0B, rewritings}
+use Rattle.commands.proofs.Computed.{computed}
+
+-- the history that the program makes of the same input
+abbrev pub made : History → History
+made h = record { input = h .input; output = program (h .input); report = programReport (h .input) }
+
+-- of the table with ducts the program makes the table
+pub duct-histories-made : map made ductHistories ≡ ductHistories
+unfolding computed Histories.output Histories.accepted Histories.refusedWith Histories.notice DuctHistories.twoInOneDuct DuctHistories.twoInTwoDucts DuctHistories.besideADuct DuctHistories.loopAroundADuct DuctHistories.measuredInSpans DuctHistories.oneNumberAtTwoPairs DuctHistories.greatestDuct DuctHistories.twoWithNoDuctTold DuctHistories.loopWithNoDuctTold DuctHistories.inNoDuct DuctHistories.ductHistories
+duct-histories-made = refl
+
+-- So each journal is rewritten.
+pub rewritings-shown : map rewritingOf rewritings ≡ map (λ c. c .rewriting) rewritings
+unfolding computed rewriteCall rewritingOf spans02 spans0B rewritings
+rewritings-shown = refl
+
+-- So journals of the old reading are rewritten, and answered before and after.
+pub old-readings-shown : map (λ h. readAnew (h .journal)) oldReadings ≡ oldReadings
+unfolding computed Histories.output Histories.notice RewriteHistories.answersAndNumber RewriteHistories.answeredUnder RewriteHistories.readAnew RewriteHistories.inOneRing RewriteHistories.doubledSpan RewriteHistories.routesAndRefusal RewriteHistories.doubledRoutes RewriteHistories.oldReadings
+old-readings-shown = refl
+
+-- And the first would be answered otherwise as it stands.
+pub rewriting-needed : doubledSpan .before ≢ doubledSpan .otherwise
+unfolding computed Histories.output Histories.notice RewriteHistories.inOneRing RewriteHistories.doubledSpan
+rewriting-needed e = omega (arith, ap length e)

@@ -1,0 +1,4 @@
+pub mod Going
+pub mod Measuring
+pub mod Writing
+pub mod Ends
