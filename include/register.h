@@ -5,7 +5,8 @@
  * buffers that the caller lends for the time of the call. A call of register_forecast before it gives
  * a length of the answer buffer that suffices. A call of register_rewrite turns a journal of the old
  * reading, by which spans from 02 have no mates, into one that a run answers as that reading does.
- * Nothing is kept between calls.
+ * Nothing is kept between calls. Wherever a journal or an answer has a number in two bytes, the high
+ * byte comes first.
  */
 #ifndef REGISTER_H
 #define REGISTER_H
@@ -115,6 +116,20 @@ enum {
  * first. So records of different days give the same length however they are arranged. Any numbers will
  * do for day and metres: day 0 comes before day 1 and is a day like any other, and a length of 0
  * metres is one. Every span has its own records, mates too, and they change no other answer.
+ */
+
+/*
+ * Sizes. Command 03 a, with an operand of two bytes, asks for the district of cabinet a, and command
+ * 04 a for its ring. They are answered by 83 and by 84, followed by the name and then the size, in two
+ * bytes each, high byte first: 5 bytes in all. The size is the number of cabinets of the district or
+ * ring that a has when the question is answered, a itself among them, so it is at least 1 and at most
+ * the capacity c. A cabinet that is not there is refused with REGISTER_UNKNOWN_CABINET by both.
+ *
+ * Asked at one time, 03 gives the same two fields for all cabinets of one district, and 04 for all of
+ * one ring. The size is how many cabinets bear the name by then, as that of their district or of their
+ * ring, so a planner that keeps each cabinet's names, from 81 and the notices, can count it too. The
+ * sizes of the rings of a district, each ring counted once, add up to the district's. The size of a mesh
+ * is not told.
  */
 
 /*

@@ -216,6 +216,16 @@ static void small_journal(unsigned seed)
         put(below(256));
 }
 
+/* The names and sizes of the districts and rings of some cabinets, the first and the last among them. */
+static void ask_names(void)
+{
+    for (unsigned i = 0; i < 100; i++) {
+        unsigned cabinet = i % 2 == 0 ? i : cabinets - i;
+        command(0x03, 1, cabinet, 0);
+        command(0x04, 1, cabinet, 0);
+    }
+}
+
 /* Questions about exchanges. */
 static void ask_exchanges(void)
 {
@@ -243,8 +253,9 @@ static void ask_far_routes(void)
 }
 
 /* All cabinets in a chain, the first links of it in ducts, measured and then with mates; exchanges in it,
-   its lists, the span that closes it, spans until there are no more, and questions until the journal is
-   as long as it may be; routes round the loop, and in the whole network, and lengths there. */
+   its names and its lists, the span that closes it, spans until there are no more, and questions until the
+   journal is as long as it may be; routes round the loop, and in the whole network, and lengths and names
+   there. */
 static void large_journal(void)
 {
     unsigned most = REGISTER_MOST_CABINETS;
@@ -261,6 +272,7 @@ static void large_journal(void)
     for (unsigned i = 0; i < 100; i++)
         command(0x09, 1, 8 * i, 0);
     ask_exchanges();
+    ask_names();
     command(0x06, 2, 0, most - 1);
     command(0x07, 2, most - 1, 0);
     command(0x02, 2, most - 1, 0);
@@ -272,6 +284,7 @@ static void large_journal(void)
     ask_exchanges();
     ask_far_routes();
     survey();
+    ask_names();
     while (journal_length < LONGEST)
         command(0x05, 2, 0, 1);
 }
@@ -711,6 +724,18 @@ static int run_cut_short(void)
     return run_in_forecast_room(journal_length - 1 - journal_number % MOST_CUT, &call, &outcome);
 }
 
+/* The longest journals of questions about names and sizes, 5 bytes for each answer. */
+static int forecast_names(void)
+{
+    const struct forecast five_each = {REGISTER_ACCEPTED, LONGEST - 1, 109225};
+    const struct forecast cut_off = {REGISTER_CUT_OFF, LONGEST - 1, 0};
+    memset(journal, 0x03, sizeof journal);
+    if (!forecasts(LONGEST - 1, five_each) || !forecasts(LONGEST, cut_off))
+        return 0;
+    memset(journal, 0x04, sizeof journal);
+    return forecasts(LONGEST - 1, five_each) && forecasts(LONGEST, cut_off);
+}
+
 /* The longest journals of one command alone, damaged in the last byte, and longer ones. */
 static int forecast_longest(void)
 {
@@ -807,8 +832,8 @@ static int run_all(unsigned journals)
             return 0;
     }
     large_journal();
-    return run_journal() && run_cut_short() && rewrite_around(journal_length) && forecast_longest()
-        && rewrite_longest() && rewrite_told();
+    return run_journal() && run_cut_short() && rewrite_around(journal_length) && forecast_names()
+        && forecast_longest() && rewrite_longest() && rewrite_told();
 }
 
 static int make_all_pages(void)

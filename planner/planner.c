@@ -3,11 +3,16 @@
  * forecasts, has the journal run by the register in one call with its own buffers, and reads the
  * answers. It keeps a name for each cabinet and span from the notices alone, a mark for each exchange
  * that it entered (09), the spans that it entered (02 and 0B), and the lengths that were measured (0D).
- * It holds each name that it asked for (03, 04 and 05) against its own, each new number against the next
- * one, what is answered about exchanges (0A and 0F) against its own marks and ring names, what is answered
- * about sole spans (06 and 08) against its own spans and ring names, and the length of each span (0E)
- * against its own records, and follows each two routes that it asked for (0C) over its own spans. It
- * prints the names, the lengths and the last two routes, with how long these are.
+ * It holds each name that it asked for (03, 04 and 05) against its own, each size (03 and 04) against how
+ * many cabinets bear the name in its own list, the sizes of the rings of each district against the
+ * district's, each new number against the next one, what is answered about exchanges (0A and 0F) against
+ * its own marks and ring names, what is answered about sole spans (06 and 08) against its own spans and
+ * ring names, and the length of each span (0E) against its own records, and follows each two routes that
+ * it asked for (0C) over its own spans. It prints the names, the sizes, the lengths and the last two
+ * routes, with how long these are.
+ *
+ * It queues splicing orders, one for each ring without an exchange, by the size of the ring: the largest
+ * first, among equals the least name. It prints the queue whenever it is another than before.
  *
  * Then it takes a small journal of a branch on the old reading, by which spans from 02 have no mates. It
  * runs it as it stands, has it rewritten, runs the result, and prints what each of the two runs tells.
@@ -152,8 +157,8 @@ static void ask_all_routes(unsigned first, unsigned count)
                 ask_routes(a, b);
 }
 
-/* Asks for every name there is, which spans are sole and how long, which rings hold an exchange, and the
-   share. */
+/* A round of questions: for every name there is, and the sizes of districts and rings, which spans are
+   sole and how long, which rings hold an exchange, and last the share. */
 static void ask_all(unsigned cabinets)
 {
     for (unsigned cabinet = 0; cabinet < cabinets; cabinet++) {
@@ -301,6 +306,7 @@ static size_t asked_at, answered_at;
 
 /* What was asked for and what the list had, for the last answer about each item. */
 static unsigned asked_district[CABINETS], asked_ring[CABINETS], asked_mesh[SPANS];
+static unsigned asked_district_size[CABINETS], asked_ring_size[CABINETS];
 static unsigned asked_length[SPANS], asked_sole[SPANS];
 static unsigned asked_share, notices_read, routes_read, lengths_read, compared, differences;
 
@@ -380,14 +386,38 @@ static void read_span(size_t command_length)
     answered_at += 7 + 5 * (size_t)count;
 }
 
-/* The answer to 03 or 04: a cabinet's name of one kind. */
-static void read_name(const char *kind, const unsigned learnt[], unsigned asked[])
+/* How many cabinets bear this name in a list. */
+static unsigned bearers(const unsigned names[], unsigned name)
 {
-    unsigned item = two_bytes(journal + asked_at + 1);
-    asked[item] = two_bytes(answers + answered_at + 1);
-    hold(kind, item, asked[item], learnt[item]);
+    unsigned count = 0;
+    for (size_t item = 0; item < cabinets_known; item++)
+        count += names[item] == name;
+    return count;
+}
+
+/* A kind of group that 03 or 04 asks for: what its name and size are called, the names learnt, and what
+   was answered last. */
+struct kind {
+    const char *name, *size;
+    const unsigned *learnt;
+    unsigned *asked, *asked_size;
+};
+
+static const struct kind of_district = {"district", "size of the district of", district,
+                                        asked_district, asked_district_size};
+static const struct kind of_ring = {"ring", "size of the ring of", ring, asked_ring, asked_ring_size};
+
+/* The answer to 03 or 04: a cabinet's name of one kind, and how many cabinets bear it. */
+static void read_name(const struct kind *kind)
+{
+    const uint8_t *answer = answers + answered_at;
+    unsigned item = two_bytes(journal + asked_at + 1), learnt = kind->learnt[item];
+    kind->asked[item] = two_bytes(answer + 1);
+    kind->asked_size[item] = two_bytes(answer + 3);
+    hold(kind->name, item, kind->asked[item], learnt);
+    hold(kind->size, item, kind->asked_size[item], bearers(kind->learnt, learnt));
     asked_at += 3;
-    answered_at += 3;
+    answered_at += 5;
 }
 
 /* Both ends of a span share its mesh. */
@@ -552,6 +582,84 @@ static void read_share(void)
     answered_at += 3;
 }
 
+/* Is this the first cabinet with its name in a list? */
+static int is_first(const unsigned names[], size_t item)
+{
+    for (size_t other = 0; other < item; other++)
+        if (names[other] == names[item])
+            return 0;
+    return 1;
+}
+
+/* What the sizes of the rings of a district add up to, each ring counted once. */
+static unsigned sum_of_rings(unsigned name)
+{
+    unsigned sum = 0;
+    for (size_t item = 0; item < cabinets_known; item++)
+        if (asked_district[item] == name && is_first(asked_ring, item))
+            sum += asked_ring_size[item];
+    return sum;
+}
+
+static void hold_sums(void)
+{
+    for (size_t item = 0; item < cabinets_known; item++)
+        if (is_first(asked_district, item))
+            hold("sum of the sizes of the rings of district", asked_district[item],
+                 sum_of_rings(asked_district[item]), asked_district_size[item]);
+}
+
+/* A splicing order, for the ring of this name. Its weight is the size of the ring. */
+struct order {
+    unsigned ring, size;
+};
+
+static struct order queue[CABINETS];
+static size_t queued;
+
+/* The larger ring comes first; among equals, the least name. */
+static int comes_before(struct order one, struct order other)
+{
+    return one.size > other.size || (one.size == other.size && one.ring < other.ring);
+}
+
+static void enqueue(struct order order)
+{
+    size_t at = queued++;
+    for (; at > 0 && comes_before(order, queue[at - 1]); at--)
+        queue[at] = queue[at - 1];
+    queue[at] = order;
+}
+
+/* Makes the queue anew, with an order for each ring that no exchange feeds; 0 if it is as before. */
+static int make_queue(void)
+{
+    struct order before[CABINETS];
+    size_t queued_before = queued;
+    memcpy(before, queue, sizeof queue);
+    queued = 0;
+    for (size_t item = 0; item < cabinets_known; item++)
+        if (is_first(asked_ring, item) && !holds_exchange(asked_ring[item]))
+            enqueue((struct order){asked_ring[item], asked_ring_size[item]});
+    return queued != queued_before || memcmp(queue, before, queued * sizeof queue[0]) != 0;
+}
+
+static void print_queue(void)
+{
+    printf("queue, rings with their sizes:");
+    for (size_t i = 0; i < queued; i++)
+        printf(" %u (%u)", queue[i].ring, queue[i].size);
+    printf("\n");
+}
+
+/* With the share a round of questions ends: each name and size was told, and no span came in between. */
+static void end_round(void)
+{
+    hold_sums();
+    if (make_queue())
+        print_queue();
+}
+
 /* The byte that answers a command: 0B as 02, every other one by its own plus 80. */
 static unsigned answering(unsigned byte)
 {
@@ -566,8 +674,8 @@ static int read_answer(void)
     switch (answers[answered_at]) {
     case 0x81: read_cabinet(); return 1;
     case 0x82: read_span(journal[asked_at] == 0x0B ? 7 : 5); return 1;
-    case 0x83: read_name("district", district, asked_district); return 1;
-    case 0x84: read_name("ring", ring, asked_ring); return 1;
+    case 0x83: read_name(&of_district); return 1;
+    case 0x84: read_name(&of_ring); return 1;
     case 0x85: read_mesh(); return 1;
     case 0x86: read_sole_list(); return 1;
     case 0x88: read_sole(); return 1;
@@ -576,7 +684,7 @@ static int read_answer(void)
     case 0x8C: read_routes(); return 1;
     case 0x8D: read_record(); return 1;
     case 0x8E: read_length(); return 1;
-    case 0x8F: read_share(); return 1;
+    case 0x8F: read_share(); end_round(); return 1;
     default: return 0;
     }
 }
@@ -597,10 +705,10 @@ static int read_answers(void)
 
 static void print_names(void)
 {
-    printf("cabinet  district learnt asked  ring learnt asked\n");
+    printf("cabinet  district learnt asked size  ring learnt asked size\n");
     for (size_t item = 0; item < cabinets_known; item++)
-        printf("%7zu  %15u %5u  %11u %5u\n", item, district[item], asked_district[item],
-               ring[item], asked_ring[item]);
+        printf("%7zu  %15u %5u %4u  %11u %5u %4u\n", item, district[item], asked_district[item],
+               asked_district_size[item], ring[item], asked_ring[item], asked_ring_size[item]);
     printf("span  mesh learnt asked  metres\n");
     for (size_t item = 0; item < spans_known; item++) {
         printf("%4zu  %11u %5u", item, mesh[item], asked_mesh[item]);
@@ -660,7 +768,7 @@ static int plan_villages(void)
         print_routes();
     printf("%u bytes of room were forecast for the answers, %u were taken\n",
            (unsigned)answers_length, (unsigned)report[REGISTER_REPORT_ANSWERS]);
-    printf("%u commands, %u notices, %u pairs of routes and %u lengths read, %u names, numbers, "
+    printf("%u commands, %u notices, %u pairs of routes and %u lengths read, %u names, sizes, numbers, "
            "exchanges, sole spans, routes and lengths compared, %u differ\n",
            (unsigned)report[REGISTER_REPORT_COMMANDS], notices_read, routes_read, lengths_read,
            compared, differences);
@@ -693,7 +801,7 @@ static void forget_answers(void)
     free(answers);
     answers = NULL;
     asked_at = answered_at = 0;
-    cabinets_known = spans_known = 0;
+    cabinets_known = spans_known = queued = 0;
     memset(exchange, 0, sizeof exchange);
     memset(measured, 0, sizeof measured);
 }
@@ -717,11 +825,12 @@ static void print_branch(void)
             printf(" %zu", span);
 }
 
-/* Holds them against those that the branch must have. */
-static void hold_branch(const unsigned rings[3], const unsigned sole[3])
+/* Holds them, and the sizes of the rings, against those that the branch must have. */
+static void hold_branch(const unsigned rings[3], const unsigned sizes[3], const unsigned sole[3])
 {
     for (size_t item = 0; item < 3; item++) {
         hold("ring, in the branch, of cabinet", item, asked_ring[item], rings[item]);
+        hold("size, in the branch, of the ring of cabinet", item, asked_ring_size[item], sizes[item]);
         hold("sole, in the branch, is span", item, asked_sole[item], sole[item]);
     }
 }
@@ -759,13 +868,13 @@ static int refuse_again(void)
    routes. */
 static int plan_as_it_stands(void)
 {
-    static const unsigned rings[3] = {0, 1, 2}, sole[3] = {1, 1, 1};
+    static const unsigned rings[3] = {0, 1, 2}, sizes[3] = {1, 1, 1}, sole[3] = {1, 1, 1};
     if (!run_branch(REGISTER_NO_SHARED_RING))
         return 0;
     printf("a journal of the old reading, as it stands: ");
     print_branch();
     printf(", no two routes from 0 to 1\n");
-    hold_branch(rings, sole);
+    hold_branch(rings, sizes, sole);
     return differences == 0;
 }
 
@@ -773,7 +882,7 @@ static int plan_as_it_stands(void)
    room that is forecast is the same. */
 static int plan_rewritten(void)
 {
-    static const unsigned rings[3] = {0, 0, 2}, sole[3] = {0, 0, 1};
+    static const unsigned rings[3] = {0, 0, 2}, sizes[3] = {2, 2, 1}, sole[3] = {0, 0, 1};
     size_t old_length = journal_length;
     uint32_t room = answers_length;
     if (!rewrite_journal() || !run_branch(REGISTER_ACCEPTED))
@@ -785,7 +894,7 @@ static int plan_rewritten(void)
     printf(" and");
     print_route(other);
     printf("\n");
-    hold_branch(rings, sole);
+    hold_branch(rings, sizes, sole);
     for (size_t span = 0; span < spans_known; span++)
         hold("duct of span", span, duct[span], (unsigned)span + 1);
     hold("room forecast for bytes", journal_length, answers_length, room);

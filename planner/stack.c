@@ -65,19 +65,31 @@ static void add_cabinets(void)
     journal_length = cabinets;
 }
 
-/* An exchange at one end, a record of the first span, both lists from end to end, in both directions; then
-   the span that closes the chain, the two ways round it, in both directions, the questions about
-   exchanges, and the lengths of a span that has a record and of one that has none. */
+/* The names and sizes of a cabinet's district and ring. */
+static void ask_names(unsigned cabinet)
+{
+    put(3, 0x03, cabinet, 0);
+    put(3, 0x04, cabinet, 0);
+}
+
+/* An exchange at one end, a record of the first span, names and sizes at both ends, both lists from end to
+   end, in both directions; then the span that closes the chain, names and sizes again, the two ways round
+   it, in both directions, the questions about exchanges, and the lengths of a span that has a record and
+   of one that has none. */
 static void ask_and_close(unsigned first, unsigned last)
 {
     put(3, 0x09, last, 0);
     put(7, 0x0D, 0, 3);
+    ask_names(first);
+    ask_names(last);
     command(0x06, first, last);
     command(0x06, last, first);
     command(0x07, first, last);
     command(0x07, last, first);
     command(0x05, first, last);
     command(0x02, last, first);
+    ask_names(first);
+    ask_names(last);
     command(0x06, first, last);
     command(0x0C, first, last);
     command(0x0C, last, first);

@@ -33,6 +33,10 @@ pub struct Tally {
     pub notices: usize,
     /// Pairs of routes that were given with ample room.
     pub pairs: usize,
+    /// How often 03 was answered, and how often 04.
+    pub sizes: [usize; 2],
+    /// How often all sizes of a district of several rings were told, and added up.
+    pub added_up: usize,
     /// How often 0E was answered without a length, and how often with one.
     pub lengths: [usize; 2],
     /// How often each number from 0 to 5 was returned by a forecast.
@@ -46,6 +50,21 @@ pub struct Tally {
     /// and the pairs of routes given there.
     pub held: [usize; 2],
     pub held_pairs: usize,
+}
+
+impl Tally {
+    /// One journal more, whose run returned this number, with what the planner has read.
+    fn count(&mut self, number: u32, read: &Read) {
+        self.journals += 1;
+        self.returned[number as usize] += 1;
+        self.commands += read.commands;
+        self.notices += read.notices;
+        self.added_up += read.added_up;
+        for i in 0..2 {
+            self.sizes[i] += read.sizes[i];
+            self.lengths[i] += read.lengths[i];
+        }
+    }
 }
 
 /// The buffers of one call, each between guards, with random contents.
@@ -147,12 +166,7 @@ pub fn compare(
     same_buffers(&got, &wanted)?;
     let read = planned.map_err(|fault| format!("the planner finds: {fault}"))?;
     all_read(&read, number, &got)?;
-    tally.journals += 1;
-    tally.returned[number as usize] += 1;
-    tally.commands += read.commands;
-    tally.notices += read.notices;
-    tally.lengths[0] += read.lengths[0];
-    tally.lengths[1] += read.lengths[1];
+    tally.count(number, &read);
     Ok(ample.needed)
 }
 

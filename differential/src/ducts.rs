@@ -23,14 +23,14 @@ const IN_5: Line = ("0B 0000 0001 0005", FIRST);
 /// ring changes. Its own mesh, of size 1, joins that of span 0, of size 1: the least name, 0, stays.
 const ITS_MATE: Line = ("0B 0000 0001 0005", "82 0001 0000 0000");
 
-/// Names of the cabinets 0 and 1, and what lies between them, both ways.
+/// The rings of the cabinets 0 and 1, and what lies between them, both ways.
 const ASKED_OF_2: &str = "04 0000 04 0001 05 0000 0001 06 0000 0001 06 0001 0000";
 
-/// Two rings; a mesh of name 0; one set of mates parts them, whose least is span 0.
-const PARTED_BY_0: &str = "84 0000 84 0001 85 01 0000 86 0001 0000 86 0001 0000";
+/// Two rings of one cabinet each; a mesh of name 0; one set of mates parts them, whose least is span 0.
+const PARTED_BY_0: &str = "84 0000 0001 84 0001 0001 85 01 0000 86 0001 0000 86 0001 0000";
 
-/// One ring and one mesh, both of name 0; nothing parts them.
-const ONE_RING: &str = "84 0000 84 0000 85 01 0000 86 0000 86 0000";
+/// One ring of two cabinets and one mesh, both of name 0; nothing parts them.
+const ONE_RING: &str = "84 0000 0002 84 0000 0002 85 01 0000 86 0000 86 0000";
 
 /// Span 1, no mate of span 0: the two are a simple cycle, so the rings and the meshes become one.
 const CLOSES: &str = "82 0001 0000 0001 02 0001 0000";
@@ -49,7 +49,7 @@ const KNOWN: [Known; 26] = [
             (ASKED_OF_2, PARTED_BY_0),
             ("08 0000 08 0001 07 0000 0001", "88 01 88 01 87 0000"),
         ],
-        [0, 48, 12, 52, 2, 2],
+        [0, 48, 12, 56, 2, 2],
     ),
     (
         "two spans of two ducts: one ring, neither sole",
@@ -60,7 +60,7 @@ const KNOWN: [Known; 26] = [
             (ASKED_OF_2, ONE_RING),
             ("08 0000 08 0001", "88 00 88 00"),
         ],
-        [0, 43, 11, 50, 2, 2],
+        [0, 43, 11, 54, 2, 2],
     ),
     // Mates in either direction: as the first history.
     (
@@ -72,7 +72,7 @@ const KNOWN: [Known; 26] = [
             (ASKED_OF_2, PARTED_BY_0),
             ("08 0000 08 0001", "88 01 88 01"),
         ],
-        [0, 43, 11, 49, 2, 2],
+        [0, 43, 11, 53, 2, 2],
     ),
     // A span from 02 is a mate of no 0B span: it protects, and is protected.
     (
@@ -84,7 +84,7 @@ const KNOWN: [Known; 26] = [
             (ASKED_OF_2, ONE_RING),
             ("08 0000 08 0001", "88 00 88 00"),
         ],
-        [0, 41, 11, 50, 2, 2],
+        [0, 41, 11, 54, 2, 2],
     ),
     (
         "0B beside 02",
@@ -95,7 +95,7 @@ const KNOWN: [Known; 26] = [
             (ASKED_OF_2, ONE_RING),
             ("08 0000 08 0001", "88 00 88 00"),
         ],
-        [0, 41, 11, 50, 2, 2],
+        [0, 41, 11, 54, 2, 2],
     ),
     // The loss of both mates leaves the span from 02, and its loss leaves the mates. It is on a
     // cycle with each of them, so the mesh of size 2 takes it in.
@@ -110,7 +110,7 @@ const KNOWN: [Known; 26] = [
             (ASKED_OF_2, ONE_RING),
             ("08 0000 08 0001 08 0002", "88 00 88 00 88 00"),
         ],
-        [0, 72, 18, 79, 2, 3],
+        [0, 72, 18, 87, 2, 3],
     ),
     // Spans 0 and 2 are mates, and 1 and 3: each set protects the other. The later two find one
     // ring and one mesh.
@@ -125,7 +125,7 @@ const KNOWN: [Known; 26] = [
             (ASKED_OF_2, ONE_RING),
             ("08 0000 08 0001 08 0002 08 0003", "88 00 88 00 88 00 88 00"),
         ],
-        [0, 63, 15, 68, 2, 4],
+        [0, 63, 15, 72, 2, 4],
     ),
     // Duct 255 is another, though its low byte is that of 65,535.
     (
@@ -138,7 +138,7 @@ const KNOWN: [Known; 26] = [
             ("0B 0000 0001 00FF", CLOSES_BESIDE_MATES),
             (ASKED_OF_2, ONE_RING),
         ],
-        [0, 65, 15, 73, 2, 3],
+        [0, 65, 15, 81, 2, 3],
     ),
     // Neither is duct 0, and they are no mates.
     (
@@ -149,7 +149,7 @@ const KNOWN: [Known; 26] = [
             ("0B 0000 0001 0200", CLOSES),
             (ASKED_OF_2, ONE_RING),
         ],
-        [0, 37, 9, 46, 2, 2],
+        [0, 37, 9, 50, 2, 2],
     ),
     // The walk 0, 1, 2, 1, 0 takes every span once and comes back, but each duct twice. So spans 0
     // and 3 are one set, 1 and 2 the other, and each parts 0 from 2. Then a span from 02 makes the
@@ -162,7 +162,7 @@ const KNOWN: [Known; 26] = [
             ("0B 0001 0002 0006", "82 0001 0001 0001 01 0002 0000"),
             ("0B 0002 0001 0006", "82 0002 0001 0000"),
             ("0B 0001 0000 0005", "82 0003 0000 0000"),
-            ("04 0000 04 0001 04 0002", "84 0000 84 0001 84 0002"),
+            ("04 0000 04 0001 04 0002", "84 0000 0001 84 0001 0001 84 0002 0001"),
             ("05 0000 0001 05 0001 0002 05 0000 0002", "85 01 0000 85 01 0001 85 00 0000"),
             ("06 0000 0002 06 0002 0000", "86 0002 0000 0001 86 0002 0001 0000"),
             ("07 0000 0002", "87 0001 0001"),
@@ -170,7 +170,7 @@ const KNOWN: [Known; 26] = [
             ("02 0000 0001", "82 0004 0000 0001 02 0001 0000"),
             ("06 0000 0002 08 0000 08 0003 08 0001", "86 0001 0001 88 00 88 00 88 01"),
         ],
-        [0, 101, 25, 118, 3, 5],
+        [0, 101, 25, 124, 3, 5],
     ),
     // Spans 0 and 1 are mates, a mesh of size 2. Span 3 closes the loop 0, 1, 2, which uses one of
     // them: three rings become one, and the mesh of span 2 joins theirs. Span 4 finds its mates in
@@ -262,7 +262,7 @@ const KNOWN: [Known; 26] = [
             TWO_RINGS,
             ("0B 0001 0002 0005", "82 0004 0004 0002 01 0002 0000 01 0003 0000"),
             ("0B 0002 0001 0005", "82 0005 0004 0000"),
-            ("06 0000 0003 04 0003", "86 0001 0004 84 0002"),
+            ("06 0000 0003 04 0003", "86 0001 0004 84 0002 0002"),
             (
                 "0B 0003 0000 0005",
                 "82 0006 0000 0006 02 0002 0000 02 0003 0000 \
@@ -270,7 +270,7 @@ const KNOWN: [Known; 26] = [
             ),
             ("06 0000 0003 08 0005", "86 0000 88 00"),
         ],
-        [0, 69, 15, 134, 4, 7],
+        [0, 69, 15, 136, 4, 7],
     ),
     // Spans 0, 2 and 4 are mates, between 0 and 1. From 0 to 3 each link parts: the set by its
     // least, then 1, then 3. The last span closes the loop; the set's mesh has size 3.
@@ -351,7 +351,7 @@ const BY_02: [Known; 13] = [
             (ASKED_OF_2, PARTED_BY_0),
             ("08 0000 08 0001 07 0000 0001", "88 01 88 01 87 0000"),
         ],
-        [0, 44, 12, 52, 2, 2],
+        [0, 44, 12, 56, 2, 2],
     ),
     (
         "there and back by 02",
@@ -362,7 +362,7 @@ const BY_02: [Known; 13] = [
             (ASKED_OF_2, PARTED_BY_0),
             ("08 0000 08 0001", "88 01 88 01"),
         ],
-        [0, 39, 11, 49, 2, 2],
+        [0, 39, 11, 53, 2, 2],
     ),
     // Each is a mate of each, not of the first alone.
     (
@@ -375,7 +375,7 @@ const BY_02: [Known; 13] = [
             (ASKED_OF_2, PARTED_BY_0),
             ("08 0000 08 0001 08 0002 08 0003", "88 01 88 01 88 01 88 01"),
         ],
-        [0, 55, 15, 67, 2, 4],
+        [0, 55, 15, 71, 2, 4],
     ),
     // Whichever is lost of the 02 spans and the 0B span, the other is left. Duct 1 is not that of the 02
     // spans, nor is any other.
@@ -389,7 +389,7 @@ const BY_02: [Known; 13] = [
             (ASKED_OF_2, ONE_RING),
             ("08 0000 08 0001 08 0002", "88 00 88 00 88 00"),
         ],
-        [0, 49, 13, 59, 2, 3],
+        [0, 49, 13, 63, 2, 3],
     ),
     (
         "duct 65,535 beside two spans from 02",
@@ -400,7 +400,7 @@ const BY_02: [Known; 13] = [
             ("0B 0001 0000 FFFF", CLOSES_BESIDE_MATES),
             (ASKED_OF_2, ONE_RING),
         ],
-        [0, 40, 10, 53, 2, 3],
+        [0, 40, 10, 57, 2, 3],
     ),
     // Its low byte is 0.
     (
@@ -412,7 +412,7 @@ const BY_02: [Known; 13] = [
             ("0B 0001 0000 0100", CLOSES_BESIDE_MATES),
             (ASKED_OF_2, ONE_RING),
         ],
-        [0, 40, 10, 53, 2, 3],
+        [0, 40, 10, 57, 2, 3],
     ),
     // The 02 spans 1 and 2 find a 0B span there, and are mates all the same.
     (
@@ -429,7 +429,7 @@ const BY_02: [Known; 13] = [
                  | 8C 0001 0001 0001 0000 | 8C 0001 0002 0001 0000",
             ),
         ],
-        [0, 45, 11, 62, 2, 3],
+        [0, 45, 11, 66, 2, 3],
     ),
     // From 0 to 2 the set of spans 0 and 2 comes first, then span 1: 02 spans of two pairs are no mates.
     (
@@ -510,7 +510,7 @@ const BY_02: [Known; 13] = [
                  | 8C 0001 0001 0001 0002 | 8C 0001 0003 0001 0002",
             ),
         ],
-        [0, 52, 12, 69, 2, 4],
+        [0, 52, 12, 73, 2, 4],
     ),
     (
         "two spans from 02 feed no other ring",

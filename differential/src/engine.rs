@@ -1,6 +1,6 @@
 //! What every implementation of the register offers: the run of document 01, with the commands of
-//! document 02's requests 2, 3, 5 and 6 and the mates of its seventh, the forecast of its first and the
-//! rewriting of its seventh.
+//! document 02's requests 2, 3, 5 and 6, the mates of its seventh and the sizes of its eighth, the forecast
+//! of its first and the rewriting of its seventh.
 
 /// The call: the capacities C and S, the journal, and the buffers that the caller lends.
 pub struct Call<'a> {

@@ -9,6 +9,7 @@ use crate::second::book::Fault;
 use crate::second::exchanges::Misfeed;
 use crate::second::mates::Misduct;
 use crate::second::routes::Misroute;
+use crate::second::sizes::Missize;
 use crate::second::surveys::Mismeasure;
 use crate::second::Second;
 use std::ops::BitXor;
@@ -142,6 +143,9 @@ pub fn engines() -> Vec<Named> {
     }
     for fault in IN_SURVEYS {
         engines.push((format!("{fault:?}"), Box::new(Second::with_mismeasure(fault))));
+    }
+    for fault in IN_SIZES {
+        engines.push((format!("{fault:?}"), Box::new(Second::with_missize(fault))));
     }
     for spoil in SPOILS {
         engines.push((spoil.0.to_string(), Box::new(Spoiled(spoil))));
@@ -336,6 +340,29 @@ pub fn said_of_surveys(fault: Mismeasure) -> Option<&'static str> {
         _ => Some("its records have"),
     }
 }
+
+/// Faults in the sizes that the histories worked out by hand, and a planner by its name list, must find where
+/// the second implementation has them too.
+pub const IN_SIZES: [Missize; 14] = [
+    Missize::RingInDistrict,
+    Missize::DistrictInRing,
+    Missize::OtherKind,
+    Missize::BeforeLastJoin,
+    Missize::BeforeLastSpan,
+    Missize::ByItem,
+    Missize::SizeFirst,
+    Missize::LowByteFirst,
+    Missize::LowByteAlone,
+    Missize::OneByte,
+    Missize::PlusOne,
+    Missize::InSpans,
+    Missize::InRings,
+    Missize::NoSize,
+];
+
+/// Those of them that tell a district's size alone wrong: where its rings are asked about first, the planner
+/// finds that these do not add up to it.
+pub const IN_SUMS: [Missize; 2] = [Missize::RingInDistrict, Missize::InRings];
 
 /// Faults that demand 3 must find where the second implementation has them too, and what is said
 /// then.

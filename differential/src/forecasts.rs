@@ -1,7 +1,8 @@
 //! Journals whose forecast is known beforehand, worked out by hand from document 02's first request
 //! and from what its second request has 09, 0A and 0F answer: 1, 2 and 3 bytes. Command 0B of its
 //! third request counts as a span command, so it lengthens what 02 lengthens. Command 0C of its fifth
-//! counts 5 and 2 for each span command. Of its sixth, 0D counts 1 and 0E counts 4.
+//! counts 5 and 2 for each span command. Of its sixth, 0D counts 1 and 0E counts 4. By its eighth, 03 and
+//! 04 count 5 each.
 
 use crate::cases::{unhex, Case};
 use crate::engine::LONGEST_JOURNAL;
@@ -15,8 +16,8 @@ const SMALL: [Known; 41] = [
     ("empty journal", "", [0, 0, 0]),
     ("01 alone", "01", [0, 1, 3]),
     ("02 alone", "02 0000 0001", [0, 5, 7]),
-    ("03 alone", "03 0000", [0, 3, 3]),
-    ("04 alone", "04 0000", [0, 3, 3]),
+    ("03 alone", "03 0000", [0, 3, 5]),
+    ("04 alone", "04 0000", [0, 3, 5]),
     ("05 alone", "05 0000 0001", [0, 5, 4]),
     ("06 alone", "06 0000 0000", [0, 5, 3]),
     ("07 alone", "07 0000 0000", [0, 5, 3]),
@@ -36,7 +37,7 @@ const SMALL: [Known; 41] = [
         "every command, all accepted",
         "01 01 02 0000 0001 0B 0001 0000 0005 03 0000 04 0001 05 0000 0001 06 0000 0001 \
          07 0000 0001 08 0000 09 0000 0A 0001 0C 0000 0001 0D 0000 0001 0005 0E 0000 0F",
-        [0, 60, 96],
+        [0, 60, 100],
     ),
     ("06 before the spans that it counts", "06 0000 0001 02 0000 0001 02 0000 0001", [0, 15, 31]),
     ("07 before the cabinets that it counts", "07 0000 0001 01 01 01", [0, 8, 48]),
@@ -45,10 +46,10 @@ const SMALL: [Known; 41] = [
         "0F 0E 0000 0D 0000 0001 0005 0C 0000 0001 0A 0000 09 0000 08 0000 07 0000 0001 \
          06 0000 0001 05 0000 0001 04 0000 03 0000 02 0000 0001 02 0000 0001 0B 0000 0001 0005 \
          01 01 01 01 01",
-        [0, 68, 207],
+        [0, 68, 211],
     ),
     ("an exchange lengthens no list", "09 0000 09 0001 06 0000 0001 07 0000 0001", [0, 16, 8]),
-    ("unknown bytes for operands", "03 FFFF 05 1010 0000 09 1011 0A 1000 0F 01", [0, 16, 16]),
+    ("unknown bytes for operands", "03 FFFF 05 1010 0000 09 1011 0A 1000 0F 01", [0, 16, 18]),
     // s is 2: 14, and 5 × 2 × L(2).
     ("02 and 0B are both span commands", "02 0000 0001 0B 0000 0001 0005", [0, 12, 24]),
     // s is 4, of which three are mates: 28, 5 × 4 × L(4), and 3 + 2 × 4 for 06.
@@ -90,7 +91,7 @@ const SMALL: [Known; 41] = [
 ];
 
 /// Journals of one command alone: its byte, how often it stands there, the place and the length.
-const ALIKE: [(u8, usize, u32, u32); 50] = [
+const ALIKE: [(u8, usize, u32, u32); 52] = [
     (0x01, 2, 2, 26),
     (0x01, 3, 3, 39),
     (0x01, 4, 4, 92),
@@ -112,8 +113,10 @@ const ALIKE: [(u8, usize, u32, u32); 50] = [
     (0x02, 8_191, 40_955, 548_797),
     (0x02, 8_192, 40_960, 589_824),
     (0x02, 13_107, 65_535, 943_704),
-    (0x03, 21_845, 65_535, 65_535),
-    (0x04, 21_845, 65_535, 65_535),
+    (0x03, 4, 12, 20),
+    (0x03, 21_845, 65_535, 109_225),
+    (0x04, 4, 12, 20),
+    (0x04, 21_845, 65_535, 109_225),
     (0x05, 13_107, 65_535, 52_428),
     (0x06, 4, 20, 12),
     (0x06, 13_107, 65_535, 39_321),
@@ -293,7 +296,8 @@ fn longest() -> Vec<Case> {
     let sole = [repeated(0x0B, 4_681), repeated(0x06, 6_553), repeated(0x01, 4)].concat();
     let routes = [repeated(0x02, 6_553), repeated(0x0C, 6_554), repeated(0x01, 1)].concat();
     vec![
-        Case::new("65,536 bytes", 1, 1, names).returns(0).forecasts([0, 65_536, 65_538]),
+        // 3, and 21,845 × 5.
+        Case::new("65,536 bytes", 1, 1, names).returns(0).forecasts([0, 65_536, 109_228]),
         Case::new("65,536 bytes, 0A", 1, 1, fed).returns(0).forecasts([0, 65_536, 43_692]),
         Case::new("65,536 bytes, 0F", 1, 1, shares).returns(0).forecasts([0, 65_536, 196_608]),
         // 6, 7, 5 × 2 × 2, 9,361, and 2 × 3.

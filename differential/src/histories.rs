@@ -1,5 +1,6 @@
-//! The histories of document 01 as document 02's seventh request has them: the marked ones with the
-//! answers that it gives for them, those with doubled spans also by 02, and the unmarked ones.
+//! The histories of document 01 as document 02's seventh and eighth requests have them: the marked ones with
+//! the answers that it gives for them, those with doubled spans also by 02, and the unmarked ones. Behind the
+//! name of a district or a ring stands its size.
 
 use crate::cases::{one_of, unhex, Case, OneOf};
 use crate::engine::{LONGEST_JOURNAL, MOST_CABINETS, MOST_SPANS};
@@ -54,24 +55,24 @@ const MARKED: [History; 18] = [
         "two cabinets, one span: one district, two rings, mesh 0, span sole",
         "01 01 02 0000 0001 03 0000 03 0001 04 0000 04 0001 05 0000 0001 08 0000",
         "81 0000 81 0001 82 0000 0000 0001 01 0001 0000 \
-         83 0000 83 0000 84 0000 84 0001 85 01 0000 88 01",
-        [0, 27, 9, 36, 2, 1],
+         83 0000 0002 83 0000 0002 84 0000 0001 84 0001 0001 85 01 0000 88 01",
+        [0, 27, 9, 44, 2, 1],
     ),
     (
         "two cabinets, two spans: rings 0 and 1, mesh 0, both spans sole, 06 lists span 0",
         "01 01 02 0000 0001 02 0000 0001 04 0000 04 0001 05 0000 0001 08 0000 08 0001 \
          06 0000 0001 06 0001 0000",
         "81 0000 81 0001 82 0000 0000 0001 01 0001 0000 \
-         82 0001 0000 0000 84 0000 84 0001 85 01 0000 88 01 88 01 \
+         82 0001 0000 0000 84 0000 0001 84 0001 0001 85 01 0000 88 01 88 01 \
          86 0001 0000 86 0001 0000",
-        [0, 39, 11, 49, 2, 2],
+        [0, 39, 11, 53, 2, 2],
     ),
     (
         "two cabinets, two spans in ducts 1 and 2: ring 0, mesh 0, neither span sole",
         "01 01 0B 0000 0001 0001 0B 0000 0001 0002 04 0000 04 0001 05 0000 0001 08 0000 08 0001",
         "81 0000 81 0001 82 0000 0000 0001 01 0001 0000 \
-         82 0001 0000 0001 02 0001 0000 84 0000 84 0000 85 01 0000 88 00 88 00",
-        [0, 33, 9, 44, 2, 2],
+         82 0001 0000 0001 02 0001 0000 84 0000 0002 84 0000 0002 85 01 0000 88 00 88 00",
+        [0, 33, 9, 48, 2, 2],
     ),
     (
         "chain: sole spans both ways, cut cabinet 1",
@@ -88,8 +89,9 @@ const MARKED: [History; 18] = [
         "81 0000 81 0001 81 0002 \
          82 0000 0000 0001 01 0002 0001 82 0001 0000 0001 02 0002 0001 \
          82 0002 0002 0001 01 0000 0001 82 0003 0002 0001 02 0000 0001 \
-         84 0001 84 0001 84 0001 85 01 0000 85 01 0002 85 00 0000 86 0000 87 0001 0001",
-        [0, 65, 15, 86, 3, 4],
+         84 0001 0003 84 0001 0003 84 0001 0003 \
+         85 01 0000 85 01 0002 85 00 0000 86 0000 87 0001 0001",
+        [0, 65, 15, 92, 3, 4],
     ),
     // Cabinet 1 is cut, and each set of mates is sole.
     (
@@ -99,8 +101,9 @@ const MARKED: [History; 18] = [
         "81 0000 81 0001 81 0002 \
          82 0000 0000 0001 01 0002 0001 82 0001 0000 0000 \
          82 0002 0002 0001 01 0000 0001 82 0003 0002 0000 \
-         84 0000 84 0001 84 0002 85 01 0000 85 01 0002 85 00 0000 86 0002 0002 0000 87 0001 0001",
-        [0, 57, 15, 80, 3, 4],
+         84 0000 0001 84 0001 0001 84 0002 0001 \
+         85 01 0000 85 01 0002 85 00 0000 86 0002 0002 0000 87 0001 0001",
+        [0, 57, 15, 86, 3, 4],
     ),
     (
         "spans 0-1, 0-1, 2-3, 2-3 in ducts 1 and 2, 1-2, 0-3 by 02: all to name 0",

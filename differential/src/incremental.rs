@@ -116,14 +116,8 @@ impl Run<'_> {
         match byte {
             0x01 => self.add_cabinet()?,
             0x02 => self.add_span(None)?,
-            0x03 => {
-                let name = self.forest.district(self.one_cabinet()?);
-                self.field_answer(0x83, name)?;
-            }
-            0x04 => {
-                let name = self.forest.ring(self.one_cabinet()?);
-                self.field_answer(0x84, name)?;
-            }
+            0x03 => self.district()?,
+            0x04 => self.ring()?,
             0x05 => self.shared_mesh()?,
             0x06 => self.sole_spans()?,
             0x07 => self.cut_cabinets()?,
@@ -159,6 +153,25 @@ impl Run<'_> {
         self.out.need(3)?;
         self.out.byte(first);
         self.out.field(value);
+        Ok(())
+    }
+
+    fn district(&mut self) -> Result<(), u32> {
+        let cabinet = self.one_cabinet()?;
+        self.name_answer(0x83, self.forest.district(cabinet), self.forest.district_size(cabinet))
+    }
+
+    fn ring(&mut self) -> Result<(), u32> {
+        let cabinet = self.one_cabinet()?;
+        self.name_answer(0x84, self.forest.ring(cabinet), self.forest.ring_size(cabinet))
+    }
+
+    /// A name, and the size of the group that bears it.
+    fn name_answer(&mut self, first: u8, name: u32, size: u32) -> Result<(), u32> {
+        self.out.need(5)?;
+        self.out.byte(first);
+        self.out.field(name);
+        self.out.field(size);
         Ok(())
     }
 

@@ -1,4 +1,4 @@
-//! Second implementations of document 01 and of document 02's requests 1, 2, 3, 5, 6 and 7, and what is
+//! Second implementations of document 01 and of document 02's requests 1, 2, 3, 5, 6, 7 and 8, and what is
 //! needed to compare an engine with them.
 //!
 //! - `second`: the documents restated; everything is computed anew after each command.
@@ -33,5 +33,6 @@ pub mod register;
 pub mod rewriting;
 pub mod routes;
 pub mod second;
+pub mod sizes;
 pub mod spans;
 pub mod surveys;

@@ -1,6 +1,6 @@
-//! The definitions of document 01, with the exchanges, the ducts, the routes and the survey lengths of
-//! document 02's requests 2, 3, 5, 6 and 7, word for word, for small networks: every loss is tried, every
-//! simple cycle and every route is searched for, every two records are compared. Slow on purpose.
+//! The definitions of document 01, with the exchanges, the ducts, the routes, the survey lengths and the sizes
+//! of document 02's requests 2, 3, 5, 6, 7 and 8, word for word, for small networks: every loss is tried,
+//! every simple cycle and every route is searched for, every two records are compared. Slow on purpose.
 
 use crate::pairs::Pair;
 use crate::second::groups::Network;
@@ -116,6 +116,22 @@ pub fn share_district(plant: Plant, a: usize, b: usize) -> bool {
 /// They share a district, and still do after the loss of any single span.
 pub fn share_ring(plant: Plant, a: usize, b: usize) -> bool {
     share_district(plant, a, b) && plant.spans().all(|span| joined_without_span(plant, span, a, b))
+}
+
+/// Do two cabinets share a group?
+pub type Share = fn(Plant, usize, usize) -> bool;
+
+/// The size of a cabinet's group, which is a district or a ring: how many cabinets share it.
+pub fn size(plant: Plant, share: Share, cabinet: usize) -> usize {
+    (0..plant.network.cabinets).filter(|&other| share(plant, cabinet, other)).count()
+}
+
+/// The sum of the sizes of all rings of a cabinet's district, each counted once: for the least cabinet that
+/// shares it.
+pub fn sum_of_rings(plant: Plant, cabinet: usize) -> usize {
+    let inside = (0..plant.network.cabinets).filter(|&a| share_district(plant, cabinet, a));
+    let is_least = |a: usize| (0..a).all(|lesser| !share_ring(plant, lesser, a));
+    inside.filter(|&a| is_least(a)).map(|a| size(plant, share_ring, a)).sum()
 }
 
 /// Some exchange shares the cabinet's ring.

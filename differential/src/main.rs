@@ -14,7 +14,7 @@ use differential::second::routes::OTHER_CHOICES;
 use differential::second::Second;
 use differential::{
     ducts, exchanges, faults, forecasts, histories, journals, program, records, refusals,
-    rewriting, routes, surveys,
+    rewriting, routes, sizes, surveys,
 };
 use std::process::ExitCode;
 use std::time::{Duration, Instant};
@@ -142,6 +142,7 @@ impl Test {
         self.cases(&ducts::known(), seed);
         self.cases(&routes::known(), seed);
         self.cases(&surveys::known(), seed);
+        self.cases(&sizes::known(), seed);
         self.cases(&refusals::all(), seed);
         self.cases(&refusals::empty_buffers(), seed);
         self.cases(&forecasts::known(), seed);
@@ -163,6 +164,7 @@ impl Test {
         self.cases(&ducts::chain_of_mates(), seed);
         self.cases(&routes::long_ladder(), seed);
         self.given(&surveys::all_spans(), seed);
+        self.given(&sizes::whole_plant(), seed);
         self.given(&rewriting::greatest(), seed);
         self.every_number();
     }
@@ -223,17 +225,21 @@ impl Test {
 
     /// Every number that the table knows must have been returned by some run, every one that the
     /// forecast knows by some forecast, with runs in the room forecast unless it is 3, and every one that
-    /// a rewriting knows by some rewriting. 0E must have been answered without a length and with one, and
-    /// a journal that is accepted and one that is refused held against what they are rewritten to.
+    /// a rewriting knows by some rewriting. 03 and 04 must have been answered, and a district of several
+    /// rings and all of these measured; 0E must have been answered without a length and with one, and a
+    /// journal that is accepted and one that is refused held against what they are rewritten to.
     fn every_number(&mut self) {
         let Tally { returned, forecast, exact, lengths, rewritten, held, .. } = &self.tally;
+        let Tally { sizes, added_up, .. } = &self.tally;
         let runs = (0..=14).map(|number| ("run", number, returned[number]));
         let forecasts = [0, 3, 4, 5].map(|number| ("forecast", number, forecast[number]));
         let exact = [0, 4, 5].map(|number| ("run in the room forecast", number, exact[number]));
+        let sizes = [0, 1].map(|kind| ("answer 83 or 84", kind, sizes[kind]));
+        let sums = [("district whose rings add up", 0, *added_up)];
         let lengths = [0, 1].map(|flag| ("answer 8E", flag, lengths[flag]));
         let rewritten = REWRITING.map(|number| ("rewriting", number, rewritten[number]));
         let held = [0, 1].map(|refused| ("journal held against another", refused, held[refused]));
-        let in_runs = runs.chain(exact).chain(lengths).chain(held);
+        let in_runs = runs.chain(exact).chain(sizes).chain(sums).chain(lengths).chain(held);
         let mut all = in_runs.chain(forecasts).chain(rewritten);
         if let Some((what, number, _)) = all.find(|&(_, _, count)| count == 0) {
             self.fault.get_or_insert(format!("no {what} for number {number}"));
@@ -245,11 +251,13 @@ impl Test {
             return Err(fault.clone());
         }
         let Tally { journals, returned, commands, notices, pairs, lengths, .. } = self.tally;
+        let Tally { sizes, added_up, .. } = self.tally;
         let Tally { forecast, exact, rewritten, held, held_pairs, .. } = self.tally;
         Ok(format!(
             "{} equals second, every byte: {journals} journals ({} accepted to the end, refused by \
              1 to 14: {:?}), {commands} commands, {notices} notices; {pairs} pairs of routes, all \
-             of which serve; {} lengths of spans told, and {} times that there is none; {} \
+             of which serve; {} sizes of districts and {} of rings told, {added_up} times all of a \
+             district of several rings; {} lengths of spans told, and {} times that there is none; {} \
              forecasts ({} accepted, refused by 3 to 5: {:?}), {} runs with exactly the room \
              forecast, {} of them of damaged journals; {} rewritings ({} accepted, refused by 3, 4, \
              5, 15 and 16: {:?}), {} journals that answer as they did once they are rewritten, {} \
@@ -257,6 +265,8 @@ impl Test {
             self.engine.name(),
             returned[0],
             &returned[1..],
+            sizes[0],
+            sizes[1],
             lengths[1],
             lengths[0],
             forecast.iter().sum::<usize>(),
@@ -293,7 +303,9 @@ fn null_pointers(_: u64) -> Result<String, String> {
 /// fault, and must be accepted.
 fn seeded_bugs(seed: u64) -> Result<String, String> {
     let mut found = 0;
-    let known = [ducts::known(), routes::known(), surveys::known(), refusals::all()].concat();
+    let parts =
+        [ducts::known(), routes::known(), surveys::known(), refusals::all(), sizes::known()];
+    let known = parts.concat();
     let runs = faults::engines().into_iter().map(|named| (", second ", named));
     let forecasts = faults::forecasts().into_iter().map(|named| ("the forecast is", named));
     for (said, (name, engine)) in runs.chain(forecasts) {
@@ -356,17 +368,38 @@ fn seeded_bugs(seed: u64) -> Result<String, String> {
             ducts::known(),
             routes::known(),
             surveys::known(),
+            sizes::known(),
         ];
         test.cases(&known.concat(), seed);
         found_by("bytes of room that are forecast", &format!("{name} in both"), test, seed)?;
         found += 1;
     }
-    found += rewriting_bugs(seed)?;
+    found += size_bugs(seed)? + rewriting_bugs(seed)?;
     let accepted = other_choices(seed)?;
     Ok(format!(
         "{found} faults put in on purpose, ties broken the other way among them, are found; \
          {accepted} pairs of routes by other choices are accepted"
     ))
+}
+
+/// Every fault in the sizes that the second implementation has too must be found by the histories worked out
+/// by hand, and by the planner's name list; some also since the rings of a district do not add up to it.
+/// Gives how often one was found.
+fn size_bugs(seed: u64) -> Result<usize, String> {
+    let known = sizes::known();
+    let mut found = 0;
+    for fault in faults::IN_SIZES {
+        let test = || in_both(|| Second::with_missize(fault));
+        found_in(&known, KNOWN, &format!("{fault:?} in both"), test(), seed)?;
+        found_by("the list has", &format!("{fault:?} in both"), test(), seed)?;
+        found += 2;
+    }
+    for fault in faults::IN_SUMS {
+        let test = in_both(|| Second::with_missize(fault));
+        found_by("add up to", &format!("{fault:?} in both, by its sum"), test, seed)?;
+        found += 1;
+    }
+    Ok(found)
 }
 
 /// Every fault in the rewriting must be found by the comparison, and where the second implementation has it

@@ -1,9 +1,10 @@
 //! The planner's name list, fed the answers as bytes, and the whole of demand 3 checked beside a
-//! run of the second implementation; the answers about exchanges, those about sole spans, the routes
-//! and the survey lengths, against what the planner knows.
+//! run of the second implementation; the names and sizes that are told, the answers about exchanges, those
+//! about sole spans, the routes and the survey lengths, against what the planner knows.
 
 mod marks;
 mod mates;
+mod sizes;
 mod surveys;
 
 use crate::kinds::{ByKind, Kind, KINDS};
@@ -13,6 +14,7 @@ use crate::second::command::Command;
 use crate::second::Accepted;
 use marks::Marks;
 use mates::Mates;
+use sizes::Sizes;
 use surveys::Lengths;
 
 /// A name for each cabinet (districts, rings) and for each span (meshes).
@@ -36,6 +38,11 @@ pub enum Answer {
         number: usize,
         mesh: usize,
         notices: Vec<Notice>,
+    },
+    /// Of a district or a ring.
+    Name {
+        name: usize,
+        size: usize,
     },
     SoleSpans(Vec<usize>),
     /// The byte is 1 if the span is sole.
@@ -73,7 +80,7 @@ pub fn decode(bytes: &[u8]) -> Option<(Answer, usize)> {
             let notices = notices(bytes.get(7..7 + 5 * count)?)?;
             Some((Answer::Span { number: field(1)?, mesh: field(3)?, notices }, 7 + 5 * count))
         }
-        0x83 | 0x84 => other(3),
+        0x83 | 0x84 => Some((Answer::Name { name: field(1)?, size: field(3)? }, 5)),
         0x85 => other(4),
         0x86 => Some((Answer::SoleSpans(list(1)?), 3 + 2 * field(1)?)),
         0x87 => other(3 + 2 * field(1)?),
@@ -154,11 +161,13 @@ fn append(names: &mut Vec<usize>, number: usize, name: usize) -> Result<(), Stri
     Ok(())
 }
 
-/// What a planner has read: commands answered, notices, answers 8E without a length and with one, and
-/// bytes.
+/// What a planner has read: commands answered, notices, answers 83 and 84, districts of several rings whose
+/// sizes add up, answers 8E without a length and with one, and bytes.
 pub struct Read {
     pub commands: usize,
     pub notices: usize,
+    pub sizes: [usize; 2],
+    pub added_up: usize,
     pub lengths: [usize; 2],
     pub bytes: usize,
 }
@@ -168,6 +177,7 @@ pub struct Planner<'a> {
     answers: &'a [u8],
     read: usize,
     list: NameList,
+    sizes: Sizes,
     marks: Marks,
     mates: Mates,
     lengths: Lengths,
@@ -182,6 +192,7 @@ impl<'a> Planner<'a> {
             answers,
             read: 0,
             list: NameList::default(),
+            sizes: Sizes::default(),
             marks: Marks::default(),
             mates: Mates::default(),
             lengths: Lengths::default(),
@@ -191,8 +202,8 @@ impl<'a> Planner<'a> {
         }
     }
 
-    /// Reads the answer to one more accepted command and checks demand 3, the exchanges, the mates, the
-    /// routes and the survey lengths up to here.
+    /// Reads the answer to one more accepted command and checks demand 3, the sizes, the exchanges, the
+    /// mates, the routes and the survey lengths up to here.
     pub fn watch(&mut self, accepted: &Accepted) {
         if self.fault.is_some() {
             return;
@@ -203,15 +214,21 @@ impl<'a> Planner<'a> {
         }
     }
 
-    /// What was read, or what demand 3, the exchanges, the mates, the routes or the survey lengths do not
-    /// bear.
+    /// What was read, or what demand 3, the sizes, the exchanges, the mates, the routes or the survey lengths
+    /// do not bear.
     pub fn result(self) -> Result<Read, String> {
         if let Some(fault) = self.fault {
             return Err(fault);
         }
         let notices = KINDS.iter().map(|&kind| self.sent[kind]).sum();
-        let lengths = self.lengths.told;
-        Ok(Read { commands: self.commands, notices, lengths, bytes: self.read })
+        Ok(Read {
+            commands: self.commands,
+            notices,
+            sizes: self.sizes.answers,
+            added_up: self.sizes.added_up,
+            lengths: self.lengths.told,
+            bytes: self.read,
+        })
     }
 
     fn check(&mut self, accepted: &Accepted) -> Result<(), String> {
@@ -229,6 +246,7 @@ impl<'a> Planner<'a> {
             return Err("the name list differs from the naming book".to_string());
         }
         self.check_counts(accepted.after)?;
+        self.sizes.check(accepted.command, &answer, &self.list.names)?;
         self.marks.check(accepted.command, &answer, &self.list.names.ring)?;
         self.mates.check(accepted.command, &answer, &self.list.names)?;
         self.lengths.check(accepted.command, &answer, self.list.names.mesh.len())

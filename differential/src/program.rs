@@ -10,6 +10,7 @@ use crate::routes;
 use crate::second::command::Capacities;
 use crate::second::routes::Asked;
 use crate::second::Second;
+use crate::sizes;
 use crate::spans::Span;
 use crate::surveys;
 use std::fs::File;
@@ -113,9 +114,16 @@ pub fn drive(path: &str, seed: u64) -> Result<usize, String> {
 }
 
 fn inputs(seed: u64) -> Vec<Vec<u8>> {
-    let known =
-        [marked(), exchanges::known(), ducts::known(), routes::known(), surveys::known()].concat();
-    let mut inputs: Vec<Vec<u8>> = known.into_iter().map(|case: Case| case.journal).collect();
+    let known = [
+        marked(),
+        exchanges::known(),
+        ducts::known(),
+        routes::known(),
+        surveys::known(),
+        sizes::known(),
+    ];
+    let cases = known.concat().into_iter();
+    let mut inputs: Vec<Vec<u8>> = cases.map(|case: Case| case.journal).collect();
     inputs.extend((seed..seed + 300).map(|seed| random_case(seed).journal));
     inputs.extend([CABINETS, CABINETS + 1].map(|count| vec![0x01; count]));
     for duct in [0, 5] {
@@ -136,12 +144,12 @@ fn spans(count: usize, duct: usize) -> Vec<u8> {
     writer.bytes
 }
 
-/// So many bytes: a cabinet, and the same question again and again.
+/// So many bytes: a cabinet, and the same question again and again, whose answers take fewer bytes than it.
 fn questions(length: usize) -> Vec<u8> {
     let mut writer = Writer::new();
     writer.cabinet();
     while writer.bytes.len() < length {
-        writer.command(0x04, &[0]);
+        writer.command(0x0A, &[0]);
     }
     writer.bytes.truncate(length);
     writer.bytes

@@ -446,13 +446,19 @@ fn no_shared_ring() -> Vec<Case> {
 /// A beginning, a command behind it, and its answer, or one of several.
 type Answered = (Beginning, u8, &'static [usize], &'static str);
 
-const ANSWERED: [Answered; 49] = [
+const ANSWERED: [Answered; 55] = [
     (SMALL_TO_SPARE, 0x01, &[], "81 0003"),
     (SMALL_TO_SPARE, 0x02, &[0, 2], "82 0001 0001 0001 01 0002 0000"),
     (SMALL_TO_SPARE, 0x02, &[0, 1], "82 0001 0000 0000"),
     (SMALL_TO_SPARE, 0x02, &[1, 0], "82 0001 0000 0000"),
-    (SMALL_TO_SPARE, 0x03, &[0], "83 0000"),
-    (SMALL_TO_SPARE, 0x04, &[1], "84 0001"),
+    (ONE_CABINET, 0x03, &[0], "83 0000 0001"),
+    (ONE_CABINET, 0x04, &[0], "84 0000 0001"),
+    (SMALL_TO_SPARE, 0x03, &[0], "83 0000 0002"),
+    (SMALL_TO_SPARE, 0x03, &[2], "83 0002 0001"),
+    (SMALL_TO_SPARE, 0x04, &[1], "84 0001 0001"),
+    (MARKED, 0x04, &[1], "84 0000 0002"),
+    (MATES, 0x03, &[1], "83 0000 0002"),
+    (MATES, 0x04, &[1], "84 0001 0001"),
     (SMALL_TO_SPARE, 0x05, &[0, 1], "85 01 0000"),
     (SMALL_TO_SPARE, 0x05, &[0, 2], "85 00 0000"),
     (SMALL_TO_SPARE, 0x06, &[0, 1], "86 0001 0000"),

@@ -1,4 +1,4 @@
-//! A second implementation of document 01 and of document 02's requests 1, 2, 3, 5, 6 and 7, to compare
+//! A second implementation of document 01 and of document 02's requests 1, 2, 3, 5, 6, 7 and 8, to compare
 //! others with. After each command everything is computed anew from the list of spans; nothing is
 //! kept but the naming book, the list of exchanges and the list of survey records. Which pair of routes
 //! 0C is answered with is not settled: a run takes the pairs from whoever asks for it, or makes its own
@@ -12,6 +12,7 @@ pub mod groups;
 pub mod mates;
 pub mod rewrite;
 pub mod routes;
+pub mod sizes;
 pub mod surveys;
 
 use crate::engine::{Call, Engine, Forecast, Rewriting, REPORT_NUMBERS};
@@ -23,6 +24,7 @@ use forecast::forecast;
 use mates::{Misduct, Rule};
 use rewrite::rewrite;
 use routes::{Asked, Choice, Misroute};
+use sizes::{Missize, Sizes};
 use std::rc::Rc;
 use surveys::{Mismeasure, Surveys};
 
@@ -35,6 +37,7 @@ pub struct Second {
     choice: Choice,
     misroute: Option<Misroute>,
     mismeasure: Option<Mismeasure>,
+    missize: Option<Missize>,
     misforecast: Option<Misforecast>,
     misrewrite: Option<Misrewrite>,
 }
@@ -48,12 +51,14 @@ pub type Misrewrite = fn(&[u8], &mut [u8]) -> Rewriting;
 /// Gives the pair that a 0C is answered with.
 pub type Choose<'a> = dyn FnMut(&Asked) -> Pair + 'a;
 
-/// The state of a run: the naming book, and the exchanges and the survey records beside it.
+/// The state of a run: the naming book, and the exchanges and the survey records beside it. For the sizes
+/// nothing is kept, but where a fault does.
 #[derive(Clone)]
 pub struct State {
     pub book: Rc<Book>,
     pub exchanges: Exchanges,
     pub surveys: Surveys,
+    pub sizes: Sizes,
 }
 
 impl State {
@@ -68,22 +73,25 @@ impl State {
 
     /// The same where no fault is put into what other commands make of the survey records.
     fn rightly_after(&self, command: Command) -> Option<State> {
-        let State { book, exchanges, surveys } = self;
+        let State { book, exchanges, surveys, sizes } = self;
         match command {
-            Command::AddCabinet => {
-                Some(State { book: Rc::new(book.with_cabinet()), ..self.clone() })
-            }
+            Command::AddCabinet => Some(State {
+                book: Rc::new(book.with_cabinet()),
+                sizes: sizes.with_cabinet(),
+                ..self.clone()
+            }),
             Command::Mark(a) => Some(State { exchanges: exchanges.with(a), ..self.clone() }),
             Command::Record(record) => Some(State {
                 book: surveys.book_after(book, record),
-                exchanges: exchanges.clone(),
                 surveys: surveys.with(&book.network, record),
+                ..self.clone()
             }),
             _ => command.span().map(|span| {
                 let after = Rc::new(book.with_span(span));
                 let exchanges = exchanges.after_span(&book.names.ring, &after.names.ring);
                 let surveys = surveys.after_span(book, &after);
-                State { book: after, exchanges, surveys }
+                let sizes = sizes.after_span(book, &after);
+                State { book: after, exchanges, surveys, sizes }
             }),
         }
     }
@@ -149,6 +157,11 @@ impl Second {
         Second { mismeasure: Some(mismeasure), ..Second::default() }
     }
 
+    /// The same with a fault in the sizes.
+    pub fn with_missize(missize: Missize) -> Second {
+        Second { missize: Some(missize), ..Second::default() }
+    }
+
     /// The same with a fault in the forecast.
     pub fn with_misforecast(misforecast: Misforecast) -> Second {
         Second { misforecast: Some(misforecast), ..Second::default() }
@@ -169,6 +182,16 @@ impl Second {
         }
     }
 
+    /// The state before the first command.
+    fn start(&self) -> State {
+        State {
+            book: Rc::new(Book::empty(self.rule, self.fault, self.misduct)),
+            exchanges: Exchanges::none(self.misfeed),
+            surveys: Surveys::none(self.mismeasure),
+            sizes: Sizes::none(self.missize),
+        }
+    }
+
     /// Runs a journal from an empty network. Each accepted command is shown to `watch`.
     pub fn walk(
         &self,
@@ -178,11 +201,7 @@ impl Second {
         choose: &mut Choose,
         watch: &mut dyn FnMut(Accepted),
     ) -> Run {
-        let mut state = State {
-            book: Rc::new(Book::empty(self.rule, self.fault, self.misduct)),
-            exchanges: Exchanges::none(self.misfeed),
-            surveys: Surveys::none(self.mismeasure),
-        };
+        let mut state = self.start();
         let mut run = Run::default();
         while run.place < journal.len() {
             let front = Front {
@@ -253,6 +272,9 @@ impl Second {
             fault.spoil(&mut answer);
         }
         if let Some(fault) = self.mismeasure {
+            fault.spoil(command, &mut answer);
+        }
+        if let Some(fault) = self.missize {
             fault.spoil(command, &mut answer);
         }
         if answer.len() > left {

@@ -26,11 +26,11 @@ const A_SPAN: Line = ("02 0000 0001", FIRST);
 /// Span 0, in duct 5.
 const IN_5: Line = ("0B 0000 0001 0005", FIRST);
 
-/// Names of the cabinets 0 and 1, and what lies between them, both ways.
+/// The rings of the cabinets 0 and 1, and what lies between them, both ways.
 const ASKED_OF_2: &str = "04 0000 04 0001 05 0000 0001 06 0000 0001 06 0001 0000";
 
-/// Two rings; a mesh of name 0; one set of mates parts them, whose least is span 0.
-const PARTED_BY_0: &str = "84 0000 84 0001 85 01 0000 86 0001 0000 86 0001 0000";
+/// Two rings of one cabinet each; a mesh of name 0; one set of mates parts them, whose least is span 0.
+const PARTED_BY_0: &str = "84 0000 0001 84 0001 0001 85 01 0000 86 0001 0000 86 0001 0000";
 
 /// What the three spans of a history are measured to be.
 const THREE_LENGTHS: Line = ("0E 0000 0E 0001 0E 0002", "8E 01 00FA 8E 01 0000 8E 01 0064");
@@ -254,7 +254,7 @@ const KNOWN: [Known; 37] = [
             ),
             ("0E 0000", "8E 01 FFFF"),
         ],
-        [0, 91, 21, 97, 2, 4],
+        [0, 91, 21, 101, 2, 4],
     ),
     // The last of three mates finds a ring, and none of them is in a route with another.
     (
@@ -321,7 +321,7 @@ const KNOWN: [Known; 37] = [
             (ASKED_OF_2, PARTED_BY_0),
             ("08 0000 08 0001 0E 0000 0E 0001", "88 01 88 01 8E 01 0001 8E 01 0003"),
         ],
-        [0, 59, 15, 59, 2, 2],
+        [0, 59, 15, 63, 2, 2],
     ),
     // Spans 0 and 1 are mates from 02 though only one has a record: one of them is a route, and the way
     // over cabinet 2 the other. Span 2, in a duct, has a record too.

@@ -1,7 +1,8 @@
 //! The fast parts of the second implementation against the definitions word for word, and these
 //! against those of document 01 in the network in which each set of mates is one span; by the rule of
 //! mates and by the old one. Also the definitions by the old rule against those of the network in which
-//! each span lies in the duct of its number and 1.
+//! each span lies in the duct of its number and 1, and the sizes of a district and its rings, which add up
+//! whatever the mates.
 
 use differential::layouts::{self, DUCTS};
 use differential::literal::{self, Plant};
@@ -15,6 +16,7 @@ use differential::second::groups::{
 };
 use differential::second::mates::Rule;
 use differential::second::routes::{Choice, OTHER_CHOICES};
+use differential::second::sizes::size;
 use differential::second::surveys::{Record, Surveys};
 use differential::spans::Span;
 
@@ -70,6 +72,29 @@ fn check_shared_mesh(network: &Network, a: usize, b: usize) {
     }
     for &s in &shared {
         assert!(literal::share_mesh(plant, s, shared[0]), "{network:?} {a} {b}");
+    }
+}
+
+/// The size of each cabinet's district and ring.
+fn check_sizes(network: &Network) {
+    let plant = Plant::of(network);
+    let found = groups(network);
+    for a in 0..network.cabinets {
+        let district = literal::size(plant, literal::share_district, a);
+        assert_eq!(size(&found.district, a), district, "{network:?} {a}");
+        let ring = literal::size(plant, literal::share_ring, a);
+        assert_eq!(size(&found.ring, a), ring, "{network:?} {a}");
+    }
+    check_sums(plant);
+}
+
+/// The sizes of the rings of a district, each counted once, add up to the district's. A district is asked
+/// for by its least cabinet.
+fn check_sums(plant: Plant) {
+    let is_least = |&a: &usize| (0..a).all(|lesser| !literal::share_district(plant, lesser, a));
+    for a in (0..plant.network.cabinets).filter(is_least) {
+        let district = literal::size(plant, literal::share_district, a);
+        assert_eq!(literal::sum_of_rings(plant, a), district, "{:?} {a}", plant.network);
     }
 }
 
@@ -279,11 +304,13 @@ fn check_rewritten(network: &Network) {
 
 fn check(network: &Network) {
     by_both(network, check_by_rule);
+    check_sums(Plant::without_mates(network));
 }
 
 fn check_by_rule(network: &Network) {
     check_groups(network);
     check_questions(network);
+    check_sizes(network);
     check_names(network);
     check_exchanges(network);
     check_routes(network);

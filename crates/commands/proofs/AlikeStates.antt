@@ -12,14 +12,14 @@ use Rattle.graph.specs.Block.{sharedBlock}
 use Rattle.graph.specs.Route.{Choice}
 use Rattle.graph.proofs.Truth.{and-left, ltb-lt}
 use Rattle.graph.proofs.Alike.{Alike, component-alike, bridge-alike, bridge-block-alike, shared-block-alike, bridges-between-alike, cuts-between-alike}
-use Rattle.naming.specs.Rename.{nameOf}
 use Rattle.naming.specs.Book.{Book, Addition, vertex, edge, neither, feed}
 use Rattle.naming.specs.Survey.{holding}
 use Rattle.naming.specs.State.{State}
 use Rattle.naming.proofs.AlikeBooks.{AlikeBooks}
+use Rattle.naming.proofs.Lookup.{component-of-alike, bridge-block-of-alike}
 use Rattle.commands.specs.Field.{Field, cabinet, span, name, number, byte}
 use Rattle.commands.specs.Command.{Command, addCabinet, addSpan, districtName, ringName, sharedMesh, soleSpans, cutCabinets, isSole, markExchange, holdsExchange, addDuctSpan, routesBetween, recordLength, spanLength, exchangeShare, commandByte}
-use Rattle.commands.specs.Answer.{plain, districtNamed, ringNamed, soleSpansAre, cutCabinetsAre, soleIs, exchangeHeld, shareIs, cabinetAdded, notices}
+use Rattle.commands.specs.Answer.{plain, districtIs, ringIs, soleSpansAre, cutCabinetsAre, soleIs, exchangeHeld, shareIs, cabinetAdded, notices}
 use Rattle.commands.specs.Exchange.{ringHoldsExchange, withExchange, thousandths, shareWithExchange}
 use Rattle.commands.specs.Facts.{Demand, differ, noExchange, someDuct, shareDistrict, shareRing, Facts, addsCabinet, addsSpan, addsNothing, facts, asks, meshAnswer, routesAnswer, lengthAnswer, operandsOf, demandsOf, additionOf, addition, spanAnswer, answerTo, answer}
 use Rattle.commands.specs.Refusal.{Refusal, equalCabinets, alreadyExchange, noDuct, twoDistricts, noSharedRing, refusalNumber, Capacities, cabinetKnown, spanKnown, cabinetsKnown, spansKnown, met, cause, meets, fullFor, isFull, lines, refusalOf}
@@ -140,8 +140,8 @@ module _ {s s′ : State} (a : AlikeStates s s′) (rule : MateRule (s .book .ne
     unfolding facts asks spansKnown operandsOf allIn spanKnown commandByte
     question-alike proper addCabinet known routes = tt
     question-alike proper (addSpan x y) known routes = tt
-    question-alike proper (districtName x) known routes = ap (λ names. districtNamed (nameOf names x)) (a .books .same-components)
-    question-alike proper (ringName x) known routes = ap (λ names. ringNamed (nameOf names x)) (a .books .same-bridge-blocks)
+    question-alike proper (districtName x) known routes = ap districtIs (component-of-alike (a .books) rule′ x)
+    question-alike proper (ringName x) known routes = ap ringIs (bridge-block-of-alike (a .books) rule rule′ x)
     question-alike proper (sharedMesh x y) known routes =
         ap (meshAnswer (s′ .book)) (shared-block-alike networks rule rule′ x y) ∙ mesh-alike (sharedBlock (s .book .network) x y)
     question-alike proper (soleSpans x y) known routes = ap soleSpansAre (bridges-between-alike networks rule rule′ x y)

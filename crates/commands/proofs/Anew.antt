@@ -1,5 +1,6 @@
--- The histories with ducts, those of the old reading and the rewritings hold of the definitions: each table is computed at once. (By its name
--- it comes before the laws about the register's rule and about rewriting: a wrong rule is refused here first.)
+-- The histories with ducts and with sizes, those of the old reading and the rewritings hold of the definitions: each table is computed at
+-- once. (By its name it comes before the laws about the register's rule, about rewriting and about the fields of answers: a wrong one of
+-- these is refused here first.)
 use mathlib.Core.List.{map}
 use mathlib.Core.Logic.{_≢_}
 use mathlib.Core.Path.{_≡_, refl, ap}
@@ -10,6 +11,8 @@ use Rattle.commands.specs.Histories.{History}
 use Rattle.commands.specs.Histories
 use Rattle.commands.specs.DuctHistories
 use Rattle.commands.specs.DuctHistories.{ductHistories}
+use Rattle.commands.specs.SizeHistories
+use Rattle.commands.specs.SizeHistories.{sizeHistories}
 use Rattle.commands.specs.RewriteHistories
 use Rattle.commands.specs.RewriteHistories.{readAnew, doubledSpan, oldReadings}
 use Rattle.commands.specs.Calls.{rewriteCall, rewritingOf, spans02, spans0B, rewritings}
@@ -21,8 +24,13 @@ made h = record { input = h .input; output = program (h .input); report = progra
 
 -- of the table with ducts the program makes the table
 pub duct-histories-made : map made ductHistories ≡ ductHistories
-unfolding computed Histories.output Histories.accepted Histories.refusedWith Histories.notice DuctHistories.twoInOneDuct DuctHistories.twoInTwoDucts DuctHistories.besideADuct DuctHistories.loopAroundADuct DuctHistories.measuredInSpans DuctHistories.oneNumberAtTwoPairs DuctHistories.greatestDuct DuctHistories.twoWithNoDuctTold DuctHistories.loopWithNoDuctTold DuctHistories.inNoDuct DuctHistories.ductHistories
+unfolding computed Histories.output Histories.accepted Histories.refusedWith Histories.notice Histories.group DuctHistories.twoInOneDuct DuctHistories.twoInTwoDucts DuctHistories.besideADuct DuctHistories.loopAroundADuct DuctHistories.measuredInSpans DuctHistories.oneNumberAtTwoPairs DuctHistories.greatestDuct DuctHistories.twoWithNoDuctTold DuctHistories.loopWithNoDuctTold DuctHistories.inNoDuct DuctHistories.ductHistories
 duct-histories-made = refl
+
+-- and of the one with sizes
+pub size-histories-made : map made sizeHistories ≡ sizeHistories
+unfolding computed Histories.output Histories.accepted Histories.notice Histories.group SizeHistories.alone SizeHistories.districtGrows SizeHistories.ringsOfOneDistrict SizeHistories.sizeHistories
+size-histories-made = refl
 
 -- So each journal is rewritten.
 pub rewritings-shown : map rewritingOf rewritings ≡ map (λ c. c .rewriting) rewritings
@@ -31,10 +39,10 @@ rewritings-shown = refl
 
 -- So journals of the old reading are rewritten, and answered before and after.
 pub old-readings-shown : map (λ h. readAnew (h .journal)) oldReadings ≡ oldReadings
-unfolding computed Histories.output Histories.notice RewriteHistories.answersAndNumber RewriteHistories.answeredUnder RewriteHistories.readAnew RewriteHistories.inOneRing RewriteHistories.doubledSpan RewriteHistories.routesAndRefusal RewriteHistories.doubledRoutes RewriteHistories.oldReadings
+unfolding computed Histories.output Histories.notice Histories.group RewriteHistories.answersAndNumber RewriteHistories.answeredUnder RewriteHistories.readAnew RewriteHistories.inOneRing RewriteHistories.doubledSpan RewriteHistories.routesAndRefusal RewriteHistories.doubledRoutes RewriteHistories.oldReadings
 old-readings-shown = refl
 
 -- And the first would be answered otherwise as it stands.
 pub rewriting-needed : doubledSpan .before ≢ doubledSpan .otherwise
-unfolding computed Histories.output Histories.notice RewriteHistories.inOneRing RewriteHistories.doubledSpan
+unfolding computed Histories.output Histories.notice Histories.group RewriteHistories.inOneRing RewriteHistories.doubledSpan
 rewriting-needed e = omega (arith, ap length e)

@@ -1,5 +1,5 @@
--- Demand 2 of the answers, and what those about exchanges, routes and lengths say, at every point of every run; and that the two routes which
--- the answer buffer holds on return for a 0C serve.
+-- Demand 2 of the answers, and what those about sizes, exchanges, routes and lengths say, at every point of every run; and that the two
+-- routes which the answer buffer holds on return for a 0C serve.
 use mathlib.Core.Bool.{true}
 use mathlib.Core.List.{List, [], _∷_}
 use mathlib.Core.Option.{none, some}

@@ -23,14 +23,16 @@ use Rattle.graph.proofs.Lengths.{few-bridges-between, few-cuts-between}
 use Rattle.naming.specs.Rename.{nameOf}
 use Rattle.naming.specs.Book.{Book, edge, enterEdge, feed}
 use Rattle.naming.specs.Survey.{Survey, holding}
+use Rattle.naming.specs.Lookup.{groupOf, componentOf, bridgeBlockOf}
 use Rattle.naming.specs.State.{State, afterAddition, afterRecording}
+use Rattle.naming.proofs.Equivalent.{size-at-most}
 use Rattle.commands.specs.Field.{Kind, district, ring, mesh, Field, cabinet, span}
 use Rattle.commands.specs.Command.{Command, addCabinet, addSpan, districtName, ringName, sharedMesh, soleSpans, cutCabinets, isSole, markExchange, holdsExchange, addDuctSpan, routesBetween, recordLength, spanLength, exchangeShare}
 use Rattle.commands.specs.Answer.{Notice, noticeFields, noticesFields, notices, plain, plainFields, answerFields}
 use Rattle.commands.specs.Facts.{Facts, addsCabinet, addsSpan, addsNothing, asks, meshAnswer, routesAnswer, lengthAnswer, facts, operandsOf, additionOf, addition, after, spanAnswer, answerTo, answer}
 use Rattle.commands.specs.Refusal.{Capacities, cabinetKnown, cabinetsKnown, refusalOf}
 use Rattle.commands.specs.Run.{Accepted}
-use Rattle.commands.specs.WholeRun.{EachNotice, itemsOf}
+use Rattle.commands.specs.WholeRun.{EachNotice, groupsOf, itemsOf, groupSize}
 use Rattle.commands.proofs.Exchange.{share-at-most}
 use Rattle.commands.proofs.Bytes.{Small, FieldsFit, InTwoBytes, cabinets-in-two-bytes, spans-in-two-bytes, items-in-two-bytes, both-fit}
 use Rattle.commands.proofs.Spelled.{AllSpelled}
@@ -70,6 +72,11 @@ module _ (choice : Choice) (caps : Capacities) (range : InRange caps) where
   small-name s sound kind x h = omega (arith, kind-named (sound .laws) kind .name-below x h, few-items s sound kind)
 
   module _ (s : State) (sound : Sound caps s) where
+    -- and so does a size
+    small-size : (kind : Kind) (x : ℕ) → Small (groupSize kind (s .book .network) x)
+    unfolding groupSize
+    small-size kind x = omega (arith, size-at-most (itemsOf kind (s .book .network)) (groupsOf kind (s .book .network)) x, few-items s sound kind)
+
     -- the number of a command's notices fits
     number-fits : (b′ : Book) → Small (length (notices (s .book) b′))
     unfolding itemsOf
@@ -152,11 +159,11 @@ module _ (choice : Choice) (caps : Capacities) (range : InRange caps) where
 
     plain-fits : Serves (s .book .network .rule) choice → MetresFit (s .surveys) → (c : Command) → refusalOf caps s c ≡ none → cabinetsKnown s c ≡ true
         → PlainFits (facts c)
-    unfolding facts asks routesAnswer answerFields plainFields cabinetsKnown operandsOf allIn cabinetKnown namesIn itemsOf
+    unfolding facts asks componentOf bridgeBlockOf groupOf routesAnswer answerFields plainFields cabinetsKnown operandsOf allIn cabinetKnown namesIn groupsOf itemsOf groupSize
     plain-fits serves fit addCabinet n known = tt
     plain-fits serves fit (addSpan x y) n known = tt
-    plain-fits serves fit (districtName x) n known = (tt, (small-name s sound district x (ltb-lt _ _ (and-left _ true known)), tt))
-    plain-fits serves fit (ringName x) n known = (tt, (small-name s sound ring x (ltb-lt _ _ (and-left _ true known)), tt))
+    plain-fits serves fit (districtName x) n known = (tt, (small-name s sound district x (ltb-lt _ _ (and-left _ true known)), (small-size district x, tt)))
+    plain-fits serves fit (ringName x) n known = (tt, (small-name s sound ring x (ltb-lt _ _ (and-left _ true known)), (small-size ring x, tt)))
     plain-fits serves fit (sharedMesh x y) n known = mesh-fits x y (sharedBlock (s .book .network) x y) refl
     plain-fits serves fit (soleSpans x y) n known = (
       tt,

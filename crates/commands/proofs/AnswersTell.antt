@@ -1,4 +1,4 @@
--- Demand 2 of the answers, and what those about exchanges, routes and lengths say: what each answer says of the network, in every state whose book
+-- Demand 2 of the answers, and what those about sizes, exchanges, routes and lengths say: what each answer says of the network, in every state whose book
 -- keeps the laws of naming, under a choice of routes that serves.
 use mathlib.Core.Bool.{true, false}
 use mathlib.Core.List.{List, []}
@@ -7,6 +7,7 @@ use mathlib.Core.Option.{Option, none, some}
 use mathlib.Core.Path.{_≡_, refl, sym, _∙_, ap, subst₂}
 use Prim.Native.Nat.{ℕ, suc, _*_, _≤_, _<_}
 use lib.Dec.{eqb}
+use Rattle.graph.specs.Below.{count}
 use Rattle.graph.specs.Network.{Network, edgeCount}
 use Rattle.graph.specs.Groups.{component, bridge, bridgeBlock}
 use Rattle.graph.specs.Block.{sharedBlock, onBlock}
@@ -14,14 +15,16 @@ use Rattle.graph.specs.Between.{bridgesBetween, cutsBetween}
 use Rattle.graph.specs.Route.{Choice, Serves, serve}
 use Rattle.graph.proofs.Truth.{false-of-not, not-both}
 use Rattle.graph.proofs.SharedBlock.{shared-block-some, shared-block-none, shared-block-found, shared-block-is}
-use Rattle.naming.specs.Rename.{nameOf}
+use Rattle.naming.specs.Rename.{size, nameOf}
 use Rattle.naming.specs.Book.{Book}
+use Rattle.naming.specs.Lookup.{Group, groupOf, componentOf, bridgeBlockOf, overBridgeBlocks}
 use Rattle.naming.specs.Survey.{Survey, surveysOf, holding, Latest}
 use Rattle.naming.specs.State.{State}
-use Rattle.naming.proofs.Book.{BookLaws}
+use Rattle.naming.proofs.Book.{component-laws, bridge-block-laws, BookLaws}
+use Rattle.naming.proofs.Lookup.{look-up-exactly, size-by-name, sizes-add-up}
 use Rattle.naming.proofs.Surveys.{holding-exactly, exactly-holding, holding-none, none-holding}
 use Rattle.commands.specs.Command.{districtName, ringName, sharedMesh, soleSpans, cutCabinets, isSole, holdsExchange, routesBetween, spanLength, exchangeShare}
-use Rattle.commands.specs.Answer.{Plain, plain, districtNamed, ringNamed, meshShared, noMeshShared, soleSpansAre, cutCabinetsAre, soleIs, exchangeHeld, routesAre, lengthIs, noLength, shareIs}
+use Rattle.commands.specs.Answer.{Plain, plain, districtIs, ringIs, meshShared, noMeshShared, soleSpansAre, cutCabinetsAre, soleIs, exchangeHeld, routesAre, lengthIs, noLength, shareIs}
 use Rattle.commands.specs.Exchange.{ringHoldsExchange, withExchange, thousandths, shareWithExchange}
 use Rattle.commands.specs.Facts.{asks, meshAnswer, routesAnswer, lengthAnswer, facts, answerTo, answer}
 use Rattle.commands.proofs.Cases.{impossible}
@@ -42,6 +45,25 @@ pub record AnswersTell (choice : Choice) (s : State) : Type 0 where
   -- two 04 answers agree exactly if the cabinets share a bridge-block
   pub rings : (x y : ℕ) → x < s .book .network .vertices → y < s .book .network .vertices
       → (answer choice s (ringName x) ≡ answer choice s (ringName y)) ↔ (bridgeBlock (s .book .network) x y ≡ true)
+  -- a 03 answer is the cabinet's district name and how many cabinets share its component; a 04 answer its ring name and how many share its
+  -- bridge-block
+  pub district : (x : ℕ)
+      → answer choice s (districtName x)
+      ≡ plain
+      (districtIs (record { name = nameOf (s .book .components) x; size = count (s .book .network .vertices) (component (s .book .network) x) }))
+  pub ring : (x : ℕ)
+      → answer choice s (ringName x)
+      ≡ plain
+      (ringIs (record { name = nameOf (s .book .bridgeBlocks) x; size = count (s .book .network .vertices) (bridgeBlock (s .book .network) x) }))
+  -- the size in a 03 or 04 answer is how many cabinets have the name in it
+  pub district-size : (x : ℕ) (g : Group) → x < s .book .network .vertices → answer choice s (districtName x) ≡ plain (districtIs g)
+      → g .size ≡ count (s .book .network .vertices) (λ y. eqb (nameOf (s .book .components) y) (g .name))
+  pub ring-size : (x : ℕ) (g : Group) → x < s .book .network .vertices → answer choice s (ringName x) ≡ plain (ringIs g)
+      → g .size ≡ count (s .book .network .vertices) (λ y. eqb (nameOf (s .book .bridgeBlocks) y) (g .name))
+  -- the sizes in the 04 answers for the rings of a district, each ring counted once, add up to the size in the 03 answer
+  pub sizes : (x : ℕ) (g : Group) (told : ℕ → Group) → answer choice s (districtName x) ≡ plain (districtIs g)
+      → ((y : ℕ) → y < s .book .network .vertices → answer choice s (ringName y) ≡ plain (ringIs (told y)))
+      → overBridgeBlocks (s .book .network) x (λ y. told y .size) ≡ g .size
   -- the 05 answer for two different cabinets has byte 1 and a name exactly if it is the name of an edge of a block with an edge at each
   pub mesh : (x y name : ℕ) → eqb x y ≡ false
       → (answer choice s (sharedMesh x y) ≡ plain (meshShared name))
@@ -129,17 +151,29 @@ not-told-of records x (some r) e q = impossible (cc)
 
 -- so it is in every state whose book keeps the laws of naming, under every choice that serves
 pub answers-tell : (choice : Choice) (s : State) → BookLaws (s .book) → Serves (s .book .network .rule) choice → AnswersTell choice s
-unfolding answer answerTo facts asks routesAnswer lengthAnswer told shareWithExchange thousandths
+unfolding answer answerTo facts asks componentOf bridgeBlockOf routesAnswer lengthAnswer told shareWithExchange thousandths
 answers-tell choice s laws serves =
     record {
-      districts = λ x y h k. (
-        λ q. laws .components-named .one-group x y h k (cc),
-        λ one. ap (λ n. plain (districtNamed n)) (laws .components-named .one-name x y h k one),
-      );
-      rings = λ x y h k. (
-        λ q. laws .bridge-blocks-named .one-group x y h k (cc),
-        λ one. ap (λ n. plain (ringNamed n)) (laws .bridge-blocks-named .one-name x y h k one),
-      );
+      districts = λ x y h k.
+          let exactly = look-up-exactly _ _ (component-laws .equivalent (s .book .network)) _ (laws .components-named) x y h k in
+          (λ q. exactly .0 (cc), λ one. ap (λ g. plain (districtIs g)) (exactly .1 one));
+      rings = λ x y h k.
+          let exactly = look-up-exactly _ _ (bridge-block-laws .equivalent (s .book .network)) _ (laws .bridge-blocks-named) x y h k in
+          (λ q. exactly .0 (cc), λ one. ap (λ g. plain (ringIs g)) (exactly .1 one));
+      district = λ x. unfold groupOf size in refl;
+      ring = λ x. unfold groupOf size in refl;
+      district-size = λ x g h q.
+          let is : componentOf (s .book) x ≡ g = cc in
+          rw is at (size-by-name _ _ (component-laws .equivalent (s .book .network)) _ (laws .components-named) x h);
+      ring-size = λ x g h q.
+          let is : bridgeBlockOf (s .book) x ≡ g = cc in
+          rw is at (size-by-name _ _ (bridge-block-laws .equivalent (s .book .network)) _ (laws .bridge-blocks-named) x h);
+      sizes = λ x g told q each.
+          let is : componentOf (s .book) x ≡ g = cc in
+          sizes-add-up (s .book) x (λ y. told y .size) (λ y h.
+          let one : bridgeBlockOf (s .book) y ≡ told y = cc (each y h) in
+          ap (λ (r : Group). r .size) one)
+          ∙ ap (λ (r : Group). r .size) is;
       mesh = λ x y name d. (
         λ q. shared-by-name (s .book) laws x y name (cc),
         λ t. ap plain (name-of-shared (s .book) laws x y (t .0) d (t .1) ∙ ap meshShared (t .2)),

@@ -6,11 +6,12 @@ use Prim.Native.Nat.{ℕ, zero, suc, _≤_}
 use native.Mathlib.Nat.{not-suc-le-zero}
 use native.Mathlib.Omega.{arith}
 use lib.ListN.{length, take, getD}
+use Rattle.naming.specs.Lookup.{Group}
 use Rattle.commands.specs.Bytes.{twoBytes}
 use Rattle.commands.specs.Field.{Kind, district, ring, mesh, Field, cabinet, span, fieldBytes, fieldsBytes}
-use Rattle.commands.specs.Answer.{kindByte, boolByte, Notice, noticeFields, noticesFields, Answer, cabinetAdded, spanAdded, plain, districtNamed, ringNamed, meshShared, noMeshShared, soleSpansAre, cutCabinetsAre, soleIs, exchangeMarked, exchangeHeld, routesAre, lengthRecorded, lengthIs, noLength, shareIs, plainFields, answerFields, answerBytes}
+use Rattle.commands.specs.Answer.{kindByte, boolByte, Notice, noticeFields, noticesFields, Answer, cabinetAdded, spanAdded, plain, districtIs, ringIs, meshShared, noMeshShared, soleSpansAre, cutCabinetsAre, soleIs, exchangeMarked, exchangeHeld, routesAre, lengthRecorded, lengthIs, noLength, shareIs, plainFields, answerFields, answerBytes}
 use Rattle.commands.specs.Run.{Accepted, bytesOfAnswers}
-use Rattle.commands.specs.Decode.{malformed, decoded, Then, byteThen, fieldThen, fieldsThen, kindOf, kindThen, noticeThen, noticesThen, flagThen, noughtThen, bodies, decodeBody, decode, decodeFirst}
+use Rattle.commands.specs.Decode.{malformed, decoded, Then, byteThen, fieldThen, fieldsThen, kindOf, kindThen, noticeThen, noticesThen, flagThen, noughtThen, groupThen, bodies, decodeBody, decode, decodeFirst}
 use Rattle.commands.proofs.Bytes.{number-of-two-bytes, Small, FieldsFit, InTwoBytes, cabinets-in-two-bytes, spans-in-two-bytes, items-in-two-bytes, both-fit, bytes-of-first, bytes-then-counted}
 use Rattle.commands.proofs.NoticeBytes.{notice-bytes, bytes-of-first-notice}
 
@@ -88,6 +89,14 @@ two-counted-read f two ns ms h each h′ each′ k rest =
     counted-read f two ns h each (λ xs. fieldThen (λ m. fieldsThen m (k xs))) (twoBytes (length ms) ++ (fieldsBytes (map f ms) ++ rest))
     ∙ counted-read f two ms h′ each′ (k ns) rest
 
+-- a group is read back, its name and its size
+group-read : (g : Group) → Small (g .name) → Small (g .size) → (k : Then Group) (rest : List ℕ)
+    → groupThen k (twoBytes (g .name) ++ (twoBytes (g .size) ++ rest)) ≡ k g rest
+unfolding groupThen
+group-read g h h′ k rest =
+    field-read (g .name) h (λ name. fieldThen (λ size. k (record { name = name; size = size }))) (twoBytes (g .size) ++ rest)
+    ∙ field-read (g .size) h′ (λ size. k (record { name = g .name; size = size })) rest
+
 -- an answer that fits is read back from its bytes, whatever follows them
 pub decode-answer : (a : Answer) → Fits a → (rest : List ℕ) → decode (answerBytes a ++ rest) ≡ decoded a rest
 unfolding decode byteThen bodies decodeBody flagThen noughtThen answerBytes answerFields plainFields fieldsBytes fieldBytes boolByte twoBytes
@@ -99,8 +108,8 @@ decode-answer (spanAdded s name ts) h rest =
       field-read (length ts) (h .1 .1 .1 .0),
       notices-read ts (h .1 .1 .1 .1),
     )
-decode-answer (plain (districtNamed name)) h rest = field-read name (h .1 .0) (λ x. decoded (plain (districtNamed x))) rest
-decode-answer (plain (ringNamed name)) h rest = field-read name (h .1 .0) (λ x. decoded (plain (ringNamed x))) rest
+decode-answer (plain (districtIs g)) h rest = group-read g (h .1 .0) (h .1 .1 .0) (λ x. decoded (plain (districtIs x))) rest
+decode-answer (plain (ringIs g)) h rest = group-read g (h .1 .0) (h .1 .1 .0) (λ x. decoded (plain (ringIs x))) rest
 decode-answer (plain (meshShared name)) h rest = field-read name (h .1 .1 .0) (λ x. decoded (plain (meshShared x))) rest
 decode-answer (plain noMeshShared) h rest =
     field-read 0 (omega arith) (λ n. getD (decoded (plain noMeshShared) ∷ []) n (λ bytes. malformed)) rest

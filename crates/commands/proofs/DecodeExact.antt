@@ -7,10 +7,11 @@ use mathlib.Core.Path.{_≡_, refl, sym, _∙_, ap, subst, subst₂}
 use Prim.Native.Nat.{ℕ, zero, suc, _+_, _-_, _≤_, _<_}
 use native.Mathlib.Omega.{arith}
 use lib.ListN.{length, getD}
+use Rattle.naming.specs.Lookup.{Group}
 use Rattle.commands.specs.Bytes.{allBytes, number, twoBytes}
 use Rattle.commands.specs.Field.{Kind, district, ring, mesh, Field, cabinet, span, fieldBytes, fieldsBytes}
-use Rattle.commands.specs.Answer.{kindByte, boolByte, Notice, noticeFields, noticesFields, Plain, Answer, cabinetAdded, spanAdded, plain, districtNamed, ringNamed, meshShared, noMeshShared, soleSpansAre, cutCabinetsAre, soleIs, exchangeMarked, exchangeHeld, routesAre, lengthRecorded, lengthIs, noLength, shareIs, plainFields, answerFields, answerBytes}
-use Rattle.commands.specs.Decode.{Decoded, malformed, decoded, Then, byteThen, fieldThen, fieldsThen, kindOf, kindThen, noticeThen, noticesThen, flagThen, noughtThen, bodies, decodeBody, decode}
+use Rattle.commands.specs.Answer.{kindByte, boolByte, Notice, noticeFields, noticesFields, Plain, Answer, cabinetAdded, spanAdded, plain, districtIs, ringIs, meshShared, noMeshShared, soleSpansAre, cutCabinetsAre, soleIs, exchangeMarked, exchangeHeld, routesAre, lengthRecorded, lengthIs, noLength, shareIs, plainFields, answerFields, answerBytes}
+use Rattle.commands.specs.Decode.{Decoded, malformed, decoded, Then, byteThen, fieldThen, fieldsThen, kindOf, kindThen, noticeThen, noticesThen, flagThen, noughtThen, groupThen, bodies, decodeBody, decode}
 use Rattle.commands.proofs.Cases.{le-or-gt, impossible}
 use Rattle.commands.proofs.ByPlace.{each-at, _also_}
 use Rattle.commands.proofs.Bytes.{all-bytes-behind, first-is-byte, number-below, number-of-two-bytes, two-bytes-of-number, Small, FieldsFit, InTwoBytes, cabinets-in-two-bytes, spans-in-two-bytes, items-in-two-bytes, both-fit, bytes-of-first, bytes-then-counted}
@@ -164,6 +165,18 @@ module _ (all : List ℕ) where
   one-field byte f are fit more r =
       then-field all Spelled bad (λ n. decoded (f n)) (byte ∷ []) more r (λ n rest s r′. spelled (f n) rest (rw (are n) at r′) (fit n s))
 
+  one-group : (byte : ℕ) (f : Group → Plain) → ((g : Group) → byte ∷ twoBytes (g .name) ++ twoBytes (g .size) ≡ answerBytes (plain (f g)))
+      → ((g : Group) → Small (g .name) → Small (g .size) → Fits (plain (f g)))
+      → (more : List ℕ) → Read all (byte ∷ []) more → Spelled (groupThen (λ g. decoded (plain (f g))) more)
+  unfolding groupThen
+  one-group byte f are fit more r =
+      then-field all Spelled bad _ (byte ∷ []) more r
+      (λ name rest s r₁.
+      then-field all Spelled bad _ (byte ∷ twoBytes name) rest r₁
+      (λ size rest₁ s′ r₂.
+      let g : Group = record { name = name; size = size } in
+      spelled (plain (f g)) rest₁ (rw (are g) at r₂) (fit g s s′)))
+
   counted : (byte : ℕ) (field : ℕ → Field) → InTwoBytes field → (f : List ℕ → Answer)
       → ((ns : List ℕ) → byte ∷ twoBytes (length ns) ++ fieldsBytes (map field ns) ≡ answerBytes (f ns))
       → ((ns : List ℕ) → Small (length ns) → FieldsFit (map field ns) → Fits (f ns))
@@ -247,8 +260,8 @@ module _ (all : List ℕ) where
       ((λ more r. bad)
       also one-field 0x81 cabinetAdded (λ n. refl) (λ n s. (tt, (s, tt)))
       also added
-      also one-field 0x83 (λ n. plain (districtNamed n)) (λ n. refl) (λ n s. (tt, (s, tt)))
-      also one-field 0x84 (λ n. plain (ringNamed n)) (λ n. refl) (λ n s. (tt, (s, tt)))
+      also one-group 0x83 districtIs (λ g. refl) (λ g s s′. (tt, (s, (s′, tt))))
+      also one-group 0x84 ringIs (λ g. refl) (λ g s s′. (tt, (s, (s′, tt))))
       also one-or-none 0x85 meshShared noMeshShared (λ n. refl) refl (λ n s. (tt, (tt, (s, tt)))) (tt, (tt, (omega arith, tt)))
       also counted 0x86 span spans-in-two-bytes (λ ns. plain (soleSpansAre ns)) (λ ns. refl) (λ ns s f. (tt, (s, f)))
       also counted 0x87 cabinet cabinets-in-two-bytes (λ ns. plain (cutCabinetsAre ns)) (λ ns. refl) (λ ns s f. (tt, (s, f)))

@@ -1,5 +1,5 @@
--- The marked histories, those with exchanges, with ducts, with routes and with survey lengths, the calls of the run's entry and the
--- forecasts hold of the definitions: each table is computed at once.
+-- The marked histories, those with exchanges, with ducts, with routes, with survey lengths and with sizes, the calls of the run's entry and
+-- the forecasts hold of the definitions: each table is computed at once.
 use mathlib.Core.List.{List, [], _∷_, _++_, map}
 use mathlib.Core.Path.{_≡_, refl, ap}
 use lib.ListN.{replicate}
@@ -18,13 +18,14 @@ use Rattle.commands.specs.RouteHistories
 use Rattle.commands.specs.RouteHistories.{routeHistories, offers, judged}
 use Rattle.commands.specs.SurveyHistories
 use Rattle.commands.specs.SurveyHistories.{surveyHistories}
+use Rattle.commands.specs.SizeHistories.{sizeHistories}
 use Rattle.commands.specs.Calls.{sevens, call, atStart, startCalls, stopCalls, cabinetAnswers, acceptedCalls, entered, foretold, forecasts}
 use Rattle.commands.proofs.Computed.{computed}
-use Rattle.commands.proofs.Anew.{made, duct-histories-made}
+use Rattle.commands.proofs.Anew.{made, duct-histories-made, size-histories-made}
 
 -- of the whole table the program makes the table
 histories-made : map made histories ≡ histories
-unfolding computed Histories.output Histories.accepted Histories.refusedWith Histories.notice Histories.emptyJournal Histories.triangle Histories.oneSpan Histories.twoSpans Histories.chain Histories.twoMeshes Histories.twoRings Histories.joiningAnswers Histories.twoRingsJoined Histories.twoRingsJoinedInDucts Histories.fromItselfToItself Histories.spanToItself Histories.spanToNowhere Histories.acrossDistricts Histories.cutShort Histories.histories
+unfolding computed Histories.output Histories.accepted Histories.refusedWith Histories.notice Histories.group Histories.emptyJournal Histories.triangle Histories.oneSpan Histories.twoSpans Histories.chain Histories.twoMeshes Histories.twoRings Histories.joiningAnswers Histories.twoRingsJoined Histories.twoRingsJoinedInDucts Histories.fromItselfToItself Histories.spanToItself Histories.spanToNowhere Histories.acrossDistricts Histories.cutShort Histories.histories
 histories-made = refl
 
 each-shown : (hs : List History) → map made hs ≡ hs → EachShown hs
@@ -67,6 +68,10 @@ route-histories-shown = each-shown routeHistories route-histories-made
 -- and every history with survey lengths
 pub survey-histories-shown : EachShown surveyHistories
 survey-histories-shown = each-shown surveyHistories survey-histories-made
+
+-- and every history with sizes
+pub size-histories-shown : EachShown sizeHistories
+size-histories-shown = each-shown sizeHistories size-histories-made
 
 -- The pairs that are said to serve do, and the others do not.
 pub offers-judged : map judged offers ≡ map (λ o. o .serves) offers

@@ -5,6 +5,7 @@ use Prim.Native.Nat.{ℕ}
 use lib.ListN.{length}
 use Rattle.naming.specs.Rename.{Change, changesBetween}
 use Rattle.naming.specs.Book.{Book}
+use Rattle.naming.specs.Lookup.{Group}
 use Rattle.commands.specs.Field.{Kind, district, ring, mesh, Field, cabinet, span, name, number, byte, fieldsBytes}
 
 unfoldable pub kindByte : Kind → ℕ
@@ -46,10 +47,11 @@ notices b b′ =
     ++ changes ring (b .bridgeBlocks) (b′ .bridgeBlocks)
     ++ changes mesh (b .blocks) (b′ .blocks)
 
--- The answers to commands that add nothing: they bring no notices. Lists are in travelling order.
+-- The answers to commands that add nothing: they bring no notices. A district or ring is told by its name and its size (request 8). Lists
+-- are in travelling order.
 pub data Plain : Type 0 where
-  districtNamed : ℕ → Plain
-  ringNamed : ℕ → Plain
+  districtIs : Group → Plain
+  ringIs : Group → Plain
   meshShared : ℕ → Plain
   noMeshShared : Plain
   soleSpansAre : List ℕ → Plain
@@ -74,8 +76,8 @@ boolByte true = 1
 boolByte false = 0
 
 unfoldable pub plainFields : Plain → List Field
-plainFields (districtNamed n) = byte 0x83 ∷ name district n ∷ []
-plainFields (ringNamed n) = byte 0x84 ∷ name ring n ∷ []
+plainFields (districtIs g) = byte 0x83 ∷ name district (g .name) ∷ number (g .size) ∷ []
+plainFields (ringIs g) = byte 0x84 ∷ name ring (g .name) ∷ number (g .size) ∷ []
 plainFields (meshShared n) = byte 0x85 ∷ byte 1 ∷ name mesh n ∷ []
 plainFields noMeshShared = byte 0x85 ∷ byte 0 ∷ number 0 ∷ []
 plainFields (soleSpansAre ss) = byte 0x86 ∷ number (length ss) ∷ map span ss

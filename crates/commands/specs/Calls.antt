@@ -1,5 +1,5 @@
 -- Calls of the entries in plain numbers. Of the run, line by line of the table of causes: what is handed in, what is returned, and what
--- every buffer then holds. Of the forecast and of rewriting: journals, and what is returned.
+-- every buffer then holds. Of the forecast and of rewriting: journals, and what is returned; the longest are in journal/specs/Longest.
 use mathlib.Core.List.{List, [], _∷_, _++_}
 use Prim.Native.Nat.{ℕ, zero, suc}
 use lib.ListN.{replicate}
@@ -131,6 +131,8 @@ stopCalls =
     ∷ call 1 1 96 2 6 (0x01 ∷ []) 11 (replicate 96 0) (7 ∷ 7 ∷ []) (11 ∷ 0 ∷ 0 ∷ 0 ∷ 0 ∷ 0 ∷ [])
     ∷ call 1 1 96 3 6 (0x01 ∷ 0x09 ∷ 0 ∷ 0 ∷ []) 11 (replicate 96 0) (0x81 ∷ 0 ∷ 0 ∷ []) (11 ∷ 1 ∷ 1 ∷ 3 ∷ 1 ∷ 0 ∷ [])
     ∷ call 1 1 96 2 6 (0x0F ∷ []) 11 (replicate 96 0) (7 ∷ 7 ∷ []) (11 ∷ 0 ∷ 0 ∷ 0 ∷ 0 ∷ 0 ∷ [])
+    ∷ call 1 1 96 7 6 (0x01 ∷ 0x03 ∷ 0 ∷ 0 ∷ []) 11 (replicate 96 0) (0x81 ∷ 0 ∷ 0 ∷ 7 ∷ 7 ∷ 7 ∷ 7 ∷ []) (11 ∷ 1 ∷ 1 ∷ 3 ∷ 1 ∷ 0 ∷ [])
+    ∷ call 1 1 96 7 6 (0x01 ∷ 0x04 ∷ 0 ∷ 0 ∷ []) 11 (replicate 96 0) (0x81 ∷ 0 ∷ 0 ∷ 7 ∷ 7 ∷ 7 ∷ 7 ∷ []) (11 ∷ 1 ∷ 1 ∷ 3 ∷ 1 ∷ 0 ∷ [])
     ∷ call 2 1 120 17 6 (0x01 ∷ 0x01 ∷ 0x02 ∷ 0 ∷ 0 ∷ 0 ∷ 1 ∷ []) 11
     (replicate 120 0)
     (0x81 ∷ 0 ∷ 0 ∷ 0x81 ∷ 0 ∷ 1 ∷ replicate 11 7)
@@ -179,8 +181,8 @@ acceptedCalls =
     (replicate 120 0)
     (0x81 ∷ 0 ∷ 0 ∷ 0x81 ∷ 0 ∷ 1 ∷ 0x85 ∷ 0 ∷ 0 ∷ 0 ∷ [])
     (0 ∷ 7 ∷ 3 ∷ 10 ∷ 2 ∷ 0 ∷ [])
-    -- one span: 82 with a district notice, 83, 84, 85 with a mesh, 86 with the span, 87 with none, 88 with 1
-    ∷ call 2 1 120 38 6
+    -- one span: 82 with a district notice, 83 and 84 with their sizes, 85 with a mesh, 86 with the span, 87 with none, 88 with 1
+    ∷ call 2 1 120 42 6
     (0x01
     ∷ 0x01
     ∷ 0x02 ∷ 0 ∷ 0 ∷ 0 ∷ 1
@@ -196,14 +198,14 @@ acceptedCalls =
     (0x81 ∷ 0 ∷ 0
     ∷ 0x81 ∷ 0 ∷ 1
     ∷ 0x82 ∷ 0 ∷ 0 ∷ 0 ∷ 0 ∷ 0 ∷ 1 ∷ 0x01 ∷ 0 ∷ 1 ∷ 0 ∷ 0
-    ∷ 0x83 ∷ 0 ∷ 0
-    ∷ 0x84 ∷ 0 ∷ 1
+    ∷ 0x83 ∷ 0 ∷ 0 ∷ 0 ∷ 2
+    ∷ 0x84 ∷ 0 ∷ 1 ∷ 0 ∷ 1
     ∷ 0x85 ∷ 1 ∷ 0 ∷ 0
     ∷ 0x86 ∷ 0 ∷ 1 ∷ 0 ∷ 0
     ∷ 0x87 ∷ 0 ∷ 0
     ∷ 0x88 ∷ 1
     ∷ [])
-    (0 ∷ 31 ∷ 9 ∷ 38 ∷ 2 ∷ 1 ∷ [])
+    (0 ∷ 31 ∷ 9 ∷ 42 ∷ 2 ∷ 1 ∷ [])
     -- a triangle with a span from it: 82 with ring and mesh notices, 86 and 87 from either side, 88 with 0
     ∷ call 4 4 192 91 6
     (0x01
@@ -260,10 +262,10 @@ acceptedCalls =
     ∷ [])
     (0 ∷ 20 ∷ 6 ∷ 27 ∷ 2 ∷ 1 ∷ [])
     -- a number from 256 on, answered and asked for
-    ∷ call 257 1 6240 774 6 (replicate 257 0x01 ++ 0x03 ∷ 1 ∷ 0 ∷ []) 0
+    ∷ call 257 1 6240 776 6 (replicate 257 0x01 ++ 0x03 ∷ 1 ∷ 0 ∷ []) 0
     (replicate 6240 0)
-    (cabinetAnswers 256 ++ 0x81 ∷ 1 ∷ 0 ∷ 0x83 ∷ 1 ∷ 0 ∷ [])
-    (0 ∷ 260 ∷ 258 ∷ 774 ∷ 257 ∷ 0 ∷ [])
+    (cabinetAnswers 256 ++ 0x81 ∷ 1 ∷ 0 ∷ 0x83 ∷ 1 ∷ 0 ∷ 0 ∷ 1 ∷ [])
+    (0 ∷ 260 ∷ 258 ∷ 776 ∷ 257 ∷ 0 ∷ [])
     ∷ []
 
 -- What the run's entry returns and leaves for the call.
@@ -301,8 +303,8 @@ forecasts =
     18
     75
     -- each question where there is nothing
-    ∷ foretold (0x03 ∷ 0 ∷ 0 ∷ []) 0 3 3
-    ∷ foretold (0x04 ∷ 0 ∷ 0 ∷ []) 0 3 3
+    ∷ foretold (0x03 ∷ 0 ∷ 0 ∷ []) 0 3 5
+    ∷ foretold (0x04 ∷ 0 ∷ 0 ∷ []) 0 3 5
     ∷ foretold (0x05 ∷ 0 ∷ 0 ∷ 0 ∷ 1 ∷ []) 0 5 4
     ∷ foretold (0x06 ∷ 0 ∷ 0 ∷ 0 ∷ 1 ∷ []) 0 5 3
     ∷ foretold (0x07 ∷ 0 ∷ 0 ∷ 0 ∷ 1 ∷ []) 0 5 3
@@ -326,9 +328,6 @@ forecasts =
     ∷ foretold (0x0C ∷ 0 ∷ 0 ∷ 0 ∷ 1 ∷ 0x02 ∷ 0 ∷ 0 ∷ 0 ∷ 1 ∷ 0x0B ∷ 0 ∷ 0 ∷ 0 ∷ 1 ∷ 0 ∷ 9 ∷ []) 0 17 33
     -- two cabinets and a span, and 0D, 0E and 0E: 33 and 9
     ∷ foretold (0x01 ∷ 0x01 ∷ 0x02 ∷ 0 ∷ 0 ∷ 0 ∷ 1 ∷ 0x0D ∷ 0 ∷ 0 ∷ 0 ∷ 1 ∷ 0 ∷ 2 ∷ 0x0E ∷ 0 ∷ 0 ∷ 0x0E ∷ 0 ∷ 0 ∷ []) 0 20 42
-    -- the longest journal, whose last question has no operands, and one byte less
-    ∷ foretold (replicate 65536 0x03) 5 65535 0
-    ∷ foretold (replicate 65535 0x03) 0 65535 65535
     -- 3: a journal too long, of bytes that are no command's
     ∷ foretold (replicate 65537 0x00) 3 0 0
     -- 4: an unknown byte, alone, behind a command, and behind one that a run refuses with 7
@@ -442,7 +441,4 @@ rewritings =
     ∷ rewriteCall (0x01 ∷ []) 0 16 0 []
     ∷ rewriteCall (0x01 ∷ 0x02 ∷ 0 ∷ 0 ∷ 0 ∷ 1 ∷ []) 7 16 0 []
     ∷ rewriteCall (0x01 ∷ 0x02 ∷ 0 ∷ 0 ∷ 0 ∷ 1 ∷ []) 8 0 6 (0x01 ∷ 0x0B ∷ 0 ∷ 0 ∷ 0 ∷ 1 ∷ 0 ∷ 1 ∷ [])
-    -- a journal of 65,536 bytes, without 02, and so a result of as many; and a result of 65,537, whatever the room
-    ∷ rewriteCall (0x01 ∷ 0x01 ∷ replicate 65534 0x0D) 65536 0 65536 (0x01 ∷ 0x01 ∷ replicate 65534 0x0D)
-    ∷ rewriteCall (0x01 ∷ 0x01 ∷ 0x01 ∷ 0x02 ∷ 0 ∷ 0 ∷ 0 ∷ 1 ∷ replicate 65527 0x0D) 70000 16 0 []
     ∷ []

@@ -4,9 +4,10 @@ use mathlib.Core.List.{List, [], _∷_}
 use mathlib.Core.Option.{Option, none, some}
 use Prim.Native.Nat.{ℕ, zero, suc, _-_}
 use lib.ListN.{getD}
+use Rattle.naming.specs.Lookup.{Group}
 use Rattle.commands.specs.Bytes.{number}
 use Rattle.commands.specs.Field.{Kind, district, ring, mesh}
-use Rattle.commands.specs.Answer.{Notice, Answer, cabinetAdded, spanAdded, plain, districtNamed, ringNamed, meshShared, noMeshShared, soleSpansAre, cutCabinetsAre, soleIs, exchangeMarked, exchangeHeld, routesAre, lengthRecorded, lengthIs, noLength, shareIs}
+use Rattle.commands.specs.Answer.{Notice, Answer, cabinetAdded, spanAdded, plain, districtIs, ringIs, meshShared, noMeshShared, soleSpansAre, cutCabinetsAre, soleIs, exchangeMarked, exchangeHeld, routesAre, lengthRecorded, lengthIs, noLength, shareIs}
 
 -- An answer and the bytes that follow it.
 pub data Decoded : Type 0 where
@@ -52,14 +53,18 @@ flagThen one none′ = byteThen (λ byte. getD (none′ ∷ one ∷ []) byte (λ
 unfoldable pub noughtThen : (List ℕ → Decoded) → List ℕ → Decoded
 noughtThen k = fieldThen (λ n. getD (k ∷ []) n (λ bytes. malformed))
 
+-- A group: its name, then its size.
+unfoldable pub groupThen : Then Group → List ℕ → Decoded
+groupThen k = fieldThen (λ name. fieldThen (λ size. k (record { name = name; size = size })))
+
 -- What follows the byte of an answer, by that byte from 80 on: 81 to 8A, and 8C to 8F.
 unfoldable pub bodies : List (List ℕ → Decoded)
 bodies =
     (λ bytes. malformed)
     ∷ fieldThen (λ k. decoded (cabinetAdded k))
     ∷ fieldThen (λ s. fieldThen (λ name. fieldThen (λ n. noticesThen n (λ ts. decoded (spanAdded s name ts)))))
-    ∷ fieldThen (λ name. decoded (plain (districtNamed name)))
-    ∷ fieldThen (λ name. decoded (plain (ringNamed name)))
+    ∷ groupThen (λ g. decoded (plain (districtIs g)))
+    ∷ groupThen (λ g. decoded (plain (ringIs g)))
     ∷ flagThen (fieldThen (λ name. decoded (plain (meshShared name)))) (noughtThen (decoded (plain noMeshShared)))
     ∷ fieldThen (λ n. fieldsThen n (λ ss. decoded (plain (soleSpansAre ss))))
     ∷ fieldThen (λ n. fieldsThen n (λ cs. decoded (plain (cutCabinetsAre cs))))

@@ -3,9 +3,9 @@ use mathlib.Core.Bool.{true, false}
 use mathlib.Core.List.{List, [], _∷_}
 use Rattle.commands.specs.Command.{addCabinet, addSpan, addDuctSpan, ringName, sharedMesh, soleSpans, cutCabinets, isSole}
 use Rattle.commands.specs.Field.{district, ring, mesh}
-use Rattle.commands.specs.Answer.{cabinetAdded, spanAdded, plain, ringNamed, meshShared, soleSpansAre, cutCabinetsAre, soleIs}
+use Rattle.commands.specs.Answer.{cabinetAdded, spanAdded, plain, ringIs, meshShared, soleSpansAre, cutCabinetsAre, soleIs}
 use Rattle.commands.specs.Text.{journalBytes}
-use Rattle.commands.specs.Histories.{History, output, accepted, refusedWith, notice}
+use Rattle.commands.specs.Histories.{History, output, accepted, refusedWith, notice, group}
 
 -- Two spans of one duct, entered from either side: two rings, both spans sole, 06 lists the lesser only, one mesh.
 unfoldable pub twoInOneDuct : History
@@ -32,8 +32,8 @@ twoInOneDuct =
           ∷ cabinetAdded 1
           ∷ spanAdded 0 0 (notice district 1 0 ∷ [])
           ∷ spanAdded 1 0 []
-          ∷ plain (ringNamed 0)
-          ∷ plain (ringNamed 1)
+          ∷ plain (ringIs (group 0 1))
+          ∷ plain (ringIs (group 1 1))
           ∷ plain (soleIs true)
           ∷ plain (soleIs true)
           ∷ plain (soleSpansAre (0 ∷ []))
@@ -42,7 +42,7 @@ twoInOneDuct =
           ∷ plain (cutCabinetsAre [])
           ∷ [])
           accepted;
-      report = 0 ∷ 48 ∷ 12 ∷ 52 ∷ 2 ∷ 2 ∷ [];
+      report = 0 ∷ 48 ∷ 12 ∷ 56 ∷ 2 ∷ 2 ∷ [];
     }
 
 -- Two spans of two ducts: one ring, no span sole.
@@ -66,13 +66,13 @@ twoInTwoDucts =
           ∷ cabinetAdded 1
           ∷ spanAdded 0 0 (notice district 1 0 ∷ [])
           ∷ spanAdded 1 0 (notice ring 1 0 ∷ [])
-          ∷ plain (ringNamed 0)
+          ∷ plain (ringIs (group 0 2))
           ∷ plain (soleIs false)
           ∷ plain (soleSpansAre [])
           ∷ plain (meshShared 0)
           ∷ [])
           accepted;
-      report = 0 ∷ 32 ∷ 8 ∷ 42 ∷ 2 ∷ 2 ∷ [];
+      report = 0 ∷ 32 ∷ 8 ∷ 44 ∷ 2 ∷ 2 ∷ [];
     }
 
 -- A span of 02 is no mate of a span in a duct: beside it that one makes one ring, and a mate of that one changes nothing.
@@ -253,7 +253,7 @@ twoWithNoDuctTold =
           ∷ cabinetAdded 1
           ∷ spanAdded 0 0 (notice district 1 0 ∷ [])
           ∷ spanAdded 1 0 []
-          ∷ plain (ringNamed 1)
+          ∷ plain (ringIs (group 1 1))
           ∷ plain (soleIs true)
           ∷ plain (soleIs true)
           ∷ plain (soleSpansAre (0 ∷ []))
@@ -263,7 +263,7 @@ twoWithNoDuctTold =
           ∷ plain (soleSpansAre [])
           ∷ [])
           accepted;
-      report = 0 ∷ 46 ∷ 12 ∷ 59 ∷ 2 ∷ 3 ∷ [];
+      report = 0 ∷ 46 ∷ 12 ∷ 61 ∷ 2 ∷ 3 ∷ [];
     }
 
 -- A loop of spans of 02 closes around two that are mates, and a mate more is entered after it.

@@ -9,11 +9,12 @@ use Rattle.graph.specs.Between.{bridgesBetween, cutsBetween}
 use Rattle.graph.specs.Route.{Routes, Choice}
 use Rattle.naming.specs.Rename.{nameOf}
 use Rattle.naming.specs.Book.{Book, Addition, vertex, edge, neither, feed}
+use Rattle.naming.specs.Lookup.{componentOf, bridgeBlockOf}
 use Rattle.naming.specs.Survey.{Survey, holding}
 use Rattle.naming.specs.State.{State, afterAddition, Recording, recordsNothing, recordsMark, recordsSurvey, afterRecording}
 use Rattle.commands.specs.Field.{Field, cabinet, span, number, byte, fieldsBytes}
 use Rattle.commands.specs.Command.{Command, addCabinet, addSpan, districtName, ringName, sharedMesh, soleSpans, cutCabinets, isSole, markExchange, holdsExchange, addDuctSpan, routesBetween, recordLength, spanLength, exchangeShare, commandByte}
-use Rattle.commands.specs.Answer.{Plain, districtNamed, ringNamed, meshShared, noMeshShared, soleSpansAre, cutCabinetsAre, soleIs, exchangeMarked, exchangeHeld, routesAre, lengthRecorded, lengthIs, noLength, shareIs, Answer, cabinetAdded, spanAdded, plain, notices}
+use Rattle.commands.specs.Answer.{Plain, districtIs, ringIs, meshShared, noMeshShared, soleSpansAre, cutCabinetsAre, soleIs, exchangeMarked, exchangeHeld, routesAre, lengthRecorded, lengthIs, noLength, shareIs, Answer, cabinetAdded, spanAdded, plain, notices}
 use Rattle.commands.specs.Exchange.{ringHoldsExchange, shareWithExchange}
 
 -- What must hold of what a command names: two cabinets differ, a cabinet is no exchange, a duct is not 0, two cabinets share a district,
@@ -65,10 +66,8 @@ lengthAnswer (some r) = lengthIs (r .metres)
 unfoldable pub facts : Command → Facts
 facts addCabinet = addsCabinet
 facts (addSpan a b) = addsSpan (edgeBetween a b) [] []
-facts (districtName a) =
-    asks (cabinet a ∷ []) [] (λ s. districtNamed (nameOf (s .book .components) a)) (λ cabinets spans. 3)
-facts (ringName a) =
-    asks (cabinet a ∷ []) [] (λ s. ringNamed (nameOf (s .book .bridgeBlocks) a)) (λ cabinets spans. 3)
+facts (districtName a) = asks (cabinet a ∷ []) [] (λ s. districtIs (componentOf (s .book) a)) (λ cabinets spans. 5)
+facts (ringName a) = asks (cabinet a ∷ []) [] (λ s. ringIs (bridgeBlockOf (s .book) a)) (λ cabinets spans. 5)
 facts (sharedMesh a b) =
     asks
     (cabinet a ∷ cabinet b ∷ [])

@@ -1,12 +1,13 @@
--- The histories of document 01 that are proved (marked † there), as request 7 has them: journals with what the program writes for them, and
--- the report.
+-- The histories of document 01 that are proved (marked † there), as requests 7 and 8 have them: journals with what the program writes for
+-- them, and the report.
 use mathlib.Core.Bool.{true}
 use mathlib.Core.List.{List, [], _∷_, _++_}
 use mathlib.Core.Path.{_≡_}
 use Prim.Native.Nat.{ℕ}
+use Rattle.naming.specs.Lookup.{Group}
 use Rattle.commands.specs.Command.{Command, addCabinet, addSpan, districtName, ringName, sharedMesh, soleSpans, cutCabinets, isSole, addDuctSpan}
 use Rattle.commands.specs.Field.{Kind, district, ring, mesh}
-use Rattle.commands.specs.Answer.{Notice, Answer, cabinetAdded, spanAdded, plain, districtNamed, ringNamed, meshShared, noMeshShared, soleSpansAre, cutCabinetsAre, soleIs, answerBytes}
+use Rattle.commands.specs.Answer.{Notice, Answer, cabinetAdded, spanAdded, plain, districtIs, ringIs, meshShared, noMeshShared, soleSpansAre, cutCabinetsAre, soleIs, answerBytes}
 use Rattle.commands.specs.Text.{journalBytes}
 use Rattle.commands.specs.Register.{program, programReport}
 
@@ -38,6 +39,9 @@ refusedWith number place = 0xFF ∷ number ∷ 0 ∷ 0 ∷ 0 ∷ place ∷ []
 
 unfoldable pub notice : Kind → ℕ → ℕ → Notice
 notice kind item name = record { kind = kind; item = item; name = name }
+
+unfoldable pub group : ℕ → ℕ → Group
+group name size = record { name = name; size = size }
 
 -- Empty journal: accepted, place 0, no answer.
 unfoldable pub emptyJournal : History
@@ -91,15 +95,15 @@ oneSpan =
           (cabinetAdded 0
           ∷ cabinetAdded 1
           ∷ spanAdded 0 0 (notice district 1 0 ∷ [])
-          ∷ plain (districtNamed 0)
-          ∷ plain (districtNamed 0)
-          ∷ plain (ringNamed 0)
-          ∷ plain (ringNamed 1)
+          ∷ plain (districtIs (group 0 2))
+          ∷ plain (districtIs (group 0 2))
+          ∷ plain (ringIs (group 0 1))
+          ∷ plain (ringIs (group 1 1))
           ∷ plain (meshShared 0)
           ∷ plain (soleIs true)
           ∷ [])
           accepted;
-      report = 0 ∷ 27 ∷ 9 ∷ 36 ∷ 2 ∷ 1 ∷ [];
+      report = 0 ∷ 27 ∷ 9 ∷ 44 ∷ 2 ∷ 1 ∷ [];
     }
 
 -- Two cabinets, two spans: rings 0 and 1, mesh 0, both spans sole; 06 lists the lesser. (Request 7: they lie in one duct.)
@@ -125,15 +129,15 @@ twoSpans =
           ∷ cabinetAdded 1
           ∷ spanAdded 0 0 (notice district 1 0 ∷ [])
           ∷ spanAdded 1 0 []
-          ∷ plain (ringNamed 0)
-          ∷ plain (ringNamed 1)
+          ∷ plain (ringIs (group 0 1))
+          ∷ plain (ringIs (group 1 1))
           ∷ plain (meshShared 0)
           ∷ plain (soleIs true)
           ∷ plain (soleIs true)
           ∷ plain (soleSpansAre (0 ∷ []))
           ∷ [])
           accepted;
-      report = 0 ∷ 34 ∷ 10 ∷ 44 ∷ 2 ∷ 2 ∷ [];
+      report = 0 ∷ 34 ∷ 10 ∷ 48 ∷ 2 ∷ 2 ∷ [];
     }
 
 -- Chain 0-1, 1-2: sole spans from 0 to 2 are 0, 1; from 2 to 0 they are 1, 0; cut cabinet 1.
@@ -200,9 +204,9 @@ twoMeshes =
           ∷ spanAdded 1 0 (notice ring 2 1 ∷ [])
           ∷ spanAdded 2 2 (notice district 0 1 ∷ [])
           ∷ spanAdded 3 2 (notice ring 0 1 ∷ [])
-          ∷ plain (ringNamed 1)
-          ∷ plain (ringNamed 1)
-          ∷ plain (ringNamed 1)
+          ∷ plain (ringIs (group 1 3))
+          ∷ plain (ringIs (group 1 3))
+          ∷ plain (ringIs (group 1 3))
           ∷ plain (meshShared 0)
           ∷ plain (meshShared 2)
           ∷ plain noMeshShared
@@ -210,7 +214,7 @@ twoMeshes =
           ∷ plain (cutCabinetsAre (1 ∷ []))
           ∷ [])
           accepted;
-      report = 0 ∷ 65 ∷ 15 ∷ 86 ∷ 3 ∷ 4 ∷ [];
+      report = 0 ∷ 65 ∷ 15 ∷ 92 ∷ 3 ∷ 4 ∷ [];
     }
 
 -- Spans 0-1, 0-1, 2-3, 2-3, 1-2, 0-3, those of 0-1 and of 2-3 in ducts 1 and 2: the last sends ring notices for cabinets 2 and 3 and mesh

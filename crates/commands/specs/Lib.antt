@@ -22,5 +22,6 @@ pub mod ExchangeHistories
 pub mod DuctHistories
 pub mod RouteHistories
 pub mod SurveyHistories
+pub mod SizeHistories
 pub mod RewriteHistories
 pub mod Calls

@@ -6,14 +6,14 @@ use Prim.Native.Nat.{ℕ}
 use Rattle.graph.specs.Network.{Rule, sameDuct, oneDuct}
 use Rattle.commands.specs.Command.{addCabinet, addSpan, addDuctSpan, ringName, soleSpans, isSole, routesBetween}
 use Rattle.commands.specs.Field.{district, ring}
-use Rattle.commands.specs.Answer.{cabinetAdded, spanAdded, plain, ringNamed, soleSpansAre, soleIs, routesAre}
+use Rattle.commands.specs.Answer.{cabinetAdded, spanAdded, plain, ringIs, soleSpansAre, soleIs, routesAre}
 use Rattle.commands.specs.Refusal.{refusalNumber}
 use Rattle.commands.specs.Text.{journalBytes}
 use Rattle.commands.specs.Run.{bytesOfAnswers}
 use Rattle.commands.specs.Entry.{Whole, refusedAtStart, ran, wholeRun, workNeeded, numberOf}
 use Rattle.commands.specs.Register.{registerRoutes, programCapacities}
 use Rattle.commands.specs.Rewrite.{rewrite}
-use Rattle.commands.specs.Histories.{output, notice}
+use Rattle.commands.specs.Histories.{output, notice, group}
 
 -- The bytes of a run's answers, and the number returned behind them.
 unfoldable pub answersAndNumber : Whole → List ℕ
@@ -54,9 +54,9 @@ inOneRing =
     (cabinetAdded 0
     ∷ cabinetAdded 1
     ∷ spanAdded 0 0 (notice district 1 0 ∷ [])
-    ∷ plain (ringNamed 1)
+    ∷ plain (ringIs (group 1 1))
     ∷ spanAdded 1 0 (notice ring 1 0 ∷ [])
-    ∷ plain (ringNamed 0)
+    ∷ plain (ringIs (group 0 2))
     ∷ plain (soleIs false)
     ∷ plain (soleSpansAre [])
     ∷ [])
@@ -78,9 +78,9 @@ doubledSpan =
           (cabinetAdded 0
           ∷ cabinetAdded 1
           ∷ spanAdded 0 0 (notice district 1 0 ∷ [])
-          ∷ plain (ringNamed 1)
+          ∷ plain (ringIs (group 1 1))
           ∷ spanAdded 1 0 []
-          ∷ plain (ringNamed 1)
+          ∷ plain (ringIs (group 1 1))
           ∷ plain (soleIs true)
           ∷ plain (soleSpansAre (0 ∷ []))
           ∷ [])

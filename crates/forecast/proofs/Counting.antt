@@ -44,8 +44,8 @@ pub counted-by-byte : {t : Tally} (k : Command) → Counted t (countedBy (comman
 unfolding countedBy entryOf commandByte facts asks
 counted-by-byte addCabinet = cabinet-counted
 counted-by-byte (addSpan a b) = span-counted
-counted-by-byte (districtName a) = answer-counted 3 0 0 (omega arith) (omega arith) (omega arith) (λ c s. omega arith)
-counted-by-byte (ringName a) = answer-counted 3 0 0 (omega arith) (omega arith) (omega arith) (λ c s. omega arith)
+counted-by-byte (districtName a) = answer-counted 5 0 0 (omega arith) (omega arith) (omega arith) (λ c s. omega arith)
+counted-by-byte (ringName a) = answer-counted 5 0 0 (omega arith) (omega arith) (omega arith) (λ c s. omega arith)
 counted-by-byte (sharedMesh a b) = answer-counted 4 0 0 (omega arith) (omega arith) (omega arith) (λ c s. omega arith)
 counted-by-byte (soleSpans a b) = answer-counted 3 1 0 (omega arith) (omega arith) (omega arith) (λ c s. omega arith)
 counted-by-byte (cutCabinets a b) = answer-counted 3 0 1 (omega arith) (omega arith) (omega arith) (λ c s. omega arith)

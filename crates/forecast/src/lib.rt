@@ -62,7 +62,7 @@ fn entry_more(t: Tally, spans: u8, bytes: u8, spanlists: u8, cabinetlists: u8) -
 // depend on how many cabinets and spans there are, and the lists of spans and of cabinets.
 const SPANS: u64 = 0x0000_1000_0000_0000;
 
-const BYTES: u64 = 0x3415_0212_3343_3000;
+const BYTES: u64 = 0x3415_0212_3345_5000;
 
 const SPANLISTS: u64 = 0x0001_0000_0100_0000;
 

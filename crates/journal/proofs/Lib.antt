@@ -1,3 +1,4 @@
 pub mod EntryLaws
 pub mod ForecastLaws
 pub mod RewriteLaws
+pub mod Longest

@@ -19,3 +19,4 @@ pub mod Agree
 pub mod Book
 pub mod BridgeNames
 pub mod AlikeBooks
+pub mod Lookup

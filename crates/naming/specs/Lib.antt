@@ -6,4 +6,5 @@ pub mod Survey
 pub mod State
 pub mod Log
 pub mod Total
+pub mod Lookup
 pub mod Examples

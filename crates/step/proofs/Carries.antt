@@ -10,29 +10,30 @@ use Rattle.graph.specs.Network.{edgeBetween, edgeInDuct}
 use Rattle.graph.specs.Groups.{bridge}
 use Rattle.graph.specs.Block.{sharedBlock}
 use Rattle.graph.specs.Between.{bridgesBetween, cutsBetween}
-use Rattle.naming.specs.Rename.{Change, nameOf, changesBetween}
+use Rattle.naming.specs.Rename.{Change, size, nameOf, changesBetween}
 use Rattle.naming.specs.Book.{Book, neither, feed}
+use Rattle.naming.specs.Lookup.{groupOf, componentOf, bridgeBlockOf}
 use Rattle.naming.specs.Survey.{Survey, holding}
 use Rattle.naming.specs.State.{State, afterAddition, recordsNothing, marksAfter, surveysAfter, afterRecording}
 use Rattle.naming.proofs.Listed.{map-tabulate}
 use Rattle.naming.proofs.Agree.{agree-of-equal}
 use Rattle.commands.specs.Field.{Kind, district, ring, mesh, Field}
 use Rattle.commands.specs.Command.{Command, addCabinet, addSpan, districtName, ringName, sharedMesh, soleSpans, cutCabinets, isSole, markExchange, holdsExchange, addDuctSpan, routesBetween, recordLength, spanLength, exchangeShare}
-use Rattle.commands.specs.Answer.{changeNotice, changes, notices, plain, soleIs, exchangeHeld, routesAre, shareIs}
+use Rattle.commands.specs.Answer.{changeNotice, changes, notices, plain, districtIs, ringIs, soleIs, exchangeHeld, routesAre, shareIs}
 use Rattle.commands.specs.Exchange.{ringHoldsExchange, shareWithExchange}
 use Rattle.commands.specs.Facts.{Demand, addsSpan, asks, meshAnswer, routesAnswer, lengthAnswer, facts, additionOf, addition, recordingOf, recording, after, spanAnswer, answerTo, answer}
 use Rattle.commands.specs.Register.{registerRoutes}
-use Rattle.numbers.specs.declared.Vertex.{Vertex}
 use Rattle.reading.specs.declared.read.Lay.{Lay}
 use Rattle.reading.specs.declared.read.Lay.the-variants as L
 use Rattle.reading.specs.Inside.Reads.{spanCommand}
+use Rattle.forest.specs.declared.Group.{Group}
 use Rattle.forest.specs.declared.Growth.{Growth}
 use Rattle.forest.specs.declared.Length.{Length}
 use Rattle.forest.specs.declared.Shape.{Shape}
 use Rattle.forest.specs.declared.Shared.{Shared}
 use Rattle.forest.specs.declared.VertexGroups.{VertexGroups}
 use Rattle.forest.specs.declared.VertexGroups.the-variants as G
-use Rattle.forest.specs.Promise.{Holds, stateOf, bookIn, networkIn, vertices-held, edges-held, few-vertices, few-edges, same-beyond-refl, oneEdgeMore, VertexAdded, EdgeAdded, VertexMarked, SurveyEntered, ListWritten, vertexNames, lengthGiven, sharedName}
+use Rattle.forest.specs.Promise.{Holds, stateOf, bookIn, networkIn, vertices-held, edges-held, few-vertices, few-edges, same-beyond-refl, oneEdgeMore, VertexAdded, EdgeAdded, VertexMarked, SurveyEntered, ListWritten, vertexNames, vertexGroups, lengthGiven, sharedName}
 use Rattle.routes.specs.declared.Lengths.{Lengths}
 use Rattle.routes.specs.Promise.{RoutesFound}
 use Rattle.step.specs.declared.Listed.{Listed}
@@ -40,8 +41,8 @@ use Rattle.step.specs.declared.Listed.the-variants as M
 use Rattle.step.specs.declared.Finding.{Finding}
 use Rattle.step.specs.declared.Finding.the-variants as F
 use Rattle.step.specs.declared.Reply.the-variants as R
-use Rattle.step.specs.Promise.{noticeAt, noticeCount, growthNotices, itemAt, nameAnswer, sharedAnswer, listAnswer, lengthTold, findingAnswer, replyAnswer, shapeAfter, Carried}
-use Rattle.step.specs.Inside.Asked.{asksName, ductOf}
+use Rattle.step.specs.Promise.{noticeAt, noticeCount, growthNotices, itemAt, groupTold, groupAnswer, sharedAnswer, listAnswer, lengthTold, findingAnswer, replyAnswer, shapeAfter, Carried}
+use Rattle.step.specs.Inside.Asked.{asksGroup, ductOf}
 
 -- a cabinet more
 pub cabinet-carried : (shape : Shape) (old new : List ℕ) → VertexAdded shape old new
@@ -92,15 +93,26 @@ module _ (shape : Shape) (c : Command) (adds-nothing : addition c ≡ neither) (
         same-beyond = w .same-beyond;
       }
 
--- 03 and 04: the name of the cabinet's district, and of its ring
-pub name-carried : (shape : Shape) (groups : VertexGroups) (a : ℕ) (t : List ℕ) (name : Vertex) → Holds shape t
-    → name .0 ≡ nameOf (vertexNames groups (bookIn shape t)) a
-    → Carried shape (asksName groups a) t t (R.Found (F.Name groups name))
-unfolding asksName addition additionOf recording recordingOf facts asks findingAnswer nameAnswer answer answerTo
-name-carried shape G.Components a t name holds e =
-    question-carried shape (districtName a) refl refl t (F.Name G.Components name) holds (ap (λ n. plain (nameAnswer G.Components n)) e)
-name-carried shape G.BridgeBlocks a t name holds e =
-    question-carried shape (ringName a) refl refl t (F.Name G.BridgeBlocks name) holds (ap (λ n. plain (nameAnswer G.BridgeBlocks n)) e)
+-- a group of this name and this size is the one that the book looks up
+group-told : (shape : Shape) (groups : VertexGroups) (a : ℕ) (t : List ℕ) (group : Group)
+    → group .name .0 ≡ nameOf (vertexNames groups (bookIn shape t)) a
+    → group .size ≡ size (shape .vertices) (vertexGroups groups (networkIn shape t)) a
+    → groupTold group ≡ groupOf (networkIn shape t .vertices) (vertexNames groups (bookIn shape t)) (vertexGroups groups (networkIn shape t)) a
+unfolding groupTold groupOf
+group-told shape groups a t group name-is size-is = rw (vertices-held shape t, name-is, size-is)
+
+-- 03 and 04: the cabinet's district, and its ring
+pub group-carried : (shape : Shape) (groups : VertexGroups) (a : ℕ) (t : List ℕ) (group : Group) → Holds shape t
+    → group .name .0 ≡ nameOf (vertexNames groups (bookIn shape t)) a
+    → group .size ≡ size (shape .vertices) (vertexGroups groups (networkIn shape t)) a
+    → Carried shape (asksGroup groups a) t t (R.Found (F.Group groups group))
+unfolding asksGroup addition additionOf recording recordingOf facts asks componentOf bridgeBlockOf findingAnswer groupAnswer answer answerTo
+group-carried shape G.Components a t group holds name-is size-is =
+    question-carried shape (districtName a) refl refl t (F.Group G.Components group) holds
+    (ap (λ g. plain (districtIs g)) (group-told shape G.Components a t group name-is size-is))
+group-carried shape G.BridgeBlocks a t group holds name-is size-is =
+    question-carried shape (ringName a) refl refl t (F.Group G.BridgeBlocks group) holds
+    (ap (λ g. plain (ringIs g)) (group-told shape G.BridgeBlocks a t group name-is size-is))
 
 mesh-answer : (b : Book) (o : Option ℕ) → sharedAnswer (sharedName (b .blocks) o) ≡ meshAnswer b o
 unfolding sharedAnswer meshAnswer

@@ -11,6 +11,7 @@ use Rattle.commands.specs.Answer.{plainFields, plain, answerFields, answerBytes
 use Rattle.commands.proofs.Bytes.{cabinets-in-two-bytes, spans-in-two-bytes, length-two-bytes-each}
 use Rattle.commands.proofs.NoticeBytes.{length-notices-bytes}
 use Rattle.commands.proofs.AnswerLength.{routes-length}
+use Rattle.forest.specs.declared.Group.{Group}
 use Rattle.forest.specs.declared.Growth.{Growth}
 use Rattle.forest.specs.declared.Length.{Length}
 use Rattle.forest.specs.declared.Length.the-variants as H
@@ -27,7 +28,7 @@ use Rattle.step.specs.declared.Finding.{Finding}
 use Rattle.step.specs.declared.Finding.the-variants as F
 use Rattle.step.specs.declared.Reply.{Reply}
 use Rattle.step.specs.declared.Reply.the-variants as R
-use Rattle.step.specs.Promise.{noticeAt, noticesOf, noticeCount, growthNotices, itemAt, nameAnswer, sharedAnswer, listAnswer, lengthTold, findingAnswer, replyAnswer, findingSize, replySize, shapeAfter}
+use Rattle.step.specs.Promise.{noticeAt, noticesOf, noticeCount, growthNotices, itemAt, groupTold, groupAnswer, sharedAnswer, listAnswer, lengthTold, findingAnswer, replyAnswer, findingSize, replySize, shapeAfter}
 
 -- no answer changes the limits
 pub limits-after : (shape : Shape) (reply : Reply) → shapeAfter shape reply .limits ≡ shape .limits
@@ -56,10 +57,10 @@ unfolding listAnswer answerBytes answerFields plainFields fieldsBytes fieldBytes
 length-list L.Spans items = omega (arith, length-two-bytes-each span spans-in-two-bytes items)
 length-list L.Cabinets items = omega (arith, length-two-bytes-each cabinet cabinets-in-two-bytes items)
 
-length-name : (groups : VertexGroups) (name : ℕ) → length (answerBytes (plain (nameAnswer groups name))) ≡ 3
-unfolding nameAnswer answerBytes answerFields plainFields fieldsBytes fieldBytes twoBytes
-length-name G.Components name = refl
-length-name G.BridgeBlocks name = refl
+length-group : (groups : VertexGroups) (group : Group) → length (answerBytes (plain (groupAnswer groups group))) ≡ 5
+unfolding groupAnswer groupTold answerBytes answerFields plainFields fieldsBytes fieldBytes twoBytes
+length-group G.Components group = refl
+length-group G.BridgeBlocks group = refl
 
 length-shared : (shared : Shared) → length (answerBytes (plain (sharedAnswer shared))) ≡ 4
 unfolding sharedAnswer answerBytes answerFields plainFields fieldsBytes fieldBytes twoBytes
@@ -75,7 +76,7 @@ length-told H.Nothing = refl
 finding-counted : (shape : Shape) (t : List ℕ) (finding : Finding)
     → length (answerBytes (plain (findingAnswer shape t finding))) ≡ findingSize finding
 unfolding findingAnswer findingSize answerBytes answerFields plainFields fieldsBytes fieldBytes twoBytes
-finding-counted shape t (F.Name groups name) = length-name groups (name .0)
+finding-counted shape t (F.Group groups group) = length-group groups group
 finding-counted shape t (F.Mesh shared) = length-shared shared
 finding-counted shape t (F.List list count) =
     length-list list (tabulate count (itemAt list shape t)) ∙ ap (λ (n : ℕ). 3 + 2 * n) (length-tabulate count (itemAt list shape t))

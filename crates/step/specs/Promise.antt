@@ -4,15 +4,17 @@ use mathlib.Core.Option.{Option, none, some}
 use mathlib.Core.Path.{_≡_}
 use Prim.Native.Nat.{ℕ, _+_, _*_, _<_}
 use Rattle.graph.specs.Below.{tabulate}
+use Rattle.naming.specs.Lookup as Paper
 use Rattle.naming.specs.State.{Agree}
 use Rattle.commands.specs.Field.{Kind, district, ring, mesh}
 use Rattle.commands.specs.Command.{Command}
-use Rattle.commands.specs.Answer.{Notice, changeNotice, Plain, districtNamed, ringNamed, meshShared, noMeshShared, soleSpansAre, cutCabinetsAre, soleIs, exchangeMarked, exchangeHeld, routesAre, lengthRecorded, lengthIs, noLength, shareIs, Answer, cabinetAdded, spanAdded, plain}
+use Rattle.commands.specs.Answer.{Notice, changeNotice, Plain, districtIs, ringIs, meshShared, noMeshShared, soleSpansAre, cutCabinetsAre, soleIs, exchangeMarked, exchangeHeld, routesAre, lengthRecorded, lengthIs, noLength, shareIs, Answer, cabinetAdded, spanAdded, plain}
 use Rattle.commands.specs.Facts.{after, answer}
 use Rattle.commands.specs.Refusal.{Refusal, refusalNumber, Capacities, refusalOf}
 use Rattle.commands.specs.Register.{registerRoutes}
 use Rattle.numbers.specs.declared.Limits.{Limits}
 use Rattle.forest.specs.declared.Shape.{Shape}
+use Rattle.forest.specs.declared.Group.{Group}
 use Rattle.forest.specs.declared.Growth.{Growth}
 use Rattle.forest.specs.declared.Length.{Length}
 use Rattle.forest.specs.declared.Length.the-variants as H
@@ -63,10 +65,14 @@ unfoldable pub itemAt : Listed → Shape → List ℕ → ℕ → ℕ
 itemAt L.Spans shape t i = bridgeAt shape t i
 itemAt L.Cabinets shape t i = cutAt shape t i
 
+-- A group that is looked up, in the paper's words.
+unfoldable pub groupTold : Group → Paper.Group
+groupTold group = record { name = group .name .0; size = group .size }
+
 -- The answers to 03 and 04, to 05, and to 06 and 07.
-unfoldable pub nameAnswer : VertexGroups → ℕ → Plain
-nameAnswer G.Components name = districtNamed name
-nameAnswer G.BridgeBlocks name = ringNamed name
+unfoldable pub groupAnswer : VertexGroups → Group → Plain
+groupAnswer G.Components group = districtIs (groupTold group)
+groupAnswer G.BridgeBlocks group = ringIs (groupTold group)
 
 unfoldable pub sharedAnswer : Shared → Plain
 sharedAnswer (Q.Block name) = meshShared (name .0)
@@ -88,7 +94,7 @@ lengthTold H.Nothing = noLength
 
 -- The paper's answer for each finding and for each reply, with what the table has written down.
 unfoldable pub findingAnswer : Shape → List ℕ → Finding → Plain
-findingAnswer shape t (F.Name groups name) = nameAnswer groups (name .0)
+findingAnswer shape t (F.Group groups group) = groupAnswer groups group
 findingAnswer shape t (F.Mesh shared) = sharedAnswer shared
 findingAnswer shape t (F.List list count) = listAnswer list (tabulate count (itemAt list shape t))
 findingAnswer shape t (F.Sole sole) = soleIs sole
@@ -106,7 +112,7 @@ replyAnswer shape t (R.Found finding) = plain (findingAnswer shape t finding)
 
 -- How many bytes it has.
 unfoldable pub findingSize : Finding → ℕ
-findingSize (F.Name groups name) = 3
+findingSize (F.Group groups group) = 5
 findingSize (F.Mesh shared) = 4
 findingSize (F.List list count) = 3 + 2 * count
 findingSize (F.Sole sole) = 2

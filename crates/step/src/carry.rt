@@ -8,7 +8,7 @@ ghost use Rattle.forest.specs.Promise.{Holds, stateOf, networkIn};
 ghost use Rattle.reading.specs.Inside.Reads.{spanCommand, meaning};
 ghost use Rattle.step.specs.Inside.Judged.{judgement};
 ghost use Rattle.step.specs.Promise.{Carried};
-ghost use Rattle.step.specs.Inside.Asked.{asksName, ductOf};
+ghost use Rattle.step.specs.Inside.Asked.{asksGroup, ductOf};
 use crate::Finding;
 use crate::Listed;
 use crate::Reply;
@@ -62,14 +62,13 @@ fn add_span(t: &mut [u32], shape: Shape, a: Vertex, b: Vertex, lay: Lay) -> Repl
     Reply::Span(Edge(shape.edges), growth)
 }
 
-// 03 and 04: the name of a cabinet's district, and of its ring.
-fn group_name(t: &[u32], shape: Shape, groups: VertexGroups, a: Vertex) -> Reply
+// 03 and 04: a cabinet's district, and its ring, by name and size.
+fn look_up(t: &[u32], shape: Shape, groups: VertexGroups, a: Vertex) -> Reply
     requires { ⌜ Holds shape (now t) × (a .0 < shape .vertices) ⌝ }
-    ensures { λ r. ⌜ Carried shape (asksName groups (a .0)) (now (t .entry)) (now (t .entry)) r ⌝ }
+    ensures { λ r. ⌜ Carried shape (asksGroup groups (a .0)) (now (t .entry)) (now (t .entry)) r ⌝ }
 {
     let group = group_of(t, shape, groups, a);
-    let name = group.name;
-    Reply::Found(Finding::Name(groups, name))
+    Reply::Found(Finding::Group(groups, group))
 }
 
 // 05: the mesh that two cabinets share.
@@ -170,8 +169,8 @@ pub(crate) fn carry_out(t: &mut [u32], shape: Shape, order: Order) -> Reply
     match order {
         Order::AddCabinet => add_cabinet(t, shape),
         Order::AddSpan(a, b, lay) => add_span(t, shape, a, b, lay),
-        Order::DistrictName(a) => group_name(t, shape, VertexGroups::Components, a),
-        Order::RingName(a) => group_name(t, shape, VertexGroups::BridgeBlocks, a),
+        Order::DistrictName(a) => look_up(t, shape, VertexGroups::Components, a),
+        Order::RingName(a) => look_up(t, shape, VertexGroups::BridgeBlocks, a),
         Order::SharedMesh(a, b) => shared_mesh(t, shape, a, b),
         Order::SoleSpans(a, b) => sole_spans(t, shape, a, b),
         Order::CutCabinets(a, b) => cut_cabinets(t, shape, a, b),

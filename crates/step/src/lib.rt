@@ -12,6 +12,7 @@ pub mod judge;
 
 use crate::carry::carry_out;
 use crate::judge::judge;
+use forest::Group;
 use forest::Growth;
 use forest::Length;
 use forest::Shape;
@@ -28,11 +29,11 @@ pub enum Listed {
     Cabinets,
 }
 
-// What a command that adds nothing is answered with: the name of a cabinet's district or ring; a shared mesh; a list, by its length; whether a
-// span is sole; that a cabinet is marked; whether a ring holds an exchange; two routes, by their lengths; that a length is recorded; a span's
+// What a command that adds nothing is answered with: a cabinet's district or ring, by its name and size; a shared mesh; a list, by its length;
+// whether a span is sole; that a cabinet is marked; whether a ring holds an exchange; two routes, by their lengths; that a length is recorded; a span's
 // length; a share in thousandths. A list and the routes stand in the table until the next command.
 pub enum Finding {
-    Name(VertexGroups, Vertex),
+    Group(VertexGroups, Group),
     Mesh(Shared),
     List(Listed, u32),
     Sole(bool),
@@ -63,7 +64,7 @@ fn finding_size(finding: Finding) -> usize
     ensures { λ r. ⌜ r ≡ findingSize finding ⌝ }
 {
     match finding {
-        Finding::Name(_groups, _name) => 3,
+        Finding::Group(_groups, _group) => 5,
         Finding::Mesh(_shared) => 4,
         Finding::List(_list, count) => 3 + 2 * (count as usize),
         Finding::Sole(_sole) => 2,

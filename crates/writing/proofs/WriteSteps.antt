@@ -15,16 +15,17 @@ use Rattle.commands.specs.Entry.{over}
 use Rattle.commands.proofs.Bytes.{InTwoBytes, cabinets-in-two-bytes, spans-in-two-bytes, bytes-of-one-more, length-two-bytes-each}
 use Rattle.commands.proofs.NoticeBytes.{length-notices-bytes, notices-bytes-append, bytes-of-one-more-notice}
 use Rattle.forest.specs.declared.Shape.{Shape}
+use Rattle.forest.specs.declared.Group.{Group}
 use Rattle.forest.specs.declared.Growth.{Growth}
 use Rattle.forest.specs.declared.VertexGroups.{VertexGroups}
 use Rattle.forest.specs.declared.VertexGroups.the-variants as G
 use Rattle.step.specs.declared.Listed.{Listed}
 use Rattle.step.specs.declared.Listed.the-variants as L
 use Rattle.step.specs.declared.Reply.{Reply}
-use Rattle.step.specs.Promise.{noticeAt, noticesOf, noticeCount, growthNotices, nameAnswer, listAnswer, replyAnswer, replySize}
+use Rattle.step.specs.Promise.{noticeAt, noticesOf, noticeCount, growthNotices, groupTold, groupAnswer, listAnswer, replyAnswer, replySize}
 use Rattle.step.proofs.Replies.{count-notices, reply-counted}
 use Rattle.writing.specs.Inside.Notices.{headBytes}
-use Rattle.writing.specs.Inside.Writes.{nameCode, listCode, listField}
+use Rattle.writing.specs.Inside.Writes.{groupCode, listCode, listField}
 use Rattle.storing.proofs.Sets.{sets-behind, sets-four, sets-front}
 
 -- items of a kind: `each` gives the bytes of a list of them, `one` those of one, which are `width` many
@@ -77,11 +78,12 @@ unfolding boolByte
 flag-byte true = refl
 flag-byte false = refl
 
--- the answer to 03 or 04 is its code and the name
-pub name-bytes : (groups : VertexGroups) (name : ℕ) → answerBytes (plain (nameAnswer groups name)) ≡ nameCode groups ∷ twoBytes name
-unfolding nameAnswer nameCode answerBytes answerFields plainFields fieldsBytes fieldBytes twoBytes
-name-bytes G.Components name = refl
-name-bytes G.BridgeBlocks name = refl
+-- the answer to 03 or 04 is its code, the name and the size
+pub group-bytes : (groups : VertexGroups) (group : Group)
+    → answerBytes (plain (groupAnswer groups group)) ≡ groupCode groups ∷ twoBytes (group .name .0) ++ twoBytes (group .size)
+unfolding groupAnswer groupTold groupCode answerBytes answerFields plainFields fieldsBytes fieldBytes twoBytes
+group-bytes G.Components group = refl
+group-bytes G.BridgeBlocks group = refl
 
 -- the answer to 06 or 07 is its code, its count and its items
 pub list-bytes : (list : Listed) (items : List ℕ)

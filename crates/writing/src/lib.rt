@@ -6,7 +6,7 @@ ghost use lib.Seq.{sets};
 ghost use Rattle.commands.specs.Answer.{plain, answerBytes};
 ghost use Rattle.commands.specs.Entry.{over};
 ghost use Rattle.step.specs.Promise.{findingAnswer, replyAnswer, findingSize, replySize, ReplyFits};
-ghost use Rattle.writing.specs.Inside.Writes.{nameCode};
+ghost use Rattle.writing.specs.Inside.Writes.{groupCode};
 
 pub mod notice;
 pub mod route;
@@ -17,6 +17,7 @@ use crate::route::write_routes;
 use crate::write::write_cabinet;
 use crate::write::write_code;
 use crate::write::write_flag;
+use crate::write::write_group;
 use crate::write::write_length;
 use crate::write::write_list;
 use crate::write::write_number;
@@ -27,8 +28,8 @@ use step::Finding;
 use step::Reply;
 
 // The code of the answer to 03 or 04.
-fn name_code(groups: VertexGroups) -> u8
-    ensures { λ r. ⌜ r ≡ nameCode groups ⌝ }
+fn group_code(groups: VertexGroups) -> u8
+    ensures { λ r. ⌜ r ≡ groupCode groups ⌝ }
 {
     match groups {
         VertexGroups::Components => 0x83,
@@ -42,7 +43,7 @@ fn write_finding(t: &[u32], shape: Shape, out: &mut [u8], finding: Finding)
     ensures { λ r. ⌜ now (out .exit) ≡ sets (now (out .entry)) 0 (answerBytes (plain (findingAnswer shape (now (t .entry)) finding))) ⌝ }
 {
     match finding {
-        Finding::Name(groups, name) => write_cabinet(out, name_code(groups), name),
+        Finding::Group(groups, group) => write_group(out, group_code(groups), group),
         Finding::Mesh(shared) => write_shared(out, shared),
         Finding::List(list, count) => write_list(t, shape, out, list, count),
         Finding::Sole(sole) => write_flag(out, 0x88, sole as u8),

@@ -1,5 +1,5 @@
 // Writing answers without notices.
-ghost use mathlib.Core.List.{_∷_, [], map};
+ghost use mathlib.Core.List.{_∷_, [], _++_, map};
 ghost use mathlib.Core.Path.{_≡_};
 ghost use Prim.Native.Nat.{_+_, _*_, _≤_};
 ghost use lib.ListN.{length};
@@ -10,6 +10,7 @@ ghost use Rattle.commands.specs.Field.{fieldsBytes};
 ghost use Rattle.commands.specs.Answer.{plain, answerBytes};
 ghost use Rattle.step.specs.Promise.{itemAt, sharedAnswer, lengthTold, listAnswer};
 ghost use Rattle.writing.specs.Inside.Writes.{listCode, listField};
+use forest::Group;
 use forest::Length;
 use forest::Shape;
 use forest::Shared;
@@ -36,12 +37,22 @@ pub(crate) fn write_number(out: &mut [u8], code: u8, value: u32)
     put_two(out, 1, value);
 }
 
-// An answer of a byte and a cabinet, or the name of a group of cabinets.
+// An answer of a byte and a cabinet.
 pub(crate) fn write_cabinet(out: &mut [u8], code: u8, a: Vertex)
     requires { ⌜ 3 ≤ length (now out) ⌝ }
     ensures { λ r. ⌜ now (out .exit) ≡ sets (now (out .entry)) 0 (code ∷ twoBytes (a .0)) ⌝ }
 {
     write_number(out, code, a.0);
+}
+
+// An answer of a byte and a group of cabinets: its name and its size.
+pub(crate) fn write_group(out: &mut [u8], code: u8, group: Group)
+    requires { ⌜ 5 ≤ length (now out) ⌝ }
+    ensures { λ r. ⌜ now (out .exit) ≡ sets (now (out .entry)) 0 (code ∷ twoBytes (group .name .0) ++ twoBytes (group .size)) ⌝ }
+{
+    put_byte(out, 0, code);
+    put_two(out, 1, group.name.0);
+    put_two(out, 3, group.size);
 }
 
 // An answer of two bytes and a number.

@@ -11,7 +11,19 @@ type Wrong = (&'static str, Misforecast);
 
 /// Lengths that do not suffice for some journals: a run with exactly so much room must find them
 /// where the second implementation has them too.
-pub const TOO_SMALL: [Wrong; 15] = [
+pub const TOO_SMALL: [Wrong; 19] = [
+    ("5 for 03 only", |journal, right| {
+        of_length(journal, right, |counts| length(counts) - 2 * counts[0x04])
+    }),
+    ("5 for 04 only", |journal, right| {
+        of_length(journal, right, |counts| length(counts) - 2 * counts[0x03])
+    }),
+    ("3 for 03 and 04", |journal, right| {
+        of_length(journal, right, |counts| length(counts) - 2 * (counts[0x03] + counts[0x04]))
+    }),
+    ("4 for 03 and 04", |journal, right| {
+        of_length(journal, right, |counts| length(counts) - counts[0x03] - counts[0x04])
+    }),
     ("the part of 06 left out", |journal, right| {
         of_length(journal, right, |counts| length(counts) - (3 + 2 * spans(counts)) * counts[6])
     }),
@@ -73,7 +85,7 @@ pub const TOO_SMALL: [Wrong; 15] = [
 ];
 
 /// Other faults, which only the comparison can find.
-pub const WRONG: [Wrong; 8] = [
+pub const WRONG: [Wrong; 9] = [
     ("c and s exchanged in the parts of 06, 07 and 0C", |journal, right| {
         of_length(journal, right, |counts| {
             let (c, s, by_spans, cut) =
@@ -83,6 +95,9 @@ pub const WRONG: [Wrong; 8] = [
     }),
     ("06, 07 and 0C with the c and s before them", |journal, right| {
         of_length(journal, right, |counts| length(counts) - for_later(journal))
+    }),
+    ("5 for 05 too", |journal, right| {
+        of_length(journal, right, |counts| length(counts) + counts[0x05])
     }),
     ("4 for 0D", |journal, right| {
         of_length(journal, right, |counts| length(counts) + 3 * counts[0x0D])

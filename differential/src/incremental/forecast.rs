@@ -50,7 +50,7 @@ fn length(c: usize, s: usize, asked: [usize; 16]) -> usize {
     let [mark, is_fed, in_duct, routes, record, survey, share] = rest;
     let s = s + in_duct;
     let added = 3 * c + 7 * s + 5 * (2 * c * log(c) + s * log(s));
-    let names = 3 * (district + ring) + 4 * mesh + 2 * is_sole;
+    let names = 5 * (district + ring) + 4 * mesh + 2 * is_sole;
     let lists = (3 + 2 * s) * sole + (3 + 2 * c) * cut + (5 + 2 * s) * routes;
     let exchanges = mark + 2 * is_fed + 3 * share;
     let surveys = record + 4 * survey;

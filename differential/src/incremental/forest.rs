@@ -89,6 +89,16 @@ impl Forest {
         self.ring.name[vertex as usize]
     }
 
+    /// How many vertices the vertex's component has.
+    pub fn district_size(&self, vertex: u32) -> u32 {
+        self.district.size[self.district(vertex) as usize]
+    }
+
+    /// How many vertices the vertex's bridge-block has.
+    pub fn ring_size(&self, vertex: u32) -> u32 {
+        self.ring.size[self.ring(vertex) as usize]
+    }
+
     pub fn is_sole(&self, edge: u32) -> bool {
         let (a, b) = self.ends[edge as usize];
         self.ring(a) != self.ring(b)

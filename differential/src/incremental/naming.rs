@@ -2,6 +2,7 @@
 
 pub struct Naming {
     pub name: Vec<u32>,
+    /// For each name how many items bear it.
     pub size: Vec<u32>,
     least: Vec<u32>,
     greatest: Vec<u32>,

@@ -5,7 +5,7 @@ use super::groups::{cut_cabinets, is_sole, route, shared_mesh, sole_spans};
 use super::mates::Misduct;
 use super::surveys::Record;
 use super::State;
-use crate::kinds::KINDS;
+use crate::kinds::{Kind, KINDS};
 use crate::pairs::Pair;
 use crate::spans::Span;
 
@@ -196,7 +196,7 @@ pub fn answer(
     after: &State,
     choose: &mut dyn FnMut(usize, usize) -> Pair,
 ) -> Vec<u8> {
-    let (exchanges, surveys) = (&after.exchanges, &after.surveys);
+    let (exchanges, surveys, sizes) = (&after.exchanges, &after.surveys, &after.sizes);
     let (before, after) = (&before.book, &after.book);
     let network = &after.network;
     let groups = &after.groups;
@@ -208,8 +208,8 @@ pub fn answer(
             span_answer(0x8B, before, after)
         }
         Command::AddSpan(..) | Command::AddInDuct(..) => span_answer(0x82, before, after),
-        Command::DistrictName(a) => fields(0x83, &[names.district[a]]),
-        Command::RingName(a) => fields(0x84, &[names.ring[a]]),
+        Command::DistrictName(a) => fields(0x83, &sizes.look_up(after, Kind::District, a)),
+        Command::RingName(a) => fields(0x84, &sizes.look_up(after, Kind::Ring, a)),
         Command::SharedMesh(a, b) => match shared_mesh(network, groups, a, b) {
             Some(span) => flagged(0x85, 1, names.mesh[span]),
             None => flagged(0x85, 0, 0),

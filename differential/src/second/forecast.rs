@@ -27,13 +27,14 @@ pub fn counts(journal: &[u8]) -> Result<Counts, (u32, usize)> {
     Ok(counts)
 }
 
-/// The length, with c cabinet and s span commands; 0B is one of these.
+/// The length, with c cabinet and s span commands; 0B is one of these. By the eighth request 03 and 04 count
+/// 5 each, for a name and a size.
 pub fn length(counts: &Counts) -> usize {
     let (c, s) = (counts[1], counts[2] + counts[0x0B]);
     3 * c
         + 7 * s
         + 5 * (2 * c * highest_bit(c) + s * highest_bit(s))
-        + 3 * (counts[3] + counts[4])
+        + 5 * (counts[3] + counts[4])
         + 4 * counts[5]
         + (3 + 2 * s) * counts[6]
         + (3 + 2 * c) * counts[7]

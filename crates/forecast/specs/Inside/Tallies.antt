@@ -52,7 +52,7 @@ abbrev pub spansOf : ℕ
 spansOf = 0x0000100000000000
 
 abbrev pub bytesOf : ℕ
-bytesOf = 0x3415021233433000
+bytesOf = 0x3415021233455000
 
 abbrev pub spanlistsOf : ℕ
 spanlistsOf = 0x0001000001000000

@@ -1,4 +1,5 @@
 -- `group_of` reads the name and the size of the group of a vertex.
+use mathlib.Core.Path.{_∙_}
 use borrow.Author.Needs.{needs}
 use Rattle.forest.proofs.QueryNames.{group-name, group-size}
 use Rattle.forest.proofs.group_of.Statement.{statement}
@@ -20,9 +21,10 @@ returns c =
     let t = s .args .t .now in
     let x = s .args .x .0 in (
       rw (c .before .word .ensures, c .before .before .area-of .ensures) (group-name shape t (s .args .groups) x (s .pre .1)),
-      rw
-          (c .word2 .ensures, c .before .word .ensures, c .before .before .area-of .ensures)
-          (group-size shape t (s .pre .0) (s .args .groups) x (s .pre .1)),
+      c .word2 .ensures
+          ∙ (rw
+          (← c .before .before .area-of .ensures, ← c .before .word .ensures)
+          at (group-size shape t (s .pre .0) (s .args .groups) x (s .pre .1))),
     )
 
 pub group-of-spec : {M : Type 1} → statement M

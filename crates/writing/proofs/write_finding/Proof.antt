@@ -3,7 +3,7 @@ use Rattle.commands.specs.Bytes.{twoBytes}
 use Rattle.commands.specs.Field.{fieldBytes, fieldsBytes}
 use Rattle.commands.specs.Answer.{plainFields, answerFields, answerBytes}
 use Rattle.step.specs.Promise.{findingAnswer, findingSize}
-use Rattle.writing.proofs.WriteSteps.{flag-byte, name-bytes}
+use Rattle.writing.proofs.WriteSteps.{flag-byte, group-bytes}
 use borrow.Author.Needs.{needs}
 use Rattle.writing.proofs.write_finding.Statement.{statement}
 use Rattle.writing.proofs.write_finding.Tie as tie
@@ -11,12 +11,12 @@ use Rattle.writing.proofs.write_finding.Tie as tie
 enum-known-finding : tie.Need-enum-known-finding
 enum-known-finding c = search needs
 
-name-code-requires : tie.Need-name-code-requires
-name-code-requires c κs = search needs
+group-code-requires : tie.Need-group-code-requires
+group-code-requires c κs = search needs
 
-write-cabinet-requires : tie.Need-write-cabinet-requires
+write-group-requires : tie.Need-write-group-requires
 unfolding findingSize
-write-cabinet-requires c κs =
+write-group-requires c κs =
     let s = c .before .before .before .before .before .before .before in
     rw (c .before .before .before .finding .given .1) at (s .pre)
 
@@ -101,11 +101,11 @@ same-length c = search needs
 returns : tie.Need-returns
 unfolding findingAnswer answerBytes answerFields plainFields fieldsBytes fieldBytes twoBytes
 returns c =
-    let at-write-cabinet = c .before .before in
-    let at-name-code = at-write-cabinet .before in
+    let at-write-group = c .before .before in
+    let at-group-code = at-write-group .before in
     rw
-    (at-name-code .before .before .before .finding .given .1, name-bytes _ _, ← at-name-code .name-code .ensures)
-    (at-write-cabinet .write-cabinet .ensures)
+    (at-group-code .before .before .before .finding .given .1, group-bytes _ _, ← at-group-code .group-code .ensures)
+    (at-write-group .write-group .ensures)
 
 same-length-2 : tie.Need-same-length-2
 same-length-2 c = search needs
@@ -193,8 +193,8 @@ write-finding-spec =
     tie.close
     (tie.spec
     enum-known-finding
-    name-code-requires
-    write-cabinet-requires
+    group-code-requires
+    write-group-requires
     enum-known-finding-2
     write-shared-requires
     enum-known-finding-3

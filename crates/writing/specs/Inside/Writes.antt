@@ -10,9 +10,9 @@ use Rattle.step.specs.declared.Listed.{Listed}
 use Rattle.step.specs.declared.Listed.the-variants as L
 
 -- The codes of the answers to 03 and 04.
-unfoldable pub nameCode : VertexGroups → ℕ
-nameCode G.Components = 0x83
-nameCode G.BridgeBlocks = 0x84
+unfoldable pub groupCode : VertexGroups → ℕ
+groupCode G.Components = 0x83
+groupCode G.BridgeBlocks = 0x84
 
 -- The codes of the answers to 06 and 07, and what their lists hold.
 unfoldable pub listCode : Listed → ℕ

@@ -1,7 +1,7 @@
 -- `carry::carry_out` carries out the command that an order is.
 use Rattle.reading.specs.Inside.Reads.{meaning}
 use Rattle.step.specs.Inside.Judged.{judgement}
-use Rattle.step.specs.Inside.Asked.{asksName}
+use Rattle.step.specs.Inside.Asked.{asksGroup}
 use Rattle.step.proofs.Judgements.{cabinet-passes, exchange-passes, span-passes, new-cabinet-passes, pair-passes, different-passes, new-span-passes, district-passes, ring-passes}
 use borrow.Author.Needs.{needs}
 use Rattle.step.proofs.carry.carry_out.Statement.{statement}
@@ -32,9 +32,9 @@ add-span-requires c κs =
 enum-known-order-2 : tie.Need-enum-known-order-2
 enum-known-order-2 c = search needs
 
-group-name-requires : tie.Need-group-name-requires
+look-up-requires : tie.Need-look-up-requires
 unfolding judgement
-group-name-requires c κs =
+look-up-requires c κs =
     let s = c .before .before .before .before .before in
     let passed = rw (c .before .before .order2 .given .1) at (s .pre .1) in
     (s .pre .0, cabinet-passes (s .args .shape) _ passed)
@@ -42,9 +42,9 @@ group-name-requires c κs =
 enum-known-order-3 : tie.Need-enum-known-order-3
 enum-known-order-3 c = search needs
 
-group-name-requires-2 : tie.Need-group-name-requires-2
+look-up-requires-2 : tie.Need-look-up-requires-2
 unfolding judgement
-group-name-requires-2 c κs =
+look-up-requires-2 c κs =
     let s = c .before .before .before .before .before in
     let passed = rw (c .before .before .order3 .given .1) at (s .pre .1) in
     (s .pre .0, cabinet-passes (s .args .shape) _ passed)
@@ -177,15 +177,15 @@ same-length-3 : tie.Need-same-length-3
 same-length-3 c = search needs
 
 returns-3 : tie.Need-returns-3
-unfolding meaning asksName
-returns-3 c = rw (c .before .before .before .order2 .given .1) (c .group-name .ensures)
+unfolding meaning asksGroup
+returns-3 c = rw (c .before .before .before .order2 .given .1) (c .look-up .ensures)
 
 same-length-4 : tie.Need-same-length-4
 same-length-4 c = search needs
 
 returns-4 : tie.Need-returns-4
-unfolding meaning asksName
-returns-4 c = rw (c .before .before .before .order3 .given .1) (c .group-name2 .ensures)
+unfolding meaning asksGroup
+returns-4 c = rw (c .before .before .before .order3 .given .1) (c .look-up2 .ensures)
 
 same-length-5 : tie.Need-same-length-5
 same-length-5 c = search needs
@@ -276,9 +276,9 @@ carry-out-spec =
     enum-known-order
     add-span-requires
     enum-known-order-2
-    group-name-requires
+    look-up-requires
     enum-known-order-3
-    group-name-requires-2
+    look-up-requires-2
     enum-known-order-4
     shared-mesh-requires
     enum-known-order-5

@@ -1,0 +1,17 @@
+-- The longest journals have these forecasts and rewritings: each table is computed at once.
+use mathlib.Core.List.{map}
+use mathlib.Core.Path.{_≡_, refl}
+use Rattle.commands.specs.Forecast.{forecast}
+use Rattle.commands.specs.Calls.{foretold, rewriteCall, rewritingOf}
+use Rattle.commands.proofs.Computed.{computed}
+use Rattle.journal.specs.Longest.{longForecasts, longRewritings}
+
+-- So much is forecast of each.
+pub long-forecasts-shown : map (λ f. forecast (f .journal)) longForecasts ≡ map (λ f. f .forecast) longForecasts
+unfolding computed foretold longForecasts
+long-forecasts-shown = refl
+
+-- So each is rewritten.
+pub long-rewritings-shown : map rewritingOf longRewritings ≡ map (λ c. c .rewriting) longRewritings
+unfolding computed rewriteCall rewritingOf longRewritings
+long-rewritings-shown = refl

@@ -1,0 +1,16 @@
+-- The longest journals, and what the forecast and rewriting return for them, in plain numbers. (They take seconds to compute, and every
+-- must-fail edit of `commands` would compute them again there.)
+use mathlib.Core.List.{List, [], _∷_}
+use lib.ListN.{replicate}
+use Rattle.commands.specs.Calls.{Foretold, foretold, RewriteCall, rewriteCall}
+
+-- A journal of 65,536 bytes, whose last question has no operands, and one byte less.
+unfoldable pub longForecasts : List Foretold
+longForecasts = foretold (replicate 65536 0x03) 5 65535 0 ∷ foretold (replicate 65535 0x03) 0 65535 109225 ∷ []
+
+-- A journal of 65,536 bytes, without 02, and so a result of as many; and a result of 65,537, whatever the room.
+unfoldable pub longRewritings : List RewriteCall
+longRewritings =
+    rewriteCall (0x01 ∷ 0x01 ∷ replicate 65534 0x0D) 65536 0 65536 (0x01 ∷ 0x01 ∷ replicate 65534 0x0D)
+    ∷ rewriteCall (0x01 ∷ 0x01 ∷ 0x01 ∷ 0x02 ∷ 0 ∷ 0 ∷ 0 ∷ 1 ∷ replicate 65527 0x0D) 70000 16 0 []
+    ∷ []
