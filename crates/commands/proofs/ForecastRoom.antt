@@ -14,15 +14,15 @@ use Rattle.naming.specs.Book.{Addition, emptyBook}
 use Rattle.naming.specs.State.{State, emptyState}
 use Rattle.naming.specs.Log.{wholeLog2, highestBit}
 use Rattle.naming.proofs.Log.{log2-monotone, highest-bit-is-log2}
-use Rattle.commands.specs.Field.{Kind, district, ring, mesh}
+use Rattle.commands.specs.Field.{district, ring, mesh}
 use Rattle.commands.specs.Command.{Command}
-use Rattle.commands.specs.Answer.{Notice, Answer, kindByte, answerBytes}
+use Rattle.commands.specs.Answer.{Answer, answerBytes}
 use Rattle.commands.specs.Facts.{Facts, addsCabinet, addsSpan, addsNothing, facts, additionOf, addition, after, answer, stateAfter}
 use Rattle.commands.specs.Refusal.{noRoom, Capacities}
 use Rattle.commands.specs.Text.{textOf}
 use Rattle.commands.specs.Run.{Accepted, Run, runText, runWithin, bytesOfAnswers}
 use Rattle.commands.specs.Entry.{Buffers, entryUnder}
-use Rattle.commands.specs.WholeRun.{itemsOf, noticesIn, sameKind, countNotices, countKind}
+use Rattle.commands.specs.WholeRun.{itemsOf, noticesIn, countKind}
 use Rattle.commands.specs.Forecast.{isCabinet, isSpan, countAdding, cabinetCommands, spanCommands, longestPlain, plainLengths, lengthFor, sufficient}
 use Rattle.commands.proofs.Cases.{impossible}
 use Rattle.commands.proofs.Room.{RoomForAll, CutAt, all-fit-whole, cut-at-stop, Prefix, bytes-of-more}
@@ -32,24 +32,11 @@ use Rattle.commands.proofs.Place.{whole-run-steps, within-is-prefix}
 use Rattle.commands.proofs.Returned.{unbounded, eleven-exactly}
 use Rattle.commands.proofs.TextRun.{run-accepts-first}
 use Rattle.commands.proofs.RunBooks.{Sound, empty-sound, sound-after, NoneRefused, Answered, steps-answered, answered-not-refused}
+use Rattle.commands.proofs.NoticeOrder.{length-by-kind}
 use Rattle.commands.proofs.NoticeBound.{few-in-all}
 use Rattle.commands.proofs.Routes.{serves-after}
 use Rattle.commands.proofs.AnswerLength.{longestOf, answer-no-longer}
 use Rattle.commands.proofs.ForecastFits.{text-fits}
-
--- each notice is of one of the three kinds
-notices-by-kind : (ts : List Notice) → length ts ≡ countNotices district ts + countNotices ring ts + countNotices mesh ts
-unfolding countNotices
-notices-by-kind [] = refl
-notices-by-kind (t ∷ ts) = go (t .kind) (notices-by-kind ts)
-  where
-    go : (kind : Kind) → length ts ≡ countNotices district ts + countNotices ring ts + countNotices mesh ts
-        → suc (length ts) ≡ countNotices district (record { kind = kind; item = t .item; name = t .name } ∷ ts)
-        + countNotices ring (record { kind = kind; item = t .item; name = t .name } ∷ ts)
-        + countNotices mesh (record { kind = kind; item = t .item; name = t .name } ∷ ts)
-    go district e = unfold sameKind kindByte in omega arith
-    go ring e = unfold sameKind kindByte in omega arith
-    go mesh e = unfold sameKind kindByte in omega arith
 
 -- the notices in answers, of every kind
 abbrev noticesInAll : List Answer → ℕ
@@ -117,7 +104,7 @@ answers-no-longer choice caps c s state (a ∷ later) sound serves w few-cabinet
           serves
           (a .command)
           (w .0),
-      notices-by-kind (noticesIn (answer choice state (a .command))),
+      length-by-kind (noticesIn (answer choice state (a .command))),
       answers-no-longer choice caps c s (after state (a .command)) later
           (sound-after caps state (a .command) sound (w .0))
           (serves-after choice state (a .command) serves)

@@ -1,7 +1,7 @@
 -- Laws of counting the numbers below n that pass a test, and of sums over them.
 use mathlib.Core.Bool.{Bool, true, false, cond, _&&_, _||_, and-false}
 use mathlib.Core.Logic.{_⊎_, inl, inr}
-use mathlib.Core.Path.{_≡_, refl, sym, _∙_, ap}
+use mathlib.Core.Path.{_≡_, refl, sym, _∙_, ap, ap₂}
 use Prim.Native.Nat.{ℕ, zero, suc, _+_, _*_, _≤_, _<_}
 use native.Mathlib.Nat.{not-suc-le-zero, le-refl}
 use native.Mathlib.Omega.{arith}
@@ -180,6 +180,12 @@ count-parts (suc n) p q r f apart =
     step true false w c d e h = omega arith
     step false true w c d e h = omega arith
     step false false w c d e h = h
+
+-- equal numbers have equal sums
+pub total-same : (n : ℕ) (f g : ℕ → ℕ) → ((x : ℕ) → x < n → f x ≡ g x) → total n f ≡ total n g
+unfolding total
+total-same zero f g h = refl
+total-same (suc n) f g h = ap₂ _+_ (total-same n f g (λ x l. h x (omega arith))) (h n (omega arith))
 
 -- a sum of n numbers, each at most b, is at most n times b
 pub total-at-most : (n b : ℕ) (f : ℕ → ℕ) → ((i : ℕ) → i < n → f i ≤ b) → total n f ≤ n * b

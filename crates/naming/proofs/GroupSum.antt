@@ -1,4 +1,5 @@
--- Sums over groups, each group counted once: numbers of items in each group add up to the number in all.
+-- Sums over groups, each group counted once: numbers of items in each group add up to the number in all, and the sizes of groups that lie
+-- within a larger one to its size.
 use mathlib.Core.Bool.{Bool, true, false, not, cond, _&&_, _||_}
 use mathlib.Core.Logic.{_⊎_, inl, inr, ⊎-elim}
 use mathlib.Core.Path.{_≡_, refl, sym, _∙_, ap}
@@ -7,10 +8,10 @@ use native.Mathlib.Omega.{arith}
 use Rattle.graph.specs.Below.{anyBelow, count}
 use Rattle.graph.proofs.Truth.{true-or-false, false-of-not, not-both, bool-ext, and-left, and-right, and-both, or-left, or-right, or-cases}
 use Rattle.graph.proofs.Below.{any-below, some-below, count-same}
-use Rattle.naming.specs.Rename.{Grouping}
+use Rattle.naming.specs.Rename.{Grouping, size}
 use Rattle.naming.specs.Total.{total, isFirst, overGroups}
-use Rattle.naming.proofs.Count.{count-none, count-parts}
-use Rattle.naming.proofs.Equivalent.{Equivalent}
+use Rattle.naming.proofs.Count.{count-none, count-parts, total-same}
+use Rattle.naming.proofs.Equivalent.{Equivalent, Finer}
 
 module _ (n : ℕ) (groups : Grouping) (e : Equivalent groups) (test : ℕ → Bool) where
   -- how many of the items in x's group pass the test
@@ -89,3 +90,40 @@ module _ (n : ℕ) (groups : Grouping) (e : Equivalent groups) (test : ℕ → B
           (test y)
           (and-left (test y) (anyBelow n (groups y)))
           (λ p. and-both p (any-below n (groups y) y h (e .reflexive y)))
+
+-- equal numbers have equal sums over groups
+pub over-groups-same : (n : ℕ) (groups : Grouping) (f g : ℕ → ℕ) → ((x : ℕ) → x < n → f x ≡ g x) → overGroups n groups f ≡ overGroups n groups g
+unfolding overGroups
+over-groups-same n groups f g h = total-same n _ _ (λ x l. ap (λ k. cond (isFirst groups x) k 0) (h x l))
+
+-- Groups that lie within larger groups.
+module _ (n : ℕ) (fine coarse : Grouping) (f : Equivalent fine) (c : Equivalent coarse) (within : Finer fine coarse) where
+  -- of y's group all items are in x's larger group if y is, and else none
+  whole-or-none : (x y : ℕ) → cond (coarse x y) (size n fine y) 0 ≡ count n (λ z. fine y z && coarse x z)
+  unfolding size
+  whole-or-none x y = go (true-or-false (coarse x y))
+    where
+      go : (coarse x y ≡ true) ⊎ (coarse x y ≡ false) → cond (coarse x y) (count n (fine y)) 0 ≡ count n (λ z. fine y z && coarse x z)
+      go (inl in-it) =
+          rw in-it
+          (count-same n (fine y) (λ z. fine y z && coarse x z)
+          (λ z h.
+          bool-ext
+          (fine y z)
+          (fine y z && coarse x z)
+          (λ one. and-both one (c .transitive x y z in-it (within y z one)))
+          (and-left (fine y z) (coarse x z))))
+      go (inr out) =
+          rw out
+          (sym
+          (count-none n (λ z. fine y z && coarse x z)
+          (λ z h.
+          false-of-not (fine y z && coarse x z)
+          (λ both.
+          let one = within y z (and-left (fine y z) (coarse x z) both) in
+          not-both (c .transitive x z y (and-right (fine y z) (coarse x z) both) (c .symmetric y z one)) out))))
+
+  -- the sizes of those within x's, each counted once, add up to its size
+  pub parts-add-up : (x : ℕ) → overGroups n fine (λ y. cond (coarse x y) (size n fine y) 0) ≡ size n coarse x
+  unfolding size
+  parts-add-up x = over-groups-same n fine _ _ (λ y h. whole-or-none x y) ∙ groups-add-up n fine f (coarse x)

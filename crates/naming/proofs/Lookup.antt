@@ -1,27 +1,23 @@
 -- Laws of the look-up of a group: whose it is, what its size counts, that the bridge-blocks of a component add up to it, and that it is the
 -- same in books that are alike.
-use mathlib.Core.Bool.{true, false, cond, _&&_}
+use mathlib.Core.Bool.{true, cond}
 use mathlib.Core.List.{List}
-use mathlib.Core.Logic.{_↔_, _⊎_, inl, inr}
-use mathlib.Core.Path.{_≡_, refl, sym, _∙_, ap, ap₂}
-use Prim.Native.Nat.{ℕ, zero, suc, _+_, _<_}
-use native.Mathlib.Omega.{arith}
+use mathlib.Core.Logic.{_↔_}
+use mathlib.Core.Path.{_≡_, sym, _∙_, ap, ap₂}
+use Prim.Native.Nat.{ℕ, _<_}
 use lib.Dec.{eqb}
 use Rattle.graph.specs.Below.{count}
 use Rattle.graph.specs.Network.{Network, MateRule}
 use Rattle.graph.specs.Groups.{component, bridgeBlock}
-use Rattle.graph.proofs.Truth.{true-or-false, false-of-not, not-both, bool-ext, and-left, and-right, and-both}
 use Rattle.graph.proofs.Below.{count-same}
 use Rattle.graph.proofs.BridgeBlock.{bridge-block-component}
 use Rattle.graph.proofs.Alike.{component-alike, bridge-block-alike}
 use Rattle.naming.specs.Rename.{Grouping, size, nameOf}
 use Rattle.naming.specs.Book.{Book}
-use Rattle.naming.specs.Total.{total, isFirst, overGroups}
 use Rattle.naming.specs.Lookup.{Group, groupOf, componentOf, bridgeBlockOf, overBridgeBlocks}
-use Rattle.naming.proofs.Count.{count-none}
-use Rattle.naming.proofs.Equivalent.{Equivalent, Finer, group-swap, size-same}
+use Rattle.naming.proofs.Equivalent.{Equivalent, group-swap, size-same}
 use Rattle.naming.proofs.Naming.{Naming, group-by-name}
-use Rattle.naming.proofs.GroupSum.{groups-add-up}
+use Rattle.naming.proofs.GroupSum.{over-groups-same, parts-add-up}
 use Rattle.naming.proofs.Book.{component-laws, bridge-block-laws}
 use Rattle.naming.proofs.AlikeBooks.{AlikeBooks}
 
@@ -47,49 +43,6 @@ module _ (n : ℕ) (groups : Grouping) (e : Equivalent groups) (names : List ℕ
   size-by-name x h =
       count-same n (groups x) (λ y. eqb (nameOf names y) (nameOf names x))
       (λ y k. group-swap groups e x y ∙ group-by-name n groups names named y x k h)
-
--- equal numbers have equal sums
-total-same : (n : ℕ) (f g : ℕ → ℕ) → ((x : ℕ) → x < n → f x ≡ g x) → total n f ≡ total n g
-unfolding total
-total-same zero f g h = refl
-total-same (suc n) f g h = ap₂ _+_ (total-same n f g (λ x l. h x (omega arith))) (h n (omega arith))
-
--- also over groups
-over-groups-same : (n : ℕ) (groups : Grouping) (f g : ℕ → ℕ) → ((x : ℕ) → x < n → f x ≡ g x) → overGroups n groups f ≡ overGroups n groups g
-unfolding overGroups
-over-groups-same n groups f g h = total-same n _ _ (λ x l. ap (λ k. cond (isFirst groups x) k 0) (h x l))
-
--- Groups that lie within larger groups.
-module _ (n : ℕ) (fine coarse : Grouping) (f : Equivalent fine) (c : Equivalent coarse) (within : Finer fine coarse) where
-  -- of y's group all items are in x's larger group if y is, and else none
-  whole-or-none : (x y : ℕ) → cond (coarse x y) (size n fine y) 0 ≡ count n (λ z. fine y z && coarse x z)
-  unfolding size
-  whole-or-none x y = go (true-or-false (coarse x y))
-    where
-      go : (coarse x y ≡ true) ⊎ (coarse x y ≡ false) → cond (coarse x y) (count n (fine y)) 0 ≡ count n (λ z. fine y z && coarse x z)
-      go (inl in-it) =
-          rw in-it
-          (count-same n (fine y) (λ z. fine y z && coarse x z)
-          (λ z h.
-          bool-ext
-          (fine y z)
-          (fine y z && coarse x z)
-          (λ one. and-both one (c .transitive x y z in-it (within y z one)))
-          (and-left (fine y z) (coarse x z))))
-      go (inr out) =
-          rw out
-          (sym
-          (count-none n (λ z. fine y z && coarse x z)
-          (λ z h.
-          false-of-not (fine y z && coarse x z)
-          (λ both.
-          let one = within y z (and-left (fine y z) (coarse x z) both) in
-          not-both (c .transitive x z y (and-right (fine y z) (coarse x z) both) (c .symmetric y z one)) out))))
-
-  -- the sizes of those within x's, each counted once, add up to its size
-  pub parts-add-up : (x : ℕ) → overGroups n fine (λ y. cond (coarse x y) (size n fine y) 0) ≡ size n coarse x
-  unfolding size
-  parts-add-up x = over-groups-same n fine _ _ (λ y h. whole-or-none x y) ∙ groups-add-up n fine f (coarse x)
 
 -- the sizes of the bridge-blocks of a component, each counted once, add up to the component's, in every network, by any rule of mates
 pub bridge-blocks-add-up : (g : Network) (x : ℕ)

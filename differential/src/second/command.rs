@@ -200,7 +200,6 @@ pub fn answer(
     let (before, after) = (&before.book, &after.book);
     let network = &after.network;
     let groups = &after.groups;
-    let names = &after.names;
     let route = |a, b| route(network, a, b).expect("refusal 10 meets cabinets of two districts");
     match command {
         Command::AddCabinet => fields(0x81, &[before.network.cabinets]),
@@ -211,7 +210,7 @@ pub fn answer(
         Command::DistrictName(a) => fields(0x83, &sizes.look_up(after, Kind::District, a)),
         Command::RingName(a) => fields(0x84, &sizes.look_up(after, Kind::Ring, a)),
         Command::SharedMesh(a, b) => match shared_mesh(network, groups, a, b) {
-            Some(span) => flagged(0x85, 1, names.mesh[span]),
+            Some(span) => flagged(0x85, 1, after.names.mesh[span]),
             None => flagged(0x85, 0, 0),
         },
         Command::SoleSpans(a, b) => list(0x86, &sole_spans(network, groups, &route(a, b))),
