@@ -4,9 +4,10 @@
  * Link with libjournal.a. One call of register_run runs one journal from an empty network, with
  * buffers that the caller lends for the time of the call. A call of register_forecast before it gives
  * a length of the answer buffer that suffices. A call of register_rewrite turns a journal of the old
- * reading, by which spans from 02 have no mates, into one that a run answers as that reading does.
- * Nothing is kept between calls. Wherever a journal or an answer has a number in two bytes, the high
- * byte comes first.
+ * reading, by which spans from 02 have no mates, into one that a run answers as that reading does. A call
+ * of register_join makes one journal of two, with spans between their networks. Nothing is kept between
+ * calls. Wherever a journal or an answer has a number in two bytes, the high byte comes first. The
+ * header is for C from C11 and for C++ from C++11 on.
  */
 #ifndef REGISTER_H
 #define REGISTER_H
@@ -23,11 +24,13 @@ extern "C" {
 #define REGISTER_MOST_SPANS 8192u
 #define REGISTER_LONGEST_JOURNAL 65536u
 
-/* The least length of the working table, in numbers of 32 bits, for capacities c and s. */
+/* The least length of the working table, in numbers of 32 bits, for capacities c and s. A joining takes
+   the one for the greatest capacities. */
 #define REGISTER_WORK(c, s) (24u * (size_t)(c) + 8u * (size_t)(s) + 64u)
 
 /* The bytes of stack that a call of any of the functions takes are fewer than this, whatever the
-   capacities. */
+   capacities. A program that is linked dynamically and bound lazily pays besides, at the first call,
+   what its linker takes to find memset. */
 #define REGISTER_STACK 4096u
 
 /* The least length of the report, and the place of each of its numbers. */
@@ -41,15 +44,16 @@ enum {
     REGISTER_REPORT_SPANS = 5     /* spans present */
 };
 
-/* The returned numbers. A run knows those up to 14, a forecast 0, 3, 4 and 5, and a rewriting 0, 3, 4,
-   5, 15 and 16. The causes are tested in the order in which they stand here: first those at the
-   start, then for each command those at a command, and once all commands are read those of a
-   rewriting. The first that applies is returned. */
+/* The returned numbers. A run knows those up to 14, a forecast 0, 3, 4 and 5, a rewriting 0, 3, 4, 5,
+   15 and 16, and a joining 0, 2, 17, 18 and 19. The causes are tested in the order in which they stand
+   here: first those at the start, then for each command those at a command, and once all commands are
+   read those of a rewriting or of a joining. The first that applies is returned. A joining has the one
+   number 17 for every cause for which a run refuses one of its journals. */
 enum {
     REGISTER_ACCEPTED = 0,
     /* Refused at the start. From a run: only the number is returned, all buffers are as before. */
     REGISTER_BAD_CAPACITY = 1, /* c not from 1 to 4,096, or s not from 1 to 8,192 */
-    REGISTER_SHORT_BUFFER = 2, /* working table or report too short */
+    REGISTER_SHORT_BUFFER = 2, /* working table too short, or report of a run too short */
     REGISTER_LONG_JOURNAL = 3, /* journal longer than 65,536 bytes */
     /* Stopped at a command. From a run: the report is filled, the answers before it stand. */
     REGISTER_BAD_COMMAND = 4,       /* a byte that is no command's: not 01 to 0F */
@@ -64,8 +68,12 @@ enum {
     REGISTER_NO_SHARED_RING = 14,   /* 0C with cabinets that share no ring, in one district or two */
     REGISTER_NO_ROOM = 11,          /* the answer is longer than what is left of the answers */
     /* From a rewriting alone. */
-    REGISTER_DUCT_TOLD = 15,  /* the journal has a 0B */
-    REGISTER_LONG_RESULT = 16 /* the result is longer than 65,536 bytes or than the output buffer */
+    REGISTER_DUCT_TOLD = 15,   /* the journal has a 0B */
+    REGISTER_LONG_RESULT = 16, /* the result is longer than 65,536 bytes or than the output buffer */
+    /* From a joining alone. */
+    REGISTER_REFUSED_JOURNAL = 17, /* a run refuses the first journal or the second */
+    REGISTER_BAD_SEAM = 18,        /* a seam with a cabinet that its journal lacks, or with duct 0 */
+    REGISTER_LONG_JOIN = 19        /* the result is longer than 65,536 bytes or than the output buffer */
 };
 
 /*
@@ -259,6 +267,108 @@ uint32_t register_forecast(const uint8_t *journal, size_t journal_len,
 uint32_t register_rewrite(const uint8_t *journal, size_t journal_len,
                           uint8_t *out, size_t out_len,
                           uint32_t *place, uint32_t *length);
+
+/*
+ * A seam: a span that is to join two networks, from a cabinet of the first to a cabinet of the second, in
+ * a duct. Each cabinet goes by the number that it has in its OWN journal, from 0 on; the second's is not
+ * raised by the caller. The duct is 1 to 65,535. Unlike the numbers in a journal, these three are in the
+ * machine's own order of bytes.
+ */
+struct register_seam {
+    uint16_t first, second, duct;
+};
+
+#ifdef __cplusplus
+static_assert(sizeof(struct register_seam) == 6 && alignof(struct register_seam) == 2,
+              "a seam is three numbers of 16 bits and nothing else");
+#else
+_Static_assert(sizeof(struct register_seam) == 6 && _Alignof(struct register_seam) == 2,
+               "a seam is three numbers of 16 bits and nothing else");
+#endif
+
+/*
+ * Joins two networks: makes one journal of the journals of both. The result is the first journal, then
+ * the second with its cabinet numbers raised by the first's count of cabinets and its span numbers by the
+ * first's count of spans, then for each seam, in their order, a 0B from its cabinet of the first to its
+ * cabinet of the second, raised too, in its duct. Ducts, days and metres stay as they are. A run of the
+ * first tells both counts in its report.
+ *
+ * first     The commands of the first journal, first_len bytes. It is only read.
+ * second    The commands of the second journal, second_len bytes. It is only read.
+ * seams     The seams, seams_len records. They are only read. There may be none, and then the two networks
+ *           stay apart.
+ * work      The working table, work_len numbers of 32 bits, at least REGISTER_WORK(4096, 8192), which is
+ *           163,904, however small the journals are. If it is shorter, all of it is as before; on every
+ *           other return, accepted or refused, its first 163,904 numbers are 0. Those beyond never change.
+ * out       The output buffer, out_len bytes. If the journals are joined, the result is written from its
+ *           first byte on, and the rest is as before. If that is refused, all of it is as before.
+ * length    Filled on every return: the result's length if the journals are joined, and 0 if that is
+ *           refused.
+ *
+ * Lengths count bytes for first, second and out, numbers for work, and records for seams. Each pointer
+ * must be good for its length; a null pointer is allowed where that is 0. seams must be aligned for
+ * struct register_seam and work for uint32_t. length must be good and aligned for uint32_t. No two of the
+ * six may overlap, not even the two journals: to join a network with its like, give a copy. work, out and
+ * length may hold anything before the call. Nothing else is written.
+ *
+ * The causes of a refusal, in this order:
+ *
+ * 2         The working table is too short.
+ * 17        A run with capacities 4,096 and 8,192 and ample answer room refuses the first journal or the
+ *           second, for whatever cause; so also where one is longer than REGISTER_LONGEST_JOURNAL. Such a
+ *           run of each tells which one it is, where and why (its answer room by register_forecast).
+ * 18        Some seam names a cabinet that its journal does not have, or duct 0. A journal with n cabinets
+ *           has those from 0 to n - 1. All seams are looked at.
+ * 19        The result is longer than REGISTER_LONGEST_JOURNAL or than out_len.
+ *
+ * The result is first_len + second_len + 7 x seams_len bytes long, so an output buffer of this length
+ * suffices wherever any does; and so does one of REGISTER_LONGEST_JOURNAL bytes, and with it 19 means
+ * that the result is too long for a journal:
+ *
+ *     static uint32_t work[REGISTER_WORK(REGISTER_MOST_CABINETS, REGISTER_MOST_SPANS)];
+ *     static uint8_t out[REGISTER_LONGEST_JOURNAL];
+ *     const struct register_seam seams[] = {{3, 0, 1}, {0, 2, 1}};
+ *     size_t work_len = sizeof work / sizeof work[0], seams_len = sizeof seams / sizeof seams[0];
+ *     uint32_t length;
+ *     if (register_join(first, first_len, second, second_len, seams, seams_len, work, work_len,
+ *                       out, sizeof out, &length) == REGISTER_ACCEPTED)
+ *         number = register_run(REGISTER_MOST_CABINETS, REGISTER_MOST_SPANS, out, length,
+ *                               work, work_len, answers, answers_len, report, report_len);
+ *
+ * Two journals that exceed the capacities only together are joined all the same. With capacities 4,096
+ * and 8,192 and ample answer room, which a forecast of the result tells, a run of the result accepts it
+ * exactly if the cabinets of both together are at most 4,096 and the spans of both with the seams at most
+ * 8,192; else it returns REGISTER_FULL. Where a run with these capacities accepts the result, its answers
+ * are, one behind the other:
+ *
+ * first     To the first's commands the answers of its own run, byte for byte.
+ * second    To the second's commands the answers of its own run, with the numbers of cabinets and the
+ *           names of districts and rings raised by the first's count of cabinets, and the numbers of spans
+ *           and the names of meshes by the first's count of spans, in notices too. Nothing else is raised:
+ *           no count, no size, no metres, no byte that is 1 or 0, nor the 0000 of "no shared mesh" and of
+ *           "no length". But 0F is answered for both networks, the first whole and the second as far as it
+ *           is entered by then; and 0C with two routes that serve there, which may be others than those of
+ *           the second's own run raised.
+ * seams     To each seam an 82 with its notices, as to any 0B.
+ *
+ * So a name list that is kept for the first needs no change until the seams, and one that is kept for the
+ * second is put behind it with its items and names raised; the notices of the seams do the rest. In the
+ * result the only mates of a seam are seams in the same duct between the same two cabinets.
+ *
+ * The result is a journal like any other: commands can be put behind it, and it can be joined again. But a
+ * journal with a 0B, and so a result with a seam, is not rewritten: rewrite a journal of the old reading
+ * before it is joined.
+ *
+ * REGISTER_STACK bytes of stack must be there.
+ *
+ * Returns 0 if the journals are joined, else the number of the refusal, 2, 17, 18 or 19.
+ */
+uint32_t register_join(const uint8_t *first, size_t first_len,
+                       const uint8_t *second, size_t second_len,
+                       const struct register_seam *seams, size_t seams_len,
+                       uint32_t *work, size_t work_len,
+                       uint8_t *out, size_t out_len,
+                       uint32_t *length);
 
 #ifdef __cplusplus
 }

@@ -13,14 +13,20 @@
  * around the result's. What is returned and written must be what a rewriting by hand gives; what lies
  * behind the result, and the whole output buffer of a journal that is refused, must be as before.
  *
+ * Joins some of them by two, and the longest and fullest, with seams that are good, and refused for each
+ * cause, where those that come later in order apply too. What is returned and written must be what a
+ * joining by hand gives; the working table must be cleared as far as a joining takes it, or as before if
+ * it is too short. A run of the result must be accepted, or find no place, as the counts of both tell.
+ *
  * Between fences a buffer lies against a page that must not be touched, once with its end and once
- * with its beginning; the journal can only be read. A touch beyond is told, with its place. In the
- * heap a buffer is a block of its own, and all but the journal is left unset: that is for a memory
- * checker, which sees a touch beyond a block and a decision that depends on what was never set.
+ * with its beginning; the journals and the seams can only be read. A touch beyond is told, with its
+ * place. In the heap a buffer is a block of its own, and all but the journals and the seams is left
+ * unset: that is for a memory checker, which sees a touch beyond a block and a decision that depends on
+ * what was never set.
  *
  * However the buffers lie and whatever they hold, the returned number, the report and the answers
- * must be the same, and so must the number, place and length of a forecast, and these and the result of
- * a rewriting. Exits with 0 if they are.
+ * must be the same, and so must the number, place and length of a forecast, these and the result of a
+ * rewriting, and the number, length and result of a joining. Exits with 0 if they are.
  */
 #define _GNU_SOURCE
 #include "register.h"
@@ -36,6 +42,9 @@
 enum { SMALL_CABINETS = 24, SMALL_COMMANDS = 80, MOST_ROOM = 1 << 21, MOST_CUT = 6 };
 enum { LINKS_IN_DUCTS = 1000, AROUND = 8 };
 enum { LONGEST = REGISTER_LONGEST_JOURNAL, TOO_LONG = LONGEST + 1, FAR_TOO_LONG = 2 * LONGEST };
+enum { JOINED_OF = 10, SMALL_SEED = 6, FEW_SEAMS = 4, BEYOND = 5 };
+enum { SEAM = 7, FITTING_SEAMS = LONGEST / SEAM, MOST_SEAMS = 2 * FITTING_SEAMS };
+enum { WHOLE_WORK = REGISTER_WORK(REGISTER_MOST_CABINETS, REGISTER_MOST_SPANS) };
 
 /* ---- The journal ---- */
 
@@ -291,11 +300,12 @@ static void large_journal(void)
 
 /* ---- The buffers ---- */
 
-enum buffer { JOURNAL, WORK, ANSWERS, REPORT, OUTPUT, PLACE, LENGTH, BUFFERS };
+/* Those that are only read come first. */
+enum buffer { JOURNAL, SECOND, SEAMS, WORK, ANSWERS, REPORT, OUTPUT, PLACE, LENGTH, BUFFERS };
 enum place { AT_THE_END, AT_THE_START, IN_THE_HEAP };
 
-static const char *const names[BUFFERS] = {"journal", "working table", "answers", "report",
-                                           "output buffer", "place", "length"};
+static const char *const names[BUFFERS] = {"journal", "second journal", "seams", "working table",
+                                           "answers", "report", "output buffer", "place", "length"};
 
 /* The pages of a buffer, between two fences. */
 static struct { uint8_t *low, *high; } pages[BUFFERS];
@@ -335,12 +345,24 @@ static void give_back(enum place place)
     }
 }
 
-/* What may be done to the journal between fences; in the heap, anything. */
+/* What may be done to a buffer between fences; in the heap, anything. */
+static void allow(enum buffer buffer, int protection)
+{
+    size_t bytes = (size_t)(pages[buffer].high - pages[buffer].low);
+    if (fences && mprotect(pages[buffer].low, bytes, protection) != 0)
+        abort();
+}
+
 static void allow_journal(int protection)
 {
-    size_t bytes = (size_t)(pages[JOURNAL].high - pages[JOURNAL].low);
-    if (fences && mprotect(pages[JOURNAL].low, bytes, protection) != 0)
-        abort();
+    allow(JOURNAL, protection);
+}
+
+/* The same for what a joining only reads. */
+static void allow_parts(int protection)
+{
+    for (enum buffer buffer = JOURNAL; buffer <= SEAMS; buffer++)
+        allow(buffer, protection);
 }
 
 /* ---- A touch beyond the buffers ---- */
@@ -394,9 +416,10 @@ static int fences_stand(void)
         stand &= is_shut(pages[buffer].low - 1, 0) && is_shut(pages[buffer].high, 0);
         stand &= !is_shut(pages[buffer].low, 1) && !is_shut(pages[buffer].high - 1, 1);
     }
-    allow_journal(PROT_READ);
-    stand &= is_shut(pages[JOURNAL].low, 1) && !is_shut(pages[JOURNAL].low, 0);
-    allow_journal(PROT_READ | PROT_WRITE);
+    allow_parts(PROT_READ);
+    for (enum buffer buffer = JOURNAL; buffer <= SEAMS; buffer++)
+        stand &= is_shut(pages[buffer].low, 1) && !is_shut(pages[buffer].low, 0);
+    allow_parts(PROT_READ | PROT_WRITE);
     return stand;
 }
 
@@ -415,7 +438,7 @@ struct outcome {
     int cleared;
 };
 
-static unsigned runs_made, forecasts_made, rewritings_made;
+static unsigned runs_made, forecasts_made, rewritings_made, joinings_made;
 
 static uint64_t digest(const uint8_t *answers, size_t length)
 {
@@ -684,6 +707,258 @@ static int rewrite_around(size_t journal_bytes)
     return 1;
 }
 
+/* ---- Joinings ---- */
+
+static uint8_t second[FAR_TOO_LONG];
+static struct register_seam seams[MOST_SEAMS];
+
+/* What is joined: so many bytes of the journal and of the second one, and so many of the seams; with a
+   working table of so many numbers, into so much room. */
+struct parts {
+    size_t first, second, seams, work, room;
+};
+
+/* What a joining gives: its two numbers, the result in one number, whether the rest of the output buffer
+   is as before, and whether the working table is as it must be. */
+struct joining {
+    uint32_t number, length;
+    uint64_t result;
+    int kept, left;
+};
+
+/* Is the working table as a joining leaves it? In the heap what it must not touch is unset. */
+static int is_left(const uint32_t *work, size_t length, enum place at, int held)
+{
+    size_t taken = length < WHOLE_WORK ? 0 : WHOLE_WORK;
+    return is_zero(work, taken)
+        && (at == IN_THE_HEAP
+            || all_held((const uint8_t *)(work + taken), (length - taken) * sizeof *work, held));
+}
+
+static struct joining join(const struct parts *parts, enum place at, int held)
+{
+    struct joining outcome;
+    uint8_t *own_first = lend(JOURNAL, parts->first, at, held);
+    uint8_t *own_second = lend(SECOND, parts->second, at, held);
+    struct register_seam *own_seams = lend(SEAMS, parts->seams * sizeof *own_seams, at, held);
+    uint32_t *work = lend(WORK, parts->work * sizeof *work, at, held);
+    uint8_t *output = lend(OUTPUT, parts->room, at, held);
+    uint32_t *length = lend(LENGTH, sizeof *length, at, held);
+    memcpy(own_first, journal, parts->first);
+    memcpy(own_second, second, parts->second);
+    memcpy(own_seams, seams, parts->seams * sizeof *own_seams);
+    allow_parts(PROT_READ);
+    outcome.number = register_join(own_first, parts->first, own_second, parts->second, own_seams,
+                                   parts->seams, work, parts->work, output, parts->room, length);
+    allow_parts(PROT_READ | PROT_WRITE);
+    joinings_made++;
+    outcome.length = *length;
+    size_t written = *length <= parts->room ? *length : 0;
+    outcome.result = digest(output, written);
+    outcome.kept = at == IN_THE_HEAP || all_held(output + written, parts->room - written, held);
+    outcome.left = is_left(work, parts->work, at, held);
+    give_back(at);
+    return outcome;
+}
+
+static int same_joining(const struct joining *one, const struct joining *other)
+{
+    return one->number == other->number && one->length == other->length
+        && one->result == other->result && one->kept && other->kept && one->left && other->left;
+}
+
+/* What a run with the greatest capacities tells of a journal. */
+struct network {
+    uint32_t number, place, cabinets, spans;
+};
+
+/* The room is ample for every journal that comes here. */
+static struct network network_of(const uint8_t *bytes, size_t length)
+{
+    static uint32_t work[WHOLE_WORK], report[REGISTER_REPORT];
+    static uint8_t answers[MOST_ROOM];
+    uint32_t number = register_run(REGISTER_MOST_CABINETS, REGISTER_MOST_SPANS, bytes, length,
+                                   work, WHOLE_WORK, answers, MOST_ROOM, report, REGISTER_REPORT);
+    if (number == REGISTER_NO_ROOM)
+        abort();
+    return (struct network){number, report[REGISTER_REPORT_PLACE], report[REGISTER_REPORT_CABINETS],
+                            report[REGISTER_REPORT_SPANS]};
+}
+
+/* The result of a joining by hand. */
+static uint8_t joined[LONGEST];
+static size_t joined_length;
+
+/* Puts a number in two bytes behind what is joined. */
+static void put_joined(unsigned value)
+{
+    joined[joined_length++] = (uint8_t)(value >> 8);
+    joined[joined_length++] = (uint8_t)value;
+}
+
+/* What the operands of each command are: cabinets, spans, or neither. */
+static const char *const operands[0x10] = {"", "", "cc", "c", "c", "cc", "cc", "cc",
+                                           "s", "c", "c", "cc-", "cc", "s--", "s", ""};
+
+/* Puts the second journal, of so many bytes, behind the first one. */
+static void put_second(size_t length, struct network first)
+{
+    for (size_t at = 0; at < length; at += widths[second[at]]) {
+        const char *kind = operands[second[at]];
+        joined[joined_length++] = second[at];
+        for (const uint8_t *operand = second + at + 1; *kind != '\0'; kind++, operand += 2) {
+            unsigned raised = *kind == 'c' ? first.cabinets : *kind == 's' ? first.spans : 0;
+            put_joined(((unsigned)operand[0] << 8 | operand[1]) + raised);
+        }
+    }
+}
+
+static void put_seam(struct register_seam seam, struct network first)
+{
+    joined[joined_length++] = 0x0B;
+    put_joined(seam.first);
+    put_joined(seam.second + first.cabinets);
+    put_joined(seam.duct);
+}
+
+static int are_good(size_t count, struct network first, struct network other)
+{
+    for (size_t i = 0; i < count; i++)
+        if (seams[i].first >= first.cabinets || seams[i].second >= other.cabinets || seams[i].duct == 0)
+            return 0;
+    return 1;
+}
+
+static struct joining not_joined(uint32_t number)
+{
+    return (struct joining){number, 0, digest(NULL, 0), 1, 1};
+}
+
+static struct joining joined_by_hand(const struct parts *parts)
+{
+    size_t length = parts->first + parts->second + SEAM * parts->seams;
+    if (parts->work < WHOLE_WORK)
+        return not_joined(REGISTER_SHORT_BUFFER);
+    struct network first = network_of(journal, parts->first);
+    struct network other = network_of(second, parts->second);
+    if (first.number != REGISTER_ACCEPTED || other.number != REGISTER_ACCEPTED)
+        return not_joined(REGISTER_REFUSED_JOURNAL);
+    if (!are_good(parts->seams, first, other))
+        return not_joined(REGISTER_BAD_SEAM);
+    if (length > LONGEST || length > parts->room)
+        return not_joined(REGISTER_LONG_JOIN);
+    memcpy(joined, journal, parts->first);
+    joined_length = parts->first;
+    put_second(parts->second, first);
+    for (size_t i = 0; i < parts->seams; i++)
+        put_seam(seams[i], first);
+    return (struct joining){REGISTER_ACCEPTED, (uint32_t)length, digest(joined, length), 1, 1};
+}
+
+/* Joins with the same places and contents as in runs; each time this must be given. */
+static int joins_as(const struct parts *parts, struct joining wanted)
+{
+    size_t times = fences ? sizeof ways / sizeof ways[0] : 2;
+    for (size_t i = 0; i < times; i++) {
+        struct joining outcome = join(parts, fences ? ways[i].place : IN_THE_HEAP, ways[i].held);
+        if (!same_joining(&outcome, &wanted))
+            return 0;
+    }
+    return 1;
+}
+
+/* Joins as by hand. */
+static int joins(const struct parts *parts)
+{
+    return joins_as(parts, joined_by_hand(parts));
+}
+
+/* The same with a working table to the number, where this must be returned. */
+static int joins_with(size_t first_bytes, size_t second_bytes, size_t seam_count, size_t room,
+                      uint32_t number)
+{
+    const struct parts parts = {first_bytes, second_bytes, seam_count, WHOLE_WORK, room};
+    struct joining wanted = joined_by_hand(&parts);
+    return wanted.number == number && joins_as(&parts, wanted);
+}
+
+/* A run of the result of the last joining by hand is accepted, or finds too many cabinets or spans. */
+static int result_runs(struct network first, struct network other, size_t seam_count)
+{
+    struct network both = network_of(joined, joined_length);
+    uint32_t all_cabinets = first.cabinets + other.cabinets;
+    size_t all_spans = first.spans + other.spans + seam_count;
+    if (all_cabinets > REGISTER_MOST_CABINETS || all_spans > REGISTER_MOST_SPANS)
+        return both.number == REGISTER_FULL;
+    return both.number == REGISTER_ACCEPTED && both.cabinets == all_cabinets && both.spans == all_spans;
+}
+
+/* Seams between any two cabinets, in few ducts. */
+static void make_seams(size_t count, struct network first, struct network other)
+{
+    for (size_t i = 0; i < count; i++) {
+        seams[i].first = (uint16_t)below(first.cabinets);
+        seams[i].second = (uint16_t)below(other.cabinets);
+        seams[i].duct = (uint16_t)(below(2) == 0 ? 1 : 0xFFFF - below(2));
+    }
+}
+
+/* Spoils one seam in each way, with too little room besides. */
+static int join_bad_seams(struct parts parts, struct network first, struct network other)
+{
+    struct register_seam *seam = &seams[below((unsigned)parts.seams)], good = *seam;
+    size_t room = parts.room - 1;
+    const struct register_seam bad[] = {
+        {(uint16_t)first.cabinets, good.second, good.duct}, {0xFFFF, good.second, good.duct},
+        {good.first, (uint16_t)other.cabinets, good.duct}, {good.first, 0xFFFF, good.duct},
+        {good.first, good.second, 0}};
+    int as_wanted = 1;
+    for (size_t i = 0; as_wanted && i < sizeof bad / sizeof bad[0]; i++) {
+        *seam = bad[i];
+        as_wanted = joins_with(parts.first, parts.second, parts.seams, room, REGISTER_BAD_SEAM);
+    }
+    *seam = good;
+    return as_wanted;
+}
+
+/* Spoils either journal by a byte at its end that is no command's, with a bad seam and too little room
+   besides; and then has too short a working table. */
+static int join_bad_journals(struct parts parts)
+{
+    uint16_t duct = seams[0].duct;
+    size_t room = parts.room - 1;
+    seams[0].duct = 0;
+    journal[parts.first] = 0x10;
+    second[parts.second] = 0x00;
+    struct parts no_table = {parts.first + 1, parts.second, parts.seams, WHOLE_WORK - 1, room};
+    int as_wanted = joins_with(parts.first + 1, parts.second, parts.seams, room, REGISTER_REFUSED_JOURNAL)
+        && joins_with(parts.first, parts.second + 1, parts.seams, room, REGISTER_REFUSED_JOURNAL)
+        && joins_with(parts.first + 1, parts.second + 1, parts.seams, 0, REGISTER_REFUSED_JOURNAL)
+        && joins(&no_table);
+    seams[0].duct = duct;
+    return as_wanted;
+}
+
+/* Joins what a run accepts of so many bytes of both journals by a few seams: in room to the byte, in more
+   with a longer working table, with a table that is too short, in too little room, and refused for each
+   other cause. */
+static int join_fronts(size_t first_bytes, size_t second_bytes)
+{
+    struct network first = network_of(journal, first_bytes), other = network_of(second, second_bytes);
+    struct parts exact = {first.place, other.place, 1 + below(FEW_SEAMS), WHOLE_WORK, 0}, longer, none;
+    make_seams(exact.seams, first, other);
+    exact.room = exact.first + exact.second + SEAM * exact.seams;
+    longer = none = exact;
+    longer.room += AROUND;
+    longer.work += BEYOND;
+    none.work = WHOLE_WORK - 1;
+    return joins_with(exact.first, exact.second, exact.seams, exact.room, REGISTER_ACCEPTED)
+        && result_runs(first, other, exact.seams) && joins(&longer) && joins(&none)
+        && joins_with(exact.first, exact.second, exact.seams, exact.room - 1, REGISTER_LONG_JOIN)
+        && joins_with(exact.first, exact.second, exact.seams, 0, REGISTER_LONG_JOIN)
+        && join_bad_seams(exact, first, other) && join_bad_journals(exact);
+}
+
 /* ---- Every journal ---- */
 
 /* Runs so many bytes of the journal with the room that is forecast, which must suffice. */
@@ -824,22 +1099,144 @@ static int rewrite_both(void)
     return rewrite_around(journal_length) && rewrite_around(journal_length - cut);
 }
 
+/* Makes the journal the second one; gives its length. */
+static size_t make_second(void)
+{
+    memcpy(second, journal, journal_length);
+    return journal_length;
+}
+
+/* The journal and the next one: whole, where a run may refuse one, and what a run accepts of them. */
+static int join_small(void)
+{
+    small_journal(journal_number + 1);
+    size_t second_length = make_second();
+    small_journal(journal_number);
+    const struct parts whole = {journal_length, second_length, 0, WHOLE_WORK + BEYOND,
+                                journal_length + second_length};
+    return joins(&whole) && join_fronts(journal_length, second_length);
+}
+
+/* As many bytes of the largest journal as leave room for a small one and for the seams: with it behind
+   them, and before them. Together they have more cabinets than a run takes. */
+static int join_large(void)
+{
+    small_journal(SMALL_SEED);
+    size_t small = make_second(), large = LONGEST - small - SEAM * FEW_SEAMS;
+    large_journal();
+    if (!join_fronts(large, small))
+        return 0;
+    make_second();
+    small_journal(SMALL_SEED);
+    return join_fronts(small, large);
+}
+
+/* Results as long as a journal may be, and one byte longer; and journals that are longer. */
+static int join_longest(void)
+{
+    size_t half = LONGEST / 2;
+    memset(journal, 0x0F, sizeof journal);
+    memset(second, 0x0F, sizeof second);
+    journal[0] = second[0] = 0x01;
+    seams[0] = (struct register_seam){0, 0, 1};
+    return joins_with(LONGEST, 0, 0, LONGEST, REGISTER_ACCEPTED)
+        && joins_with(0, LONGEST, 0, FAR_TOO_LONG, REGISTER_ACCEPTED)
+        && joins_with(half, half, 0, LONGEST, REGISTER_ACCEPTED)
+        && joins_with(half, half, 0, LONGEST - 1, REGISTER_LONG_JOIN)
+        && joins_with(half, half - SEAM, 1, FAR_TOO_LONG, REGISTER_ACCEPTED)
+        && joins_with(half, half - SEAM + 1, 1, FAR_TOO_LONG, REGISTER_LONG_JOIN)
+        && joins_with(LONGEST, 1, 0, FAR_TOO_LONG, REGISTER_LONG_JOIN)
+        && joins_with(LONGEST, LONGEST, 1, FAR_TOO_LONG, REGISTER_LONG_JOIN)
+        && joins_with(LONGEST, 0, 1, FAR_TOO_LONG, REGISTER_BAD_SEAM)
+        && joins_with(0, LONGEST, 1, FAR_TOO_LONG, REGISTER_BAD_SEAM)
+        && joins_with(TOO_LONG, 1, 1, FAR_TOO_LONG, REGISTER_REFUSED_JOURNAL)
+        && joins_with(1, TOO_LONG, 1, FAR_TOO_LONG, REGISTER_REFUSED_JOURNAL)
+        && joins_with(FAR_TOO_LONG, FAR_TOO_LONG, 1, 0, REGISTER_REFUSED_JOURNAL);
+}
+
+/* As many seams between two cabinets as a result has room for, which are more than a run takes; one more,
+   and far more; and the last of these without a duct. */
+static int join_by_many_seams(void)
+{
+    const struct network one = {REGISTER_ACCEPTED, 1, 1, 0};
+    journal[0] = second[0] = 0x01;
+    make_seams(MOST_SEAMS, one, one);
+    if (!joins_with(1, 1, FITTING_SEAMS, LONGEST, REGISTER_ACCEPTED)
+        || !result_runs(one, one, FITTING_SEAMS)
+        || !joins_with(1, 1, FITTING_SEAMS + 1, FAR_TOO_LONG, REGISTER_LONG_JOIN)
+        || !joins_with(1, 1, MOST_SEAMS, FAR_TOO_LONG, REGISTER_LONG_JOIN))
+        return 0;
+    seams[MOST_SEAMS - 1].duct = 0;
+    return joins_with(1, 1, MOST_SEAMS, FAR_TOO_LONG, REGISTER_BAD_SEAM);
+}
+
+/* Half of all cabinets in a chain, with names, exchanges, records and lists. */
+static void half_journal(void)
+{
+    unsigned half = REGISTER_MOST_CABINETS / 2;
+    start_journal(1);
+    while (cabinets < half)
+        command(0x01, 0, 0, 0);
+    for (unsigned i = 1; i < half; i++)
+        command(0x02, 2, i - 1, i);
+    command(0x09, 1, half - 1, 0);
+    survey();
+    ask_names();
+    ask_exchanges();
+    command(0x06, 2, 0, half - 1);
+    command(0x07, 2, half - 1, 0);
+    command(0x08, 1, spans - 1, 0);
+}
+
+/* Two halves with as many seams as a run takes; and one more. */
+static int join_fullest(void)
+{
+    half_journal();
+    size_t bytes = make_second();
+    struct network half = network_of(journal, bytes);
+    size_t most = REGISTER_MOST_SPANS - 2 * (size_t)half.spans;
+    make_seams(most + 1, half, half);
+    return joins_with(bytes, bytes, most, LONGEST, REGISTER_ACCEPTED) && result_runs(half, half, most)
+        && joins_with(bytes, bytes, most + 1, LONGEST, REGISTER_ACCEPTED)
+        && result_runs(half, half, most + 1);
+}
+
+/* Where there is nothing, null pointers will do: nothing joined is nothing, and no working table is too
+   short a one. */
+static int join_nothing(void)
+{
+    static uint32_t work[WHOLE_WORK];
+    uint32_t length = 1, no_length = 1;
+    memset(work, 0xFF, sizeof work);
+    uint32_t number = register_join(NULL, 0, NULL, 0, NULL, 0, work, WHOLE_WORK, NULL, 0, &length);
+    uint32_t no_table = register_join(NULL, 0, NULL, 0, NULL, 0, NULL, 0, NULL, 0, &no_length);
+    return number == REGISTER_ACCEPTED && length == 0 && is_zero(work, WHOLE_WORK)
+        && no_table == REGISTER_SHORT_BUFFER && no_length == 0;
+}
+
+static int join_largest(void)
+{
+    return join_large() && join_longest() && join_by_many_seams() && join_fullest() && join_nothing();
+}
+
 static int run_all(unsigned journals)
 {
     for (journal_number = 0; journal_number < journals; journal_number++) {
         small_journal(journal_number);
-        if (!run_journal() || !run_cut_short() || !rewrite_both())
+        if (!run_journal() || !run_cut_short() || !rewrite_both()
+            || (journal_number % JOINED_OF == 0 && !join_small()))
             return 0;
     }
     large_journal();
     return run_journal() && run_cut_short() && rewrite_around(journal_length) && forecast_names()
-        && forecast_longest() && rewrite_longest() && rewrite_told();
+        && forecast_longest() && rewrite_longest() && rewrite_told() && join_largest();
 }
 
 static int make_all_pages(void)
 {
-    size_t work = REGISTER_WORK(REGISTER_MOST_CABINETS, REGISTER_MOST_SPANS);
-    return make_pages(JOURNAL, sizeof journal) && make_pages(WORK, work * sizeof(uint32_t))
+    return make_pages(JOURNAL, sizeof journal) && make_pages(SECOND, sizeof second)
+        && make_pages(SEAMS, sizeof seams)
+        && make_pages(WORK, (WHOLE_WORK + BEYOND) * sizeof(uint32_t))
         && make_pages(ANSWERS, MOST_ROOM) && make_pages(REPORT, REGISTER_REPORT * sizeof(uint32_t))
         && make_pages(OUTPUT, FAR_TOO_LONG) && make_pages(PLACE, sizeof(uint32_t))
         && make_pages(LENGTH, sizeof(uint32_t));
@@ -872,8 +1269,8 @@ int main(int count, char **words)
         printf("journal %u: the outcomes differ, or are not what they must be\n", journal_number);
         return 1;
     }
-    printf("%u journals, %u runs, %u forecasts and %u rewritings %s: no touch beyond the buffers, all "
-           "outcomes agree\n", journals + 1, runs_made, forecasts_made, rewritings_made,
-           fences ? "between fences" : "in the heap");
+    printf("%u journals, %u runs, %u forecasts, %u rewritings and %u joinings %s: no touch beyond the "
+           "buffers, all outcomes agree\n", journals + 1, runs_made, forecasts_made, rewritings_made,
+           joinings_made, fences ? "between fences" : "in the heap");
     return 0;
 }

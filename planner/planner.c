@@ -17,8 +17,14 @@
  * Then it takes a small journal of a branch on the old reading, by which spans from 02 have no mates. It
  * runs it as it stands, has it rewritten, runs the result, and prints what each of the two runs tells.
  *
- * It exits with 1 if any two differ, a route does not serve, or a run or a rewriting does not return what
- * it must.
+ * Last it takes the journals of two cooperatives that unite. It runs each, has them joined by two seams,
+ * and runs the result. Before the seams it holds its name list against the lists of both, the second's
+ * raised by the first's counts of cabinets and spans. It prints the names of each alone, of the second
+ * raised, and of all behind the seams; there it goes on with the result as with any journal, and asks
+ * about all of it.
+ *
+ * It exits with 1 if any two differ, a route does not serve, or a run, a rewriting or a joining does not
+ * return what it must.
  */
 #include "register.h"
 
@@ -31,7 +37,7 @@ enum { CABINETS = 64, SPANS = 128, NO_NAME = 0xFFFF, NO_LENGTH = 0x10000 };
 /* The planner's own buffers. */
 static uint8_t journal[REGISTER_LONGEST_JOURNAL];
 static size_t journal_length;
-static uint32_t work[REGISTER_WORK(CABINETS, SPANS)];
+static uint32_t work[REGISTER_WORK(REGISTER_MOST_CABINETS, REGISTER_MOST_SPANS)];
 static uint8_t *answers;
 static uint32_t answers_length;
 static uint32_t report[REGISTER_REPORT];
@@ -276,10 +282,11 @@ static int make_room(void)
     return 1;
 }
 
-/* Runs the journal; 0 if another number than this is returned. For want of room it is never refused. */
-static int run_journal(uint32_t wanted)
+/* Runs the journal with these capacities; 0 if another number than this is returned. For want of room it
+   is never refused. */
+static int run_journal(uint32_t c, uint32_t s, uint32_t wanted)
 {
-    uint32_t number = register_run(CABINETS, SPANS, journal, journal_length,
+    uint32_t number = register_run(c, s, journal, journal_length,
                                    work, sizeof work / sizeof work[0],
                                    answers, answers_length,
                                    report, sizeof report / sizeof report[0]);
@@ -689,18 +696,25 @@ static int read_answer(void)
     }
 }
 
-/* Reads all answers; 0 if one does not answer its command, or they do not end with the last command
-   that was accepted. */
-static int read_answers(void)
+/* Reads the answers to the commands before this place; 0 if one does not answer its command, or they end
+   before. */
+static int read_answers_before(size_t place)
 {
-    while (answered_at < report[REGISTER_REPORT_ANSWERS]) {
+    while (asked_at < place && answered_at < report[REGISTER_REPORT_ANSWERS]) {
         if (!read_answer()) {
             printf("no answer at byte %zu\n", answered_at);
             return 0;
         }
     }
-    return answered_at == report[REGISTER_REPORT_ANSWERS]
-        && asked_at == report[REGISTER_REPORT_PLACE];
+    return asked_at == place;
+}
+
+/* Reads all answers; 0 if one does not answer its command, or they do not end with the last command
+   that was accepted. */
+static int read_answers(void)
+{
+    return read_answers_before(report[REGISTER_REPORT_PLACE])
+        && answered_at == report[REGISTER_REPORT_ANSWERS];
 }
 
 static void print_names(void)
@@ -761,7 +775,7 @@ static void print_routes(void)
 static int plan_villages(void)
 {
     write_journal(5);
-    if (!make_room() || !run_journal(REGISTER_ACCEPTED) || !read_answers())
+    if (!make_room() || !run_journal(CABINETS, SPANS, REGISTER_ACCEPTED) || !read_answers())
         return 0;
     print_names();
     if (differences == 0)
@@ -810,7 +824,7 @@ static void forget_answers(void)
 static int run_branch(uint32_t wanted)
 {
     forget_answers();
-    return make_room() && run_journal(wanted) && read_answers();
+    return make_room() && run_journal(CABINETS, SPANS, wanted) && read_answers();
 }
 
 /* The ring of each cabinet, and the sole spans. */
@@ -907,11 +921,222 @@ static int plan_branch(void)
     return plan_as_it_stands() && plan_rewritten() && refuse_again();
 }
 
+/* ---- Two cooperatives that unite ---- */
+
+/* A cooperative's network: its journal, its spans with their ends, ducts and metres, and the names that
+   its run ends with. */
+struct network {
+    uint8_t journal[REGISTER_LONGEST_JOURNAL];
+    size_t length;
+    unsigned cabinets, spans, ends[SPANS][2], duct[SPANS], metres[SPANS];
+    unsigned district[CABINETS], ring[CABINETS], mesh[SPANS];
+};
+
+static struct network first_network, second_network;
+
+/* The seams, from a cabinet of the first to one of the second, by the numbers of their own journals. */
+enum { SEAMS = 2, SEAM_BYTES = 7 };
+static const struct register_seam seams[SEAMS] = {{3, 0, 1}, {0, 3, 1}};
+
+/* A ring of three cabinets with an exchange, and a fourth one behind it, by two spans that are mates. */
+static void write_first(void)
+{
+    journal_length = spans_entered = 0;
+    for (unsigned cabinet = 0; cabinet < 4; cabinet++)
+        add_cabinet();
+    add_span(0, 1);
+    add_span(1, 2);
+    add_span(2, 0);
+    add_span(2, 3);
+    add_span(3, 2);
+    mark_exchange(1);
+    measure_newest(2, 0);
+    ask_all(4);
+    ask_all_routes(0, 3);
+}
+
+/* A ring of four cabinets without an exchange, one of its spans in a duct, and a fifth one before it, by
+   two spans that are mates. */
+static void write_second(void)
+{
+    journal_length = spans_entered = 0;
+    for (unsigned cabinet = 0; cabinet < 5; cabinet++)
+        add_cabinet();
+    add_span(1, 2);
+    add_span(2, 3);
+    add_in_duct(3, 4, 1);
+    add_span(4, 1);
+    add_span(0, 1);
+    add_span(1, 0);
+    measure_newest(2, 1);
+    ask_all(5);
+    ask_all_routes(1, 4);
+}
+
+/* Runs the journal with the greatest capacities, as a joining does. Its answers are yet to be read. */
+static int run_greatest(void)
+{
+    forget_answers();
+    return make_room()
+        && run_journal(REGISTER_MOST_CABINETS, REGISTER_MOST_SPANS, REGISTER_ACCEPTED);
+}
+
+static void print_list(const char *kind, const unsigned names[], size_t first, size_t count)
+{
+    printf("%s", kind);
+    for (size_t item = first; item < first + count; item++)
+        printf(" %u", names[item]);
+}
+
+/* Prints the share, and the names of all from this cabinet and this span on. */
+static void print_network(size_t cabinet, size_t span)
+{
+    printf(" share %u", asked_share);
+    print_list(", districts", district, cabinet, cabinets_known - cabinet);
+    print_list(", rings", ring, cabinet, cabinets_known - cabinet);
+    print_list(", meshes", mesh, span, spans_known - span);
+    printf("\n");
+}
+
+/* Keeps the journal, and what its run has told. */
+static void keep(struct network *own)
+{
+    memcpy(own->journal, journal, journal_length);
+    memcpy(own->ends, ends, sizeof ends);
+    memcpy(own->duct, duct, sizeof duct);
+    memcpy(own->metres, asked_length, sizeof asked_length);
+    memcpy(own->district, district, sizeof district);
+    memcpy(own->ring, ring, sizeof ring);
+    memcpy(own->mesh, mesh, sizeof mesh);
+    own->length = journal_length;
+    own->cabinets = (unsigned)cabinets_known;
+    own->spans = (unsigned)spans_known;
+}
+
+/* Runs a cooperative's own journal. */
+static int plan_alone(const char *name, struct network *own)
+{
+    if (!run_greatest() || !read_answers())
+        return 0;
+    printf("%s cooperative:", name);
+    print_network(0, 0);
+    keep(own);
+    return differences == 0;
+}
+
+/* Has the two journals joined by these seams. The result comes in the journal's place. */
+static uint32_t join(const struct register_seam by[], size_t count, uint32_t *length)
+{
+    return register_join(first_network.journal, first_network.length,
+                         second_network.journal, second_network.length, by, count,
+                         work, sizeof work / sizeof work[0], journal, sizeof journal, length);
+}
+
+/* Enters the spans of a network, their ends raised by so many cabinets. */
+static void enter_spans(const struct network *own, unsigned raised)
+{
+    for (size_t span = 0; span < own->spans; span++)
+        enter_span(own->ends[span][0] + raised, own->ends[span][1] + raised);
+}
+
+static int plan_join(void)
+{
+    uint32_t length, number = join(seams, SEAMS, &length);
+    if (number != REGISTER_ACCEPTED) {
+        printf("not joined: %u\n", (unsigned)number);
+        return 0;
+    }
+    hold("length, joining by seams", SEAMS, length,
+         (unsigned)(first_network.length + second_network.length + SEAM_BYTES * SEAMS));
+    printf("joined: %zu bytes and %zu by %d seams, %u in all\n", first_network.length,
+           second_network.length, SEAMS, (unsigned)length);
+    journal_length = length;
+    spans_entered = 0;
+    enter_spans(&first_network, 0);
+    enter_spans(&second_network, first_network.cabinets);
+    for (size_t i = 0; i < SEAMS; i++)
+        enter_span(seams[i].first, seams[i].second + first_network.cabinets);
+    return differences == 0;
+}
+
+/* Holds the name list against the names of a network alone, raised by so many cabinets and spans. Ducts
+   and metres are as they were. */
+static void hold_raised(const struct network *own, unsigned cabinets, unsigned spans)
+{
+    for (size_t item = 0; item < own->cabinets; item++) {
+        size_t raised = cabinets + item;
+        hold("district, joined, of", raised, district[raised], own->district[item] + cabinets);
+        hold("ring, joined, of", raised, ring[raised], own->ring[item] + cabinets);
+    }
+    for (size_t item = 0; item < own->spans; item++) {
+        size_t raised = spans + item;
+        hold("mesh, joined, of", raised, mesh[raised], own->mesh[item] + spans);
+        hold("duct, joined, of", raised, duct[raised], own->duct[item]);
+        hold("metres, joined, of", raised, asked_length[raised], own->metres[item]);
+    }
+}
+
+/* Before the seams there are the names of both alone, the second's raised. Its share is over both. */
+static int plan_before_seams(void)
+{
+    unsigned cabinets = first_network.cabinets, spans = first_network.spans;
+    if (!run_greatest() || !read_answers_before(journal_length - SEAM_BYTES * SEAMS))
+        return 0;
+    hold("cabinets, joined with", cabinets, (unsigned)cabinets_known, cabinets + second_network.cabinets);
+    hold("spans, joined with", spans, (unsigned)spans_known, spans + second_network.spans);
+    hold_raised(&first_network, 0, 0);
+    hold_raised(&second_network, cabinets, spans);
+    printf("the second, raised:");
+    print_network(cabinets, spans);
+    return differences == 0;
+}
+
+/* The seams close a loop through both, so that all rings become one, named as the largest was. Then
+   questions are put behind the result: a round about all, and for two routes between the cooperatives. */
+static int plan_behind_seams(void)
+{
+    unsigned cabinets = first_network.cabinets, largest = second_network.ring[1] + cabinets;
+    if (!read_answers())
+        return 0;
+    for (size_t item = 0; item < cabinets_known; item++)
+        hold("ring, behind the seams, of", item, ring[item], largest);
+    ask_all((unsigned)cabinets_known);
+    ask_routes(1, 2 + cabinets);
+    if (!run_greatest() || !read_answers())
+        return 0;
+    hold("share of all cabinets", cabinets_known, asked_share, 1000);
+    printf("all, behind the seams:");
+    print_network(0, 0);
+    if (differences == 0)
+        print_routes();
+    return differences == 0;
+}
+
+/* A seam goes by the numbers of each journal alone: behind the first's last cabinet there is none. */
+static int refuse_seam(void)
+{
+    const struct register_seam bad = {(uint16_t)first_network.cabinets, 0, 1};
+    uint32_t length, number = join(&bad, 1, &length);
+    printf("joined at cabinet %u of the first: refused with %u\n", first_network.cabinets,
+           (unsigned)number);
+    return number == REGISTER_BAD_SEAM && length == 0;
+}
+
+static int plan_union(void)
+{
+    write_first();
+    if (!plan_alone("first", &first_network))
+        return 0;
+    write_second();
+    return plan_alone("second", &second_network) && plan_join() && plan_before_seams()
+        && plan_behind_seams() && refuse_seam();
+}
+
 int main(void)
 {
     for (size_t item = 0; item < SPANS; item++)
         asked_length[item] = NO_LENGTH;
-    int good = plan_villages() && plan_branch();
+    int good = plan_villages() && plan_branch() && plan_union();
     free(answers);
     return !good;
 }

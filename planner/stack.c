@@ -3,11 +3,11 @@
  *
  *     stack BYTES [CABINETS]
  *
- * Forecasts the longest journals, rewrites them, and runs those that make the register climb longest,
- * each in a thread of its own with a stack of BYTES bytes and a page below it that must not be touched.
- * Prints the bytes that the calls took, and exits with 0 if they are fewer than the header tells. With
- * too small a stack it ends by a signal; run it with falling sizes to find the least, which no thread's
- * stack may go below.
+ * Forecasts the longest journals, rewrites them, runs those that make the register climb longest, and
+ * joins these with a small one, each in a thread of its own with a stack of BYTES bytes and a page below
+ * it that must not be touched. Prints the bytes that the calls took, and exits with 0 if they are fewer
+ * than the header tells. With too small a stack it ends by a signal; run it with falling sizes to find
+ * the least, which no thread's stack may go below.
  *
  * The stack is filled with a pattern first; what a call took is counted from the lowest byte that
  * lost the pattern up to the frame that made the call.
@@ -22,17 +22,19 @@
 #include <sys/mman.h>
 #include <unistd.h>
 
-enum { PATTERN = 0xA5, ANSWER_BYTES = 1 << 20 };
+enum { PATTERN = 0xA5, ANSWER_BYTES = 1 << 20, FEW = 4 };
 
 static uint8_t journal[REGISTER_LONGEST_JOURNAL + 1];
 static size_t journal_length;
 static uint32_t work[REGISTER_WORK(REGISTER_MOST_CABINETS, REGISTER_MOST_SPANS)];
 static uint8_t answers[ANSWER_BYTES], rewritten[REGISTER_LONGEST_JOURNAL];
+static uint8_t small[REGISTER_LONGEST_JOURNAL], joined[REGISTER_LONGEST_JOURNAL];
+static size_t small_length;
 static uint32_t report[REGISTER_REPORT];
 
 static unsigned cabinets = REGISTER_MOST_CABINETS;
 static uint8_t *stack_low;
-static size_t runs_took, forecasts_took, rewritings_took;
+static size_t runs_took, forecasts_took, rewritings_took, joinings_took;
 static int failed;
 
 /* ---- The journals ---- */
@@ -74,8 +76,8 @@ static void ask_names(unsigned cabinet)
 
 /* An exchange at one end, a record of the first span, names and sizes at both ends, both lists from end to
    end, in both directions; then the span that closes the chain, names and sizes again, the two ways round
-   it, in both directions, the questions about exchanges, and the lengths of a span that has a record and
-   of one that has none. */
+   it, in both directions, whether the first span is sole, the questions about exchanges, and the lengths
+   of a span that has a record and of one that has none. */
 static void ask_and_close(unsigned first, unsigned last)
 {
     put(3, 0x09, last, 0);
@@ -93,6 +95,7 @@ static void ask_and_close(unsigned first, unsigned last)
     command(0x06, first, last);
     command(0x0C, first, last);
     command(0x0C, last, first);
+    put(3, 0x08, 0, 0);
     put(3, 0x0A, first, 0);
     put(1, 0x0F, 0, 0);
     put(3, 0x0E, 0, 0);
@@ -170,6 +173,18 @@ static void ladder(void)
     command(0x02, 0, 2 * half - 1);
     command(0x0C, 0, 2 * half - 1);
     command(0x0C, half / 2, half + half / 2);
+}
+
+/* The small journal that others are joined with: a chain of mates, so that it has each command. It is
+   written on the stack of main, since the first call of a function of the C library may take a lot. */
+static void write_small(void)
+{
+    unsigned all = cabinets;
+    cabinets = FEW;
+    chain_of_mates();
+    cabinets = all;
+    memcpy(small, journal, journal_length);
+    small_length = journal_length;
 }
 
 /* ---- The calls ---- */
@@ -285,6 +300,59 @@ static void *run_all(void *unused)
     return unused;
 }
 
+/* Joins two journals by one seam. */
+static void join_one(const char *name, const uint8_t *first, size_t first_length, const uint8_t *second,
+                     size_t second_length, struct register_seam seam, uint32_t wanted)
+{
+    uint8_t here;
+    uint32_t result;
+    uint32_t number = register_join(first, first_length, second, second_length, &seam, 1,
+                                    work, sizeof work / sizeof work[0],
+                                    joined, sizeof joined, &result);
+    note(&here, &joinings_took);
+    if (number != wanted) {
+        printf("%s, joined: %u\n", name, (unsigned)number);
+        failed = 1;
+    }
+}
+
+/* Joins a journal with the small one, which comes before it and then behind. */
+static void join_both_ways(const char *name, void (*write_journal)(void))
+{
+    const struct register_seam to_the_last = {FEW - 1, (uint16_t)(cabinets - 1), DUCT};
+    const struct register_seam from_the_last = {(uint16_t)(cabinets - 1), FEW - 1, DUCT};
+    write_journal();
+    join_one(name, small, small_length, journal, journal_length, to_the_last, REGISTER_ACCEPTED);
+    join_one(name, journal, journal_length, small, small_length, from_the_last, REGISTER_ACCEPTED);
+}
+
+/* A journal of so many questions 0F, which is too long for a result with the small one, or for a journal;
+   and a seam from a cabinet that it does not have. */
+static void join_refused(void)
+{
+    const struct register_seam good = {0, 0, DUCT}, bad = {1, 0, DUCT};
+    size_t longest = REGISTER_LONGEST_JOURNAL;
+    memset(journal, 0x0F, sizeof journal);
+    journal[0] = 0x01;
+    join_one("longest", journal, longest, small, small_length, good, REGISTER_LONG_JOIN);
+    join_one("longest", journal, longest, small, small_length, bad, REGISTER_BAD_SEAM);
+    join_one("too long", journal, longest + 1, small, small_length, good, REGISTER_REFUSED_JOURNAL);
+    join_one("too long", small, small_length, journal, longest + 1, good, REGISTER_REFUSED_JOURNAL);
+}
+
+/* The same journals as are run. */
+static void *join_all(void *unused)
+{
+    join_both_ways("chain from the first", chain_from_the_first);
+    join_both_ways("chain from the last", chain_from_the_last);
+    join_both_ways("two chains", two_chains);
+    join_both_ways("chain of mates", chain_of_mates);
+    join_both_ways("chain of mates with no duct told", chain_of_untold_mates);
+    join_both_ways("ladder", ladder);
+    join_refused();
+    return unused;
+}
+
 /* A stack of so many bytes, filled with the pattern, above a page that must not be touched. */
 static uint8_t *make_stack(size_t bytes)
 {
@@ -323,14 +391,16 @@ int main(int count, char **words)
         return 2;
     }
     bytes = (bytes + page - 1) / page * page;
+    write_small();
     if (!with_stack(bytes, forecast_all) || !with_stack(bytes, rewrite_all)
-        || !with_stack(bytes, run_all)) {
+        || !with_stack(bytes, run_all) || !with_stack(bytes, join_all)) {
         fprintf(stderr, "no thread with a stack of %zu bytes\n", bytes);
         return 2;
     }
     printf("stack of %zu bytes, %u cabinets: %s; the runs took %zu bytes, the forecasts %zu, the "
-           "rewritings %zu, of the %u told\n", bytes, cabinets, failed ? "refused" : "run", runs_took,
-           forecasts_took, rewritings_took, REGISTER_STACK);
+           "rewritings %zu, the joinings %zu, of the %u told\n", bytes, cabinets,
+           failed ? "refused" : "run", runs_took, forecasts_took, rewritings_took, joinings_took,
+           REGISTER_STACK);
     return failed || runs_took >= REGISTER_STACK || forecasts_took >= REGISTER_STACK
-        || rewritings_took >= REGISTER_STACK;
+        || rewritings_took >= REGISTER_STACK || joinings_took >= REGISTER_STACK;
 }

@@ -8,6 +8,8 @@
 mod ample;
 mod forecast;
 mod held;
+pub mod join;
+pub mod joined;
 mod rewrite;
 
 use crate::cases::{begin_with, hex, Case};

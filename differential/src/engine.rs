@@ -1,6 +1,10 @@
 //! What every implementation of the register offers: the run of document 01, with the commands of
 //! document 02's requests 2, 3, 5 and 6, the mates of its seventh and the sizes of its eighth, the forecast
-//! of its first and the rewriting of its seventh.
+//! of its first, the rewriting of its seventh and the joining of its ninth.
+
+pub mod join;
+
+use join::Join;
 
 /// The call: the capacities C and S, the journal, and the buffers that the caller lends.
 pub struct Call<'a> {
@@ -47,6 +51,10 @@ pub trait Engine {
     /// Rewrites a journal so that no two of its 02 spans are mates, into the output buffer. Returns 0, or
     /// the number of the refusal; the caller's place and length are filled either way.
     fn rewrite(&self, journal: &[u8], out: &mut [u8], place: &mut u32, length: &mut u32) -> u32;
+
+    /// Joins two journals by seams, into the output buffer. Returns 0, or the number of the refusal; the
+    /// caller's length is filled either way.
+    fn join(&self, call: Join) -> u32;
 }
 
 pub const MOST_CABINETS: u32 = 4096;

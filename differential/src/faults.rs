@@ -1,8 +1,10 @@
 //! Engines that are wrong on purpose. The comparison must find each of them.
 
 mod forecast;
+pub mod join;
 mod rewrite;
 
+use crate::engine::join::Join;
 use crate::engine::{work_needed, Call, Engine};
 use crate::kinds::KINDS;
 use crate::second::book::Fault;
@@ -120,6 +122,10 @@ impl Engine for Spoiled {
 
     fn rewrite(&self, journal: &[u8], out: &mut [u8], place: &mut u32, length: &mut u32) -> u32 {
         Second::new().rewrite(journal, out, place, length)
+    }
+
+    fn join(&self, call: Join) -> u32 {
+        Second::new().join(call)
     }
 }
 

@@ -4,13 +4,16 @@
 
 mod forecast;
 mod forest;
+mod join;
 mod naming;
 mod rewrite;
 mod routes;
 
+use crate::engine::join::Join;
 use crate::engine::{Call, Engine, REPORT_NUMBERS};
 use forecast::forecast;
 use forest::{Forest, Survey};
+use join::join;
 use rewrite::rewrite;
 use routes::Routes;
 
@@ -346,5 +349,9 @@ impl Engine for Incremental {
 
     fn rewrite(&self, journal: &[u8], out: &mut [u8], place: &mut u32, length: &mut u32) -> u32 {
         rewrite(journal, out).tell(place, length)
+    }
+
+    fn join(&self, call: Join) -> u32 {
+        join(call)
     }
 }

@@ -1,4 +1,4 @@
-//! Second implementations of document 01 and of document 02's requests 1, 2, 3, 5, 6, 7 and 8, and what is
+//! Second implementations of document 01 and of document 02's requests 1, 2, 3 and 5 to 9, and what is
 //! needed to compare an engine with them.
 //!
 //! - `second`: the documents restated; everything is computed anew after each command.
@@ -18,6 +18,7 @@ pub mod faults;
 pub mod forecasts;
 pub mod histories;
 pub mod incremental;
+pub mod joins;
 pub mod journals;
 pub mod kinds;
 pub mod layouts;
@@ -25,6 +26,7 @@ pub mod literal;
 pub mod names;
 pub mod pairs;
 pub mod program;
+pub mod raising;
 pub mod random;
 pub mod records;
 pub mod refusals;

@@ -1,19 +1,21 @@
 //! Compares an engine with the second implementation, byte by byte.
 //!
 //!     differential [--engine NAME] [--seed N]   all parts, once
-//!     differential --soak SECONDS               random journals for so long
+//!     differential --join                       the joinings alone
+//!     differential [--join] --soak SECONDS      random journals, or joinings of two, for so long
 //!     differential --program PATH               the program at PATH
-//!     differential --seeded-bug                 faults put in on purpose must be found
+//!     differential [--join] --seeded-bug        faults put in on purpose must be found
 
 use differential::cases::{Case, Room};
 use differential::compare::{compare, hold, Tally};
 use differential::engine::Engine;
 use differential::incremental::Incremental;
+use differential::joins::Joins;
 use differential::second::mates::Rule;
 use differential::second::routes::OTHER_CHOICES;
 use differential::second::Second;
 use differential::{
-    ducts, exchanges, faults, forecasts, histories, journals, program, records, refusals,
+    ducts, exchanges, faults, forecasts, histories, joins, journals, program, records, refusals,
     rewriting, routes, sizes, surveys,
 };
 use std::process::ExitCode;
@@ -32,10 +34,12 @@ struct Wish {
     soak: Option<u64>,
     program: Option<String>,
     seeded_bug: bool,
+    join: bool,
 }
 
 fn wish() -> Result<Wish, String> {
-    let mut wish = Wish { engine: None, seed: 1, soak: None, program: None, seeded_bug: false };
+    let mut wish =
+        Wish { engine: None, seed: 1, soak: None, program: None, seeded_bug: false, join: false };
     let mut words = std::env::args().skip(1);
     while let Some(word) = words.next() {
         let mut value = || words.next().ok_or(format!("{word} needs a value"));
@@ -45,6 +49,7 @@ fn wish() -> Result<Wish, String> {
             "--soak" => wish.soak = Some(number(&value()?)?),
             "--program" => wish.program = Some(value()?),
             "--seeded-bug" => wish.seeded_bug = true,
+            "--join" => wish.join = true,
             _ => return Err(format!("unknown argument {word}")),
         }
     }
@@ -147,6 +152,7 @@ impl Test {
         self.cases(&refusals::empty_buffers(), seed);
         self.cases(&forecasts::known(), seed);
         self.cases(&rewriting::known(), seed);
+        self.cases(&joins::histories::runs(), seed);
         for (cabinets, spans) in [(2, 0), (2, 3), (3, 3), (3, 4), (4, 3), (4, 4)] {
             journals::every_list(cabinets, spans, &mut |case| self.given(&case, seed));
         }
@@ -289,7 +295,11 @@ fn null_pointers(seed: u64) -> Result<String, String> {
     let mut test = Test::new(Box::new(differential::register::Register { null_if_empty: true }));
     test.cases(&refusals::empty_buffers(), seed);
     test.result()?;
-    Ok(format!("; {} cases with null for empty buffers", test.tally.journals))
+    let null = Box::new(differential::register::Register { null_if_empty: true });
+    let mut joins = Joins::new(null);
+    joins.couples(&joins::known(), seed);
+    joins.result()?;
+    Ok(format!("; {} cases with null for empty buffers", test.tally.journals + joins.joinings))
 }
 
 #[cfg(not(feature = "register"))]
@@ -307,7 +317,7 @@ fn seeded_bugs(seed: u64) -> Result<String, String> {
     let known = parts.concat();
     let mut found = engine_bugs(&known, seed)? + exchange_bugs(seed)? + duct_bugs(&known, seed)?;
     found += route_bugs(&known, seed)? + survey_bugs(seed)? + forecast_bugs(seed)?;
-    found += size_bugs(seed)? + rewriting_bugs(seed)?;
+    found += size_bugs(seed)? + rewriting_bugs(seed)? + joins::bugs::found(seed)?;
     let accepted = other_choices(seed)?;
     Ok(format!(
         "{found} faults put in on purpose, ties broken the other way among them, are found; \
@@ -522,6 +532,10 @@ fn found_in(
 }
 
 fn run(wish: Wish) -> Result<String, String> {
+    if wish.seeded_bug && wish.join {
+        let found = joins::bugs::found(wish.seed)?;
+        return Ok(format!("{found} faults put in on purpose into the joining are found"));
+    }
     if wish.seeded_bug {
         return seeded_bugs(wish.seed);
     }
@@ -529,13 +543,31 @@ fn run(wish: Wish) -> Result<String, String> {
         let count = program::drive(path, wish.seed)?;
         return Ok(format!("the program writes what it must: {count} inputs"));
     }
+    if wish.join {
+        return joined(&wish);
+    }
     let mut test = Test::new(engine(wish.engine.as_deref())?);
     match wish.soak {
-        Some(seconds) => test.soak(wish.seed, Duration::from_secs(seconds)),
-        None => test.all(wish.seed),
+        Some(seconds) => {
+            test.soak(wish.seed, Duration::from_secs(seconds));
+            test.result()
+        }
+        None => {
+            test.all(wish.seed);
+            let line = test.result()?;
+            Ok(format!("{line}{}\n{}", null_pointers(wish.seed)?, joined(&wish)?))
+        }
     }
-    let line = test.result()?;
-    Ok(format!("{line}{}", null_pointers(wish.seed)?))
+}
+
+/// The joinings.
+fn joined(wish: &Wish) -> Result<String, String> {
+    let mut joins = Joins::new(engine(wish.engine.as_deref())?);
+    match wish.soak {
+        Some(seconds) => joins.soak(wish.seed, Duration::from_secs(seconds)),
+        None => joins.all(wish.seed),
+    }
+    joins.result()
 }
 
 fn main() -> ExitCode {

@@ -2,6 +2,7 @@
 
 #![allow(unsafe_code)]
 
+use crate::engine::join::{Join, Seam};
 use crate::engine::{Call, Engine};
 use std::ptr::null_mut;
 
@@ -32,6 +33,20 @@ extern "C" {
         out: *mut u8,
         out_len: usize,
         place: *mut u32,
+        length: *mut u32,
+    ) -> u32;
+
+    fn register_join(
+        first: *const u8,
+        first_len: usize,
+        second: *const u8,
+        second_len: usize,
+        seams: *const Seam,
+        seams_len: usize,
+        work: *mut u32,
+        work_len: usize,
+        out: *mut u8,
+        out_len: usize,
         length: *mut u32,
     ) -> u32;
 }
@@ -90,5 +105,25 @@ impl Engine for Register {
         let written = self.pointer(out.as_mut_ptr(), out.len());
         // As above; the output buffer is a slice of its own.
         unsafe { register_rewrite(read, journal.len(), written, out.len(), place, length) }
+    }
+
+    fn join(&self, call: Join) -> u32 {
+        let Join { first, second, seams, work, out, length } = call;
+        // As for a run; the seams are laid out as C has them, and the length is aligned.
+        unsafe {
+            register_join(
+                self.pointer(first.as_ptr().cast_mut(), first.len()),
+                first.len(),
+                self.pointer(second.as_ptr().cast_mut(), second.len()),
+                second.len(),
+                self.pointer(seams.as_ptr().cast_mut(), seams.len()),
+                seams.len(),
+                self.pointer(work.as_mut_ptr(), work.len()),
+                work.len(),
+                self.pointer(out.as_mut_ptr(), out.len()),
+                out.len(),
+                length,
+            )
+        }
     }
 }

@@ -1,4 +1,4 @@
-//! A second implementation of document 01 and of document 02's requests 1, 2, 3, 5, 6, 7 and 8, to compare
+//! A second implementation of document 01 and of document 02's requests 1, 2, 3 and 5 to 9, to compare
 //! others with. After each command everything is computed anew from the list of spans; nothing is
 //! kept but the naming book, the list of exchanges and the list of survey records. Which pair of routes
 //! 0C is answered with is not settled: a run takes the pairs from whoever asks for it, or makes its own
@@ -9,18 +9,21 @@ pub mod command;
 pub mod exchanges;
 pub mod forecast;
 pub mod groups;
+pub mod join;
 pub mod mates;
 pub mod rewrite;
 pub mod routes;
 pub mod sizes;
 pub mod surveys;
 
+use crate::engine::join::Join;
 use crate::engine::{Call, Engine, Forecast, Rewriting, REPORT_NUMBERS};
 use crate::pairs::Pair;
 use book::{Book, Fault};
 use command::{answer, read, refusal, Capacities, Command};
 use exchanges::{Exchanges, Misfeed};
 use forecast::forecast;
+use join::{join, Both};
 use mates::{Misduct, Rule};
 use rewrite::rewrite;
 use routes::{Asked, Choice, Misroute};
@@ -40,6 +43,7 @@ pub struct Second {
     missize: Option<Missize>,
     misforecast: Option<Misforecast>,
     misrewrite: Option<Misrewrite>,
+    misjoin: Option<Misjoin>,
 }
 
 /// A fault put in on purpose: what is forecast for a journal in place of its right forecast.
@@ -47,6 +51,9 @@ pub type Misforecast = fn(&[u8], Forecast) -> Forecast;
 
 /// A fault put in on purpose: a rewriting of a journal in place of the right one.
 pub type Misrewrite = fn(&[u8], &mut [u8]) -> Rewriting;
+
+/// A fault put in on purpose: a joining, given what the two runs come to, in place of the right one.
+pub type Misjoin = fn(Both, Join) -> u32;
 
 /// Gives the pair that a 0C is answered with.
 pub type Choose<'a> = dyn FnMut(&Asked) -> Pair + 'a;
@@ -170,6 +177,16 @@ impl Second {
     /// The same with a fault in the rewriting.
     pub fn with_misrewrite(misrewrite: Misrewrite) -> Second {
         Second { misrewrite: Some(misrewrite), ..Second::default() }
+    }
+
+    /// The same with a fault in the joining.
+    pub fn with_misjoin(misjoin: Misjoin) -> Second {
+        Second { misjoin: Some(misjoin), ..Second::default() }
+    }
+
+    /// The joining, given what the two runs come to.
+    pub fn join_judged(&self, both: Both, call: Join) -> u32 {
+        self.misjoin.unwrap_or(join)(both, call)
     }
 
     /// Its own choice of a pair.
@@ -327,5 +344,10 @@ impl Engine for Second {
 
     fn rewrite(&self, journal: &[u8], out: &mut [u8], place: &mut u32, length: &mut u32) -> u32 {
         self.misrewrite.unwrap_or(rewrite)(journal, out).tell(place, length)
+    }
+
+    fn join(&self, call: Join) -> u32 {
+        let both = [call.first, call.second].map(|journal| self.judge(journal));
+        self.join_judged(both, call)
     }
 }

@@ -1,11 +1,12 @@
--- The histories with ducts and with sizes, those of the old reading and the rewritings hold of the definitions: each table is computed at
--- once. (By its name it comes before the laws about the register's rule, about rewriting and about the fields of answers: a wrong one of
--- these is refused here first.)
+-- The histories with ducts and with sizes, those of the old reading, the rewritings and the joins hold of the definitions: each table is
+-- computed at once. (By its name it comes before the laws about the register's rule, about rewriting, about joining and about the fields of
+-- answers: a wrong one of these is refused here first.)
 use mathlib.Core.List.{map}
 use mathlib.Core.Logic.{_≢_}
 use mathlib.Core.Path.{_≡_, refl, ap}
 use native.Mathlib.Omega.{arith}
 use lib.ListN.{length}
+use Rattle.commands.specs.Answer.{answerBytes}
 use Rattle.commands.specs.Register.{program, programReport}
 use Rattle.commands.specs.Histories.{History}
 use Rattle.commands.specs.Histories
@@ -15,6 +16,8 @@ use Rattle.commands.specs.SizeHistories
 use Rattle.commands.specs.SizeHistories.{sizeHistories}
 use Rattle.commands.specs.RewriteHistories
 use Rattle.commands.specs.RewriteHistories.{readAnew, doubledSpan, oldReadings}
+use Rattle.commands.specs.JoinHistories
+use Rattle.commands.specs.JoinHistories.{joiningOf, joins, joinedOf, joinedHistories, answersAlone, answersBehind, raisedBytes}
 use Rattle.commands.specs.Calls.{rewriteCall, rewritingOf, spans02, spans0B, rewritings}
 use Rattle.commands.proofs.Computed.{computed}
 
@@ -46,3 +49,18 @@ old-readings-shown = refl
 pub rewriting-needed : doubledSpan .before ≢ doubledSpan .otherwise
 unfolding computed Histories.output Histories.notice Histories.group RewriteHistories.inOneRing RewriteHistories.doubledSpan
 rewriting-needed e = omega (arith, ap length e)
+
+-- So journals are joined.
+pub joins-shown : map joiningOf joins ≡ map (λ c. c .joining) joins
+unfolding computed JoinHistories.seam JoinHistories.joinCall JoinHistories.joiningOf JoinHistories.pair JoinHistories.joins
+joins-shown = refl
+
+-- And so results are answered.
+pub joined-histories-shown : map joinedOf joinedHistories ≡ joinedHistories
+unfolding computed Histories.output Histories.notice Histories.group JoinHistories.seam JoinHistories.answersOf JoinHistories.joinedOf JoinHistories.questionsBehind JoinHistories.ringsBehind JoinHistories.joinedHistories
+joined-histories-shown = refl
+
+-- And so answers are raised.
+pub raised-answers-shown : map raisedBytes answersAlone ≡ map answerBytes answersBehind
+unfolding computed Histories.notice Histories.group JoinHistories.answersAlone JoinHistories.answersBehind JoinHistories.raisedBytes
+raised-answers-shown = refl

@@ -54,7 +54,7 @@ placed-behind-both place (r ∷ l) k first second =
 
 -- The text of a journal that is read whole, with bytes behind it: its commands, and then what is read from there. (The place is written as
 -- `text-further-on` has it.)
-text-behind : (journal more : List ℕ) → textOf journal .refusal ≡ none
+pub text-behind : (journal more : List ℕ) → textOf journal .refusal ≡ none
     → let l = textOf journal .commands in
     let further = textFrom (placeBehind l + 0) 0 more in
     textOf (journal ++ more) ≡ record { commands = l ++ further .commands; refusal = further .refusal }

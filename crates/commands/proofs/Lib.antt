@@ -48,6 +48,7 @@ pub mod WholeRun
 pub mod AlikeStates
 pub mod EachRewritten
 pub mod OneDuct
+pub mod Simulated
 pub mod WithoutDucts
 pub mod RewrittenRun
 pub mod Rewritten

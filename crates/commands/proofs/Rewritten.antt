@@ -20,13 +20,13 @@ use Rattle.commands.specs.Field.{fieldBytes, fieldsBytes}
 use Rattle.commands.specs.Command.{Command, addSpan, addDuctSpan, commandByte}
 use Rattle.commands.specs.Facts.{facts, addition, additionOf, operandsOf, commandBytes}
 use Rattle.commands.specs.Refusal.{Refusal, noRoom, Capacities, firstThatApplies}
-use Rattle.commands.specs.Text.{Text, textOf, journalBytes}
+use Rattle.commands.specs.Text.{Text, textOf, journalBytes, commandsIn}
 use Rattle.commands.specs.Run.{Run, runText, runWithin, fitting}
 use Rattle.commands.specs.Entry.{wholeUnless, wholeRun, startLines}
 use Rattle.commands.specs.Register.{registerRule}
 use Rattle.commands.specs.Ducts.{ductless, ductlessJournal}
 use Rattle.commands.specs.Forecast.{isSpan}
-use Rattle.commands.specs.Rewrite.{commandsIn, rewrittenBytes, rewriteCommand, inOwnDuct, rewriteFrom, rewriteCommands, RunsAlike, WholesAlike, Ample, AnsweredAsBefore}
+use Rattle.commands.specs.Rewrite.{rewrittenBytes, rewriteCommand, inOwnDuct, rewriteFrom, rewriteCommands, RunsAlike, WholesAlike, Ample, AnsweredAsBefore}
 use Rattle.commands.proofs.EachRewritten.{Is02, Unchanged, each-rewritten}
 use Rattle.commands.proofs.Bytes.{FieldsFit}
 use Rattle.commands.proofs.Room.{RoomForAll, CutAt, cut-where-no-room, all-fit-whole, cut-at-stop}

@@ -22,7 +22,8 @@ use Rattle.commands.specs.Run.{Accepted, bytesOfAnswers}
 use Rattle.commands.specs.Entry.{Whole, refusedAtStart, ran, Buffers, wholeRun, numberOf, over, outcome}
 use Rattle.commands.specs.Facts.{stateAfter}
 use Rattle.commands.specs.Register.{registerRule}
-use Rattle.commands.specs.Rewrite.{commandsIn, rewrite, AnsweredAlike, WholesAlike, Ample, AnsweredAsBefore}
+use Rattle.commands.specs.Text.{commandsIn}
+use Rattle.commands.specs.Rewrite.{rewrite, AnsweredAlike, WholesAlike, Ample, AnsweredAsBefore}
 use Rattle.commands.proofs.WholeRun.{register-mates}
 use Rattle.commands.proofs.ForecastExactly.{forecast-of-whole, forecast-nought-exactly}
 use Rattle.commands.proofs.RewriteExactly.{rewrite-nought-exactly}

@@ -15,11 +15,11 @@ use Rattle.commands.specs.Bytes.{allBytes}
 use Rattle.commands.specs.Command.{Command, addSpan, addDuctSpan, commandByte}
 use Rattle.commands.specs.Facts.{facts, additionOf, addition}
 use Rattle.commands.specs.Refusal.{refusalNumber, Capacities}
-use Rattle.commands.specs.Text.{textOf}
+use Rattle.commands.specs.Text.{textOf, commandsIn}
 use Rattle.commands.specs.Entry.{Whole, refusedAtStart, ran, Buffers, wholeRun, numberOf, outcome, entryUnder}
 use Rattle.commands.specs.Ducts.{ductless, ductlessJournal}
 use Rattle.commands.specs.Forecast.{isCabinet, isSpan, countAdding, cabinetCommands, spanCommands, longestPlain, plainLengths, sufficient, forecast}
-use Rattle.commands.specs.Rewrite.{commandsIn, rewrittenBytes, rewriteCommand, inOwnDuct, rewriteFrom, rewriteCommands, rewrite, Ample}
+use Rattle.commands.specs.Rewrite.{rewrittenBytes, rewriteCommand, inOwnDuct, rewriteFrom, rewriteCommands, rewrite, Ample}
 use Rattle.commands.proofs.EachRewritten.{Is02, Unchanged, each-rewritten}
 use Rattle.commands.proofs.Spelled.{commands-of-reads}
 use Rattle.commands.proofs.ForecastExactly.{forecast-of-whole, forecast-nought-exactly}

@@ -16,10 +16,10 @@ use Rattle.graph.proofs.Truth.{and-left, and-right}
 use Rattle.commands.specs.Bytes.{allBytes}
 use Rattle.commands.specs.Command.{Command, addSpan, addDuctSpan, commandByte}
 use Rattle.commands.specs.Facts.{facts, additionOf, addition}
-use Rattle.commands.specs.Text.{textOf}
+use Rattle.commands.specs.Text.{textOf, commandsIn}
 use Rattle.commands.specs.Ducts.{ductless, ductlessJournal}
 use Rattle.commands.specs.Forecast.{isSpan}
-use Rattle.commands.specs.Rewrite.{commandsIn, rewrittenBytes, inOwnDuct, rewriteCommand, rewriteFrom, rewriteCommands, rewrite, AnsweredAsBefore}
+use Rattle.commands.specs.Rewrite.{rewrittenBytes, inOwnDuct, rewriteCommand, rewriteFrom, rewriteCommands, rewrite, AnsweredAsBefore}
 use Rattle.commands.proofs.Cases.{impossible}
 use Rattle.commands.proofs.EachRewritten.{Is02, Unchanged, each-rewritten}
 use Rattle.commands.proofs.Spelled.{commands-of-reads}

@@ -3,18 +3,16 @@ use mathlib.Core.List.{List, [], _∷_}
 use mathlib.Core.Logic.{_⊎_, inl, inr}
 use mathlib.Core.Option.{Option, none, some}
 use mathlib.Core.Path.{_≡_, refl, _∙_, ap}
-use Prim.Native.Nat.{ℕ, zero, suc, _+_, _-_, _≤_, _<_}
+use Prim.Native.Nat.{ℕ, zero, suc, _+_, _-_, _≤_}
 use native.Mathlib.Omega.{arith}
 use lib.ListN.{length, drop}
 use Rattle.graph.specs.Route.{Choice}
 use Rattle.naming.specs.State.{State}
 use Rattle.commands.specs.Command.{Command, Reading, unknownByte, cutOff, command, readCommand}
-use Rattle.commands.specs.Answer.{answerBytes}
 use Rattle.commands.specs.Facts.{after, answer}
-use Rattle.commands.specs.Refusal.{Refusal, badByte, cutOperands, noRoom, Capacities, refusalOf}
+use Rattle.commands.specs.Refusal.{Refusal, badByte, cutOperands, Capacities, refusalOf}
 use Rattle.commands.specs.Text.{Read, Text, endsWith, followedBy, textFrom}
-use Rattle.commands.specs.Run.{Accepted, stop, andThen, acceptedIn, runOver, runText, fitting, runWithin}
-use Rattle.commands.proofs.Room.{first-fits, first-does-not-fit}
+use Rattle.commands.specs.Run.{Accepted, stop, andThen, acceptedIn, runOver, runText}
 use Rattle.commands.proofs.Reading.{operands-fit}
 
 -- to read with operands to skip is to read from behind them
@@ -72,31 +70,6 @@ module _ (choice : Choice) (caps : Capacities) (s : State) where
       → runText choice caps s (followedBy r t) ≡ andThen (acceptedIn choice s r) (runText choice caps (after s (r .command)) t)
   unfolding runText runOver followedBy
   run-accepts r t e = rw (e, runOver)
-
--- The same with so much room.
-module _ (room : ℕ) (choice : Choice) (caps : Capacities) (s : State) where
-  pub within-ends : (end : Option Refusal) → runWithin room choice caps s (endsWith end) ≡ record { accepted = []; refusal = end }
-  unfolding runWithin fitting
-  within-ends end = rw (run-ends choice caps s end)
-
-  pub within-refuses : (r : Read) (t : Text) {q : Refusal} → refusalOf caps s (r .command) ≡ some q
-      → runWithin room choice caps s (followedBy r t) ≡ stop q
-  unfolding runWithin fitting stop
-  within-refuses r t e = rw (run-refuses choice caps s r t e)
-
-  -- a command whose answer is longer than the room is refused
-  pub within-no-room : (r : Read) (t : Text) → refusalOf caps s (r .command) ≡ none
-      → room < length (answerBytes (answer choice s (r .command))) → runWithin room choice caps s (followedBy r t) ≡ stop noRoom
-  unfolding runWithin andThen acceptedIn
-  within-no-room r t e h = rw (run-accepts choice caps s r t e) (first-does-not-fit room (acceptedIn choice s r) _ _ h)
-
-  -- one whose answer fits leaves the rest of the room to those behind it
-  pub within-accepts : (r : Read) (t : Text) → refusalOf caps s (r .command) ≡ none
-      → length (answerBytes (answer choice s (r .command))) ≤ room
-      → runWithin room choice caps s (followedBy r t)
-      ≡ andThen (acceptedIn choice s r) (runWithin (room - length (answerBytes (answer choice s (r .command)))) choice caps (after s (r .command)) t)
-  unfolding runWithin andThen acceptedIn
-  within-accepts r t e h = rw (run-accepts choice caps s r t e) (first-fits room (acceptedIn choice s r) _ _ h)
 
 -- what it is to be refused: an unknown byte, operands cut off, or a command read whole that the table refuses
 pub data RefusedFor (caps : Capacities) (s : State) : Reading → Refusal → Type 0 where

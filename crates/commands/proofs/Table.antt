@@ -10,7 +10,7 @@ use native.Mathlib.Omega.{arith}
 use lib.Dec.{leb, eqb}
 use lib.ListN.{getD, getElem?}
 use Rattle.graph.proofs.Truth.{true-or-false, not-both, and-left, and-right, eqb-eq, eqb-same, leb-le, false-of-not, false-of-not-true}
-use Rattle.commands.specs.Refusal.{Refusal, badCapacity, shortBuffer, longJournal, badByte, cutOperands, unknownCabinet, unknownSpan, equalCabinets, full, twoDistricts, noRoom, alreadyExchange, noDuct, noSharedRing, ductTold, longResult, refusalNumber, Line, firstThatApplies}
+use Rattle.commands.specs.Refusal.{Refusal, badCapacity, shortBuffer, longJournal, badByte, cutOperands, unknownCabinet, unknownSpan, equalCabinets, full, twoDistricts, noRoom, alreadyExchange, noDuct, noSharedRing, ductTold, longResult, refusedJournal, badSeam, longJoin, refusalNumber, Line, firstThatApplies}
 use Rattle.commands.proofs.Cases.{impossible}
 
 -- the refusal with a number
@@ -34,6 +34,9 @@ withNumber n =
     ∷ noSharedRing
     ∷ ductTold
     ∷ longResult
+    ∷ refusedJournal
+    ∷ badSeam
+    ∷ longJoin
     ∷ [])
     n
     badCapacity
@@ -56,6 +59,9 @@ with-its-number noDuct = refl
 with-its-number noSharedRing = refl
 with-its-number ductTold = refl
 with-its-number longResult = refl
+with-its-number refusedJournal = refl
+with-its-number badSeam = refl
+with-its-number longJoin = refl
 
 -- refusals with the same number are the same
 pub same-number : (r s : Refusal) → refusalNumber r ≡ refusalNumber s → r ≡ s
@@ -80,6 +86,9 @@ number-above-zero noDuct = omega arith
 number-above-zero noSharedRing = omega arith
 number-above-zero ductTold = omega arith
 number-above-zero longResult = omega arith
+number-above-zero refusedJournal = omega arith
+number-above-zero badSeam = omega arith
+number-above-zero longJoin = omega arith
 
 -- a line that applies gives its refusal
 pub line-applies : (l : Line) (ls : List Line) → l .applies ≡ true → firstThatApplies (l ∷ ls) ≡ some (l .refusal)
@@ -181,7 +190,7 @@ given-passes p (l ∷ ls) r a e = go (given-passes p ls r (and-right (p (l .refu
     go rest (inr d) = rest (sym (line-passed-over l ls d) ∙ e)
 
 -- when a refusal is given: 0 at the start, 1 where no command can be read, 2 for a command that was read, 3 for want of room, 4 where a
--- journal is rewritten and in no run
+-- journal is rewritten or two are joined, and in no run
 unfoldable pub stage : Refusal → ℕ
 stage badCapacity = 0
 stage shortBuffer = 0
@@ -199,6 +208,9 @@ stage noSharedRing = 2
 stage noRoom = 3
 stage ductTold = 4
 stage longResult = 4
+stage refusedJournal = 4
+stage badSeam = 4
+stage longJoin = 4
 
 -- the refusal's stage lies between the two
 abbrev pub between : ℕ → ℕ → Refusal → Bool

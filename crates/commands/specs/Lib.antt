@@ -15,6 +15,7 @@ pub mod Ducts
 pub mod Forecast
 pub mod Rewrite
 pub mod Decode
+pub mod Join
 pub mod NameList
 pub mod WholeRun
 pub mod Histories
@@ -24,4 +25,5 @@ pub mod RouteHistories
 pub mod SurveyHistories
 pub mod SizeHistories
 pub mod RewriteHistories
+pub mod JoinHistories
 pub mod Calls

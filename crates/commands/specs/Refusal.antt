@@ -30,6 +30,9 @@ pub data Refusal : Type 0 where
   noSharedRing : Refusal
   ductTold : Refusal
   longResult : Refusal
+  refusedJournal : Refusal
+  badSeam : Refusal
+  longJoin : Refusal
 
 unfoldable pub refusalNumber : Refusal → ℕ
 refusalNumber badCapacity = 1
@@ -48,6 +51,9 @@ refusalNumber noDuct = 13
 refusalNumber noSharedRing = 14
 refusalNumber ductTold = 15
 refusalNumber longResult = 16
+refusalNumber refusedJournal = 17
+refusalNumber badSeam = 18
+refusalNumber longJoin = 19
 
 -- A line of the table: whether its cause is there, and its refusal.
 pub record Line : Type 0 where

@@ -15,7 +15,7 @@ use Rattle.commands.specs.Command.{Command, addDuctSpan, commandByte}
 use Rattle.commands.specs.Answer.{answerBytes}
 use Rattle.commands.specs.Facts.{Facts, addsCabinet, addsSpan, addsNothing, facts, addition, after}
 use Rattle.commands.specs.Refusal.{Refusal, longJournal, noRoom, ductTold, longResult, refusalNumber, Capacities}
-use Rattle.commands.specs.Text.{Read, Text, textOf, placeBehind, journalBytes}
+use Rattle.commands.specs.Text.{Read, Text, textOf, commandsIn, placeBehind, journalBytes}
 use Rattle.commands.specs.Run.{Accepted, Run, commandsOf}
 use Rattle.commands.specs.Entry.{Whole, refusedAtStart, ran, wholeRun}
 use Rattle.commands.specs.Register.{registerRule}
@@ -39,10 +39,7 @@ rewriteFrom spans (c ∷ later) = rewriteCommand spans c ∷ rewriteFrom (cond (
 unfoldable pub rewriteCommands : List Command → List Command
 rewriteCommands = rewriteFrom 0
 
--- The commands of a journal, and their bytes once they are rewritten.
-abbrev pub commandsIn : List ℕ → List Command
-commandsIn journal = map (λ r. r .command) (textOf journal .commands)
-
+-- The bytes of a journal's commands once they are rewritten.
 abbrev pub rewrittenBytes : List ℕ → List ℕ
 rewrittenBytes journal = journalBytes (rewriteCommands (commandsIn journal))
 

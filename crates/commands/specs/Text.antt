@@ -1,5 +1,5 @@
 -- A journal as the commands that its bytes spell, whatever a run makes of them.
-use mathlib.Core.List.{List, [], _∷_, _++_}
+use mathlib.Core.List.{List, [], _∷_, _++_, map}
 use mathlib.Core.Option.{Option, none, some}
 use Prim.Native.Nat.{ℕ, zero, suc, _+_}
 use Rattle.commands.specs.Command.{Command, unknownByte, cutOff, command, readCommand}
@@ -38,6 +38,10 @@ textFrom place zero (byte ∷ bytes) =
 
 unfoldable pub textOf : List ℕ → Text
 textOf journal = textFrom 0 0 journal
+
+-- The commands of a journal.
+abbrev pub commandsIn : List ℕ → List Command
+commandsIn journal = map (λ r. r .command) (textOf journal .commands)
 
 -- The journal's bytes that the commands took: where what is behind them begins.
 unfoldable pub placeBehind : List Read → ℕ

@@ -2,8 +2,10 @@
 use mathlib.Core.Bool.{Bool, true, false, not, cond, _&&_, _||_}
 use mathlib.Core.List.{List, [], _∷_, map}
 use mathlib.Core.Path.{_≡_, refl, ap, ap₂}
-use Prim.Native.Nat.{ℕ}
+use Prim.Native.Nat.{ℕ, zero, suc, _<_}
+use native.Mathlib.Omega.{arith}
 use lib.Dec.{eqb}
+use lib.ListN.{length, getD}
 use Rattle.graph.specs.Lists.{allIn, isIn, distinct}
 use Rattle.graph.specs.Travel.{firsts}
 use Rattle.graph.proofs.Truth.{bool-ext, eqb-eq, eq-eqb}
@@ -57,3 +59,9 @@ pub distinct-mapped : (k : ℕ → ℕ) → ((x y : ℕ) → k x ≡ k y → x �
 unfolding distinct
 distinct-mapped k one [] = refl
 distinct-mapped k one (x ∷ l) = ap₂ (λ in-rest rest. not in-rest && rest) (is-in-mapped k one x l) (distinct-mapped k one l)
+
+-- an entry of a mapped list is the mapped entry
+pub entry-mapped : {A B : Type 0} (k : A → B) (l : List A) (n : ℕ) (d : B) (d′ : A) → n < length l → getD (map k l) n d ≡ k (getD l n d′)
+entry-mapped k [] n d d′ h = absurd (omega arith)
+entry-mapped k (x ∷ l) zero d d′ h = refl
+entry-mapped k (x ∷ l) (suc n) d d′ h = entry-mapped k l n d d′ (omega arith)

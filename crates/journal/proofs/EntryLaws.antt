@@ -5,10 +5,8 @@ use mathlib.Core.Logic.{_⊎_, inl, inr}
 use mathlib.Core.Option.{Option, none, some}
 use mathlib.Core.Path.{_≡_, refl, sym, _∙_, ap}
 use Prim.Native.Nat.{ℕ, _+_, _≤_, _<_, min}
-use native.Mathlib.Omega.{arith}
 use lib.Dec.{leb, ltb}
-use lib.ListN.{length, drop, replicate, length-replicate}
-use lib.Seq.{drop-drop}
+use lib.ListN.{length, drop, replicate}
 use Rattle.graph.proofs.Truth.{le-leb, lt-ltb, ltb-ge, ge-ltb, or-neither-left, or-neither-right}
 use Rattle.commands.specs.Bytes.{allBytes}
 use Rattle.commands.specs.Refusal.{Refusal, Capacities, firstThatApplies}
@@ -19,9 +17,9 @@ use Rattle.commands.proofs.Start.{good-exactly, ran-exactly}
 use Rattle.commands.proofs.Returned.{zero-exactly}
 use Rattle.commands.proofs.WholeRun.{register-serves, register-whole-run}
 use Rattle.numbers.specs.declared.Limits.{Limits}
-use Rattle.forest.specs.Promise.{wordsNeeded, words-needed, SameBeyond}
 use Rattle.run.specs.declared.Progress.{Progress}
 use Rattle.run.specs.Promise.{capacitiesOf, wholeOf, sixNumbers, RunPromise}
+use Rattle.run.proofs.Needed.{cleared-over}
 use Rattle.journal.specs.Promise.{RegisterPromise}
 
 -- below is not at most, the other way round
@@ -31,30 +29,6 @@ below-not-at-most m n = go (le-or-gt n m)
     go : (n ≤ m) ⊎ (m < n) → ltb m n ≡ not (leb n m)
     go (inl h) = rw (ge-ltb m n h, le-leb n m h)
     go (inr h) = rw (lt-ltb m n h, gt-leb n m h)
-
--- W, in the table's words: 64 more than it takes
-pub work-is-words : (limits : Limits) → wordsNeeded limits + 64 ≡ workNeeded (capacitiesOf limits)
-unfolding workNeeded capacitiesOf
-work-is-words limits = omega (arith, words-needed limits)
-
--- the words that are cleared are as many as the run uses, and those beyond are as before
-cleared-over : (limits : Limits) (old new : List ℕ) → SameBeyond limits old new
-    → let count = workNeeded (capacitiesOf limits) in
-    count ≤ length old → replicate (min count (length new)) 0 ++ drop count new ≡ over (replicate count 0) old
-unfolding over
-cleared-over limits old new same long =
-    let used = wordsNeeded limits in
-    let count = workNeeded (capacitiesOf limits) in
-    let split : used + 64 ≡ count = work-is-words limits in
-    let all : min count (length new) ≡ count = omega (arith, same .as-long) in
-    rw (
-      all,
-      length-replicate {A = ℕ} count 0,
-      ← split,
-      ← drop-drop 64 used new,
-      ← drop-drop 64 used old,
-      same .beyond,
-    )
 
 -- what the register leaves is promised
 promised : (caps : Capacities) (journal : List ℕ) → allBytes journal ≡ true → (lent : Buffers) (returned : ℕ) (left : Buffers)

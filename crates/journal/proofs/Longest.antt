@@ -1,10 +1,11 @@
--- The longest journals have these forecasts and rewritings: each table is computed at once.
+-- The longest journals have these forecasts, rewritings and joinings: each table is computed at once.
 use mathlib.Core.List.{map}
 use mathlib.Core.Path.{_≡_, refl}
 use Rattle.commands.specs.Forecast.{forecast}
 use Rattle.commands.specs.Calls.{foretold, rewriteCall, rewritingOf}
+use Rattle.commands.specs.JoinHistories.{seam, joinCall, joiningOf}
 use Rattle.commands.proofs.Computed.{computed}
-use Rattle.journal.specs.Longest.{longForecasts, longRewritings}
+use Rattle.journal.specs.Longest.{longForecasts, longRewritings, longJoins}
 
 -- So much is forecast of each.
 pub long-forecasts-shown : map (λ f. forecast (f .journal)) longForecasts ≡ map (λ f. f .forecast) longForecasts
@@ -15,3 +16,8 @@ long-forecasts-shown = refl
 pub long-rewritings-shown : map rewritingOf longRewritings ≡ map (λ c. c .rewriting) longRewritings
 unfolding computed rewriteCall rewritingOf longRewritings
 long-rewritings-shown = refl
+
+-- So each is joined.
+pub long-joins-shown : map joiningOf longJoins ≡ map (λ c. c .joining) longJoins
+unfolding computed seam joinCall joiningOf longJoins
+long-joins-shown = refl

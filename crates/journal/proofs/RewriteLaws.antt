@@ -15,7 +15,7 @@ use Rattle.rewriting.specs.Promise.{Rewrote}
 use Rattle.journal.specs.Promise.{RewritePromise}
 
 -- a list over the front of a buffer is the first of it
-front-of-over : (front buffer : List ℕ) (n : ℕ) → length front ≡ n → take n (over front buffer) ≡ front
+pub front-of-over : (front buffer : List ℕ) (n : ℕ) → length front ≡ n → take n (over front buffer) ≡ front
 unfolding over
 front-of-over front buffer n e = take-at front (drop (length front) buffer) n e
 

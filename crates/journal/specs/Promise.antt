@@ -11,6 +11,7 @@ use Rattle.commands.specs.Register.{registerRule, registerRoutes, register}
 use Rattle.commands.specs.WholeRun.{WholeRunClaim}
 use Rattle.commands.specs.Forecast.{forecast, Suffices}
 use Rattle.commands.specs.Rewrite.{rewrite, AnsweredAsBefore}
+use Rattle.commands.specs.Join.{Seam, join, joinedWork, AnsweredJoined}
 
 -- For these capacities, this journal and these buffers: the returned number and every buffer are those of the register, and the
 -- whole-run claim holds of the accepted commands and of the answer buffer as it stands on return.
@@ -49,3 +50,14 @@ pub record RewritePromise (journal lent : List ℕ) (returned place room : ℕ) 
   pub answered-as-before : returned ≡ 0 → AnsweredAsBefore journal (take room left)
   -- and as much room is forecast for their answers as for the journal's
   pub same-forecast : returned ≡ 0 → forecast (take room left) ≡ record { number = 0; place = room; length = forecast journal .length }
+
+-- For these two journals, these seams, this working table and this output buffer: the returned number, the number that is written, the table
+-- and the buffer are those of the joining into as much room. Where it is refused its result is empty: nothing is written.
+pub record JoinPromise (first second : List ℕ) (seams : List Seam) (table lent : List ℕ) (returned room : ℕ) (left-table left : List ℕ) : Type 0 where
+  pub returned-is : returned ≡ join (length table) (length lent) first second seams .number
+  pub length-is : room ≡ length (join (length table) (length lent) first second seams .result)
+  pub work-is : left-table ≡ joinedWork table
+  pub output-is : left ≡ over (join (length table) (length lent) first second seams .result) lent
+  -- the bytes that it leaves at the front of the buffer are answered by the first's own answers, then the second's, raised, then one for each
+  -- seam
+  pub answered-joined : returned ≡ 0 → AnsweredJoined first second seams (take room left)

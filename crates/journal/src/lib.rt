@@ -1,29 +1,26 @@
 // The entries that a planner calls. Of a run: the refusals before the journal is read, the run, and the report. Of the forecast: its three numbers.
-// Of rewriting: its three numbers, and the result.
+// Of rewriting: its three numbers, and the result. Of joining: its two numbers, and the result.
 ghost use mathlib.Core.Bool.{not};
+ghost use mathlib.Core.List.{map};
 ghost use mathlib.Core.Path.{_≡_};
 ghost use Rattle.commands.specs.Refusal.{firstThatApplies};
-ghost use Rattle.commands.specs.Entry.{workNeeded, goodCapacities, startLines, numberOf, over};
-ghost use Rattle.run.specs.Promise.{capacitiesOf, sixNumbers};
+ghost use Rattle.commands.specs.Entry.{goodCapacities, startLines, numberOf, over};
+ghost use Rattle.run.specs.Promise.{sixNumbers};
+ghost use Rattle.joining.specs.Promise.{seamOf};
 ghost use Rattle.journal.specs.Inside.Report.{Reportable};
-ghost use Rattle.journal.specs.Promise.{RegisterPromise, ForecastPromise, RewritePromise};
+ghost use Rattle.journal.specs.Promise.{RegisterPromise, ForecastPromise, RewritePromise, JoinPromise};
 use forecast::forecast_of;
 use forest::clear;
-use forest::words_needed;
+use joining::alone::count_both;
+use joining::joined::put_journals;
+use joining::joined::tell;
+use joining::seams::Seam;
+use joining::seams::each_seam;
 use numbers::Limits;
 use rewriting::rewrite_into;
 use run::Progress;
 use run::run;
-
-// How many words a run uses beside those that the table takes.
-const SPARE: usize = 64;
-
-// W, the words of the working table that a run uses.
-fn work_needed(limits: Limits) -> usize
-    ensures { λ r. ⌜ r ≡ workNeeded (capacitiesOf limits) ⌝ }
-{
-    words_needed(limits) + SPARE
-}
+use run::work_needed;
 
 // A capacity is out of its range.
 fn bad_capacity(c: u32, s: u32) -> bool
@@ -130,4 +127,23 @@ pub extern "C" fn register_rewrite(
     *place = told.place;
     *length = told.length;
     told.number
+}
+
+// Joins two journals by the caller's seams into the caller's output buffer, over its working table, and tells the result's length.
+#[no_mangle]
+pub extern "C" fn register_join(
+    first: &[u8],
+    second: &[u8],
+    seams: &[Seam],
+    work: &mut [u32],
+    out: &mut [u8],
+    length: &mut u32,
+) -> u32
+    ensures { λ r. ⌜ JoinPromise (now (first .entry)) (now (second .entry)) (map seamOf (now (seams .entry))) (now (work .entry)) (now (out .entry)) r (now (length .exit)) (now (work .exit)) (now (out .exit)) ⌝ }
+{
+    let counted = count_both(first, second, work);
+    let checked = each_seam(seams, out, counted);
+    let begun = put_journals(first, second, out, checked, seams.len());
+    let ended = each_seam(seams, out, begun);
+    tell(length, ended)
 }

@@ -6,7 +6,7 @@ use Prim.Native.Nat.{ℕ, _/_, _%_, _≤_, _<_}
 use native.Mathlib.Omega.{arith}
 use lib.ListN.{length, set}
 use Rattle.commands.specs.Bytes.{twoBytes, fourBytes}
-use Rattle.commands.specs.Refusal.{Refusal, badCapacity, shortBuffer, longJournal, badByte, cutOperands, unknownCabinet, unknownSpan, equalCabinets, full, twoDistricts, noRoom, alreadyExchange, noDuct, noSharedRing, ductTold, longResult, refusalNumber}
+use Rattle.commands.specs.Refusal.{Refusal, badCapacity, shortBuffer, longJournal, badByte, cutOperands, unknownCabinet, unknownSpan, equalCabinets, full, twoDistricts, noRoom, alreadyExchange, noDuct, noSharedRing, ductTold, longResult, refusedJournal, badSeam, longJoin, refusalNumber}
 use Rattle.commands.specs.Entry.{numberOf, over}
 use Rattle.commands.specs.Register.{ending}
 use Rattle.commands.proofs.Table.{number-above-zero}
@@ -32,6 +32,9 @@ number-below-256 noDuct = omega arith
 number-below-256 noSharedRing = omega arith
 number-below-256 ductTold = omega arith
 number-below-256 longResult = omega arith
+number-below-256 refusedJournal = omega arith
+number-below-256 badSeam = omega arith
+number-below-256 longJoin = omega arith
 
 -- where nothing was refused, 80 is the ending
 pub accepted-put : (l : List ℕ) (number place : ℕ) → 1 ≤ length l → number ≡ 0 → (o : Option Refusal) → number ≡ numberOf o

@@ -8,7 +8,7 @@ use native.Mathlib.Omega.{arith}
 use lib.ListN.{length, take, drop, length-append, length-drop, take-append-drop, drop-of-length-le}
 use lib.Seq.{drop-drop, take-all, length-take-le, take-append-seam, drop-append-seam}
 use Rattle.naming.specs.Book.{feedAll}
-use Rattle.naming.specs.State.{Agree, afterAddition, afterRecording}
+use Rattle.naming.specs.State.{State, Agree, afterAddition, afterRecording}
 use Rattle.commands.specs.Refusal.{Refusal}
 use Rattle.commands.specs.Answer.{answerBytes}
 use Rattle.commands.specs.Facts.{after}
@@ -17,7 +17,7 @@ use Rattle.commands.specs.Entry.{over, numberOf}
 use Rattle.forest.specs.Promise.{stateOf, vertices-held, edges-held}
 use Rattle.run.specs.declared.Progress.{Progress}
 use Rattle.run.specs.Promise.{sixNumbers}
-use Rattle.run.specs.Inside.Runs.{writtenBehind, leaves, leavesAfter}
+use Rattle.run.specs.Inside.Runs.{writtenBehind, networkAfter, leaves, leavesAfter}
 
 -- nothing written behind leaves the buffer as it is
 nothing-behind : (written : ℕ) (answers : List ℕ) → writtenBehind written [] answers ≡ answers
@@ -54,6 +54,12 @@ behind-both written bytes more answers h =
       append-assoc (take written answers) bytes (more ++ drop (length bytes + length more) (drop written answers)),
     )
 
+-- the network after a command and those behind it is that after those behind it, from a state that agrees with the one after the command
+pub network-further : (s s′ : State) (a : Accepted) (rest : Run) → Agree s′ (after s (a .command))
+    → networkAfter s′ rest ≡ networkAfter s (andThen a rest)
+unfolding andThen commandsOf feedAll after afterAddition afterRecording
+network-further s s′ a rest agrees = rw (agrees .same-book)
+
 -- a run of which nothing is left leaves behind what it has come to
 pub ends-here : (p : Progress) (t answers : List ℕ) (end : Option Refusal) → p .refusal ≡ numberOf end
     → leaves p answers ≡ leavesAfter p t answers (record { accepted = []; refusal = end })
@@ -74,7 +80,7 @@ pub goes-further : (p p′ : Progress) (old new answers : List ℕ) (a : Accepte
     → p′ .place ≡ p .place + 1 + a .width → p′ .commands ≡ p .commands + 1 → p′ .written ≡ p .written + length (answerBytes (a .answer))
     → Agree (stateOf (p′ .shape) new) (after (stateOf (p .shape) old) (a .command)) → p .written ≤ length answers
     → leavesAfter p′ new (writtenBehind (p .written) (answerBytes (a .answer)) answers) rest ≡ leavesAfter p old answers (andThen a rest)
-unfolding leavesAfter andThen placeAfter bytesOfAnswers commandsOf feedAll after afterAddition afterRecording
+unfolding leavesAfter andThen placeAfter bytesOfAnswers
 goes-further p p′ old new answers a rest place commands written agrees fits =
     let bytes = answerBytes (a .answer) in
     let later = rest .accepted in
@@ -82,4 +88,5 @@ goes-further p p′ old new answers a rest place commands written agrees fits =
     let place-is : p′ .place + placeAfter later ≡ p .place + (suc (a .width) + placeAfter later) = omega (arith, place) in
     let commands-are : p′ .commands + length later ≡ p .commands + suc (length later) = omega (arith, commands) in
     let written-is : p′ .written + length more ≡ p .written + length (bytes ++ more) = omega (arith, written, length-append bytes more) in
-    rw (place-is, commands-are, written-is, written, agrees .same-book, behind-both (p .written) bytes more answers fits)
+    let network = network-further (stateOf (p .shape) old) (stateOf (p′ .shape) new) a rest agrees in
+    rw (place-is, commands-are, written-is, written, network, behind-both (p .written) bytes more answers fits)

@@ -2,7 +2,7 @@
 use mathlib.Core.List.{List}
 use mathlib.Core.Option.{Option, none, some}
 use mathlib.Core.Path.{_≡_, refl, sym, _∙_, ap, subst}
-use Prim.Native.Nat.{ℕ, _+_, _-_, _≤_}
+use Prim.Native.Nat.{ℕ, _+_, _-_, _≤_, _<_}
 use native.Mathlib.Omega.{arith}
 use lib.ListN.{length}
 use Rattle.graph.proofs.Truth.{eq-eqb, ne-eqb}
@@ -14,6 +14,7 @@ use Rattle.commands.specs.Run.{stop, acceptedIn}
 use Rattle.commands.specs.Entry.{numberOf}
 use Rattle.commands.specs.Register.{registerRoutes}
 use Rattle.commands.proofs.Cases.{impossible}
+use Rattle.commands.proofs.Steps.{for-byte, for-operands, for-command}
 use Rattle.commands.proofs.Table.{number-above-zero}
 use Rattle.forest.specs.declared.Shape.{Shape}
 use Rattle.forest.specs.Promise.{stateOf, SameBeyond, same-beyond-refl}
@@ -24,7 +25,7 @@ use Rattle.step.proofs.Replies.{limits-after, reply-counted}
 use Rattle.run.specs.declared.Progress.{Progress}
 use Rattle.run.specs.Inside.Runs.{refusedProgress, oneFurther, writtenBehind, leftOf, leavesAfter, willLeave, Underway, readHere, Answered, no-room, answered, goes-on, is-refused, stepsLeft, RunOn}
 use Rattle.run.proofs.Course.{ends-here, goes-further}
-use Rattle.run.proofs.Left.{left-unknown, left-cut-off, left-refused, left-no-room, left-answered}
+use Rattle.run.proofs.Left.{RefusedHere, left-refused, left-no-room, left-answered}
 
 -- What the table of causes says of a command, from what the working table holds.
 abbrev pub causeOf : Shape → Command → List ℕ → Option Refusal
@@ -55,7 +56,7 @@ module _ (shape : Shape) (c : Command) (old new : List ℕ) where
           record { not-refused = e; carried = subst (Carried shape c old new) same (w .carried) }
 
   -- a step that is refused was refused for a cause of this number
-  was-refused : (number : ℕ) → StepPromise shape c old new (S.Refused number)
+  pub was-refused : (number : ℕ) → StepPromise shape c old new (S.Refused number)
       → RefusedWith shape c old new number
   was-refused number promise = go (causeOf shape c old) refl promise
     where
@@ -65,15 +66,44 @@ module _ (shape : Shape) (c : Command) (old new : List ℕ) where
       go (some r) e w = record { by = r; cause = e; number-is = cc (w .number); same-beyond = w .same-beyond }
       go none e w = impossible (cc (w .done))
 
+-- What stands at the run's place is refused: an unknown byte, cut-off operands, or a command for this cause.
+module _ (p : Progress) (journal t : List ℕ) where
+  pub unknown-here : readHere p journal ≡ unknownByte → RefusedHere p journal t badByte
+  unknown-here reads = rw reads for-byte
+
+  pub cut-off-here : readHere p journal ≡ cutOff → RefusedHere p journal t cutOperands
+  cut-off-here reads = rw reads for-operands
+
+  pub command-here : {c : Command} {width : ℕ} {r : Refusal} → readHere p journal ≡ command c width
+      → causeOf (p .shape) c t ≡ some r
+      → RefusedHere p journal t r
+  command-here reads cause = rw reads (for-command cause)
+
+-- a run that is refused does not have the number 0
+pub not-zero : (p p′ : Progress) (r : Refusal) → p′ ≡ refusedProgress p (refusalNumber r) → p′ .refusal ≡ 0 → ⊥
+unfolding refusedProgress
+not-zero p p′ r e z =
+    let number : p′ .refusal ≡ refusalNumber r = ap (λ (q : Progress). q .refusal) e in
+    omega (arith, number, number-above-zero r, z)
+
+-- A run that is refused, or is further in the journal, can take fewer commands than before.
+module _ (end : ℕ) (p p′ : Progress) (going : p .refusal ≡ 0) where
+  pub fewer-refused : (p′ .refusal ≡ 0 → ⊥) → stepsLeft end p′ < stepsLeft end p
+  unfolding stepsLeft
+  fewer-refused refused = rw (ne-eqb (p′ .refusal) 0 refused, eq-eqb (p .refusal) 0 going) (omega arith)
+
+  pub fewer-further : p′ .refusal ≡ 0 → p .place < end → p .place < p′ .place → stepsLeft end p′ < stepsLeft end p
+  unfolding stepsLeft
+  fewer-further z more further = rw (eq-eqb (p′ .refusal) 0 z, eq-eqb (p .refusal) 0 going) (omega (arith, more, further))
+
 -- The run at a command of the journal.
 module _ (p : Progress) (journal old answers : List ℕ) (under : Underway p journal old answers) where
   -- a refusal ends it
   refused-on : (p′ : Progress) (new newAnswers : List ℕ) (r : Refusal) → leftOf p journal (length answers) old ≡ stop r
       → p′ ≡ refusedProgress p (refusalNumber r) → newAnswers ≡ answers → SameBeyond (p .shape .limits) old new
       → RunOn p p′ journal old new answers newAnswers
-  unfolding stop refusedProgress numberOf leavesAfter stepsLeft
+  unfolding stop refusedProgress numberOf leavesAfter
   refused-on p′ new newAnswers r left e same beyond =
-      let number : p′ .refusal ≡ refusalNumber r = ap (λ (q : Progress). q .refusal) e in
       record {
         so-far =
             record {
@@ -82,13 +112,10 @@ module _ (p : Progress) (journal old answers : List ℕ) (under : Underway p jou
               as-long = ap length same;
               leads =
                   is-refused
-                  (λ z. omega (arith, number, number-above-zero r))
+                  (not-zero p p′ r e)
                   (rw (left, same, e) (ends-here (refusedProgress p (refusalNumber r)) old answers (some r) refl));
             };
-        fewer =
-            rw
-            (ne-eqb (p′ .refusal) 0 (λ z. omega (arith, number, number-above-zero r)), eq-eqb (p .refusal) 0 (under .going .not-refused))
-            (omega arith);
+        fewer = fewer-refused (length journal) p p′ (under .going .not-refused) (not-zero p p′ r e);
       }
 
   -- an unknown byte
@@ -96,14 +123,16 @@ module _ (p : Progress) (journal old answers : List ℕ) (under : Underway p jou
       → p′ ≡ refusedProgress p 4 → RunOn p p′ journal old old answers answers
   unfolding refusalNumber
   unknown-on p′ reads e =
-      refused-on p′ old answers badByte (left-unknown p journal (length answers) old (under .at-command) reads) e refl (same-beyond-refl _ old)
+      let left = left-refused p journal (length answers) old (under .at-command) (unknown-here p journal old reads) in
+      refused-on p′ old answers badByte left e refl (same-beyond-refl _ old)
 
   -- cut-off operands
   pub cut-off-on : (p′ : Progress) → readHere p journal ≡ cutOff
       → p′ ≡ refusedProgress p 5 → RunOn p p′ journal old old answers answers
   unfolding refusalNumber
   cut-off-on p′ reads e =
-      refused-on p′ old answers cutOperands (left-cut-off p journal (length answers) old (under .at-command) reads) e refl (same-beyond-refl _ old)
+      let left = left-refused p journal (length answers) old (under .at-command) (cut-off-here p journal old reads) in
+      refused-on p′ old answers cutOperands left e refl (same-beyond-refl _ old)
 
   module _ (c : Command) (width : ℕ) (reads : readHere p journal ≡ command c width) where
     -- a step that is refused
@@ -116,7 +145,7 @@ module _ (p : Progress) (journal old answers : List ℕ) (under : Underway p jou
         new
         answers
         (w .by)
-        (left-refused p journal (length answers) old (under .at-command) c width reads (w .cause))
+        (left-refused p journal (length answers) old (under .at-command) (command-here p journal old reads (w .cause)))
         (e ∙ ap (refusedProgress p) (w .number-is))
         refl
         (w .same-beyond)
@@ -158,7 +187,7 @@ module _ (p : Progress) (journal old answers : List ℕ) (under : Underway p jou
       written-on : (newAnswers : List ℕ) → replySize reply ≤ length answers - p .written
           → newAnswers ≡ writtenBehind (p .written) (answerBytes (replyAnswer next new reply)) answers → length newAnswers ≡ length answers
           → RunOn p (oneFurther p next (p .place + 1 + width) reply) journal old new answers newAnswers
-      unfolding oneFurther stepsLeft
+      unfolding oneFurther
       written-on newAnswers room same long =
           record {
             so-far =
@@ -176,7 +205,7 @@ module _ (p : Progress) (journal old answers : List ℕ) (under : Underway p jou
                       })
                       (further-leaves newAnswers room same long);
                 };
-            fewer = rw (eq-eqb (p .refusal) 0 (under .going .not-refused)) (omega (arith, under .at-command));
+            fewer = fewer-further (length journal) p _ (under .going .not-refused) refl (under .at-command) (omega arith);
           }
 
       -- what becomes of the reply becomes of the run

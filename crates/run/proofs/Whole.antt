@@ -32,7 +32,7 @@ unfoldable pub atStart : Shape → Progress
 atStart shape = record { shape = shape; place = 0; commands = 0; written = 0; refusal = 0 }
 
 -- the rule of mates of the networks in a table is the register's: an empty table holds the state at a run's start
-same-rule : {limits : Limits} {t : List ℕ} {shape : Shape} → Begun limits t shape → stateOf shape t ≡ emptyState registerRule
+pub same-rule : {limits : Limits} {t : List ℕ} {shape : Shape} → Begun limits t shape → stateOf shape t ≡ emptyState registerRule
 unfolding registerRule
 same-rule b = b .state-is ∙ ap emptyState table-rule
 
@@ -50,7 +50,7 @@ begun-own b =
     }
 
 -- a run that goes on is not refused, and has more of the journal before it
-goes-on-tells : (p : Progress) (end : ℕ) → goesOn p end ≡ true → (p .refusal ≡ 0) × (p .place < end)
+pub goes-on-tells : (p : Progress) (end : ℕ) → goesOn p end ≡ true → (p .refusal ≡ 0) × (p .place < end)
 goes-on-tells p end e =
     let on = eqb (p .refusal) 0 in
     let more = ltb (p .place) end in

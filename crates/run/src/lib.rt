@@ -2,12 +2,17 @@
 ghost use mathlib.Core.Path.{_≡_};
 ghost use Prim.Native.Nat.{_≤_};
 ghost use lib.ListN.{length};
+ghost use Rattle.commands.specs.Entry.{workNeeded};
 ghost use Rattle.forest.specs.Promise.{wordsNeeded};
 ghost use Rattle.step.specs.Promise.{shapeAfter};
 ghost use Rattle.run.specs.Promise.{capacitiesOf, wholeOf, RunPromise};
 ghost use Rattle.run.specs.Inside.Runs.{refusedProgress, Underway, Ready, Answerable, Answered, goesOn, RunOn};
+
+pub mod unanswered;
+
 use forest::Shape;
 use forest::begin;
+use forest::words_needed;
 use numbers::Limits;
 use reading::read::Order;
 use reading::read::Taken;
@@ -30,8 +35,18 @@ pub struct Progress {
     pub refusal: u32,
 }
 
+// How many words a run uses beside those that the table takes.
+const SPARE: usize = 64;
+
+// W, the words of the working table that a run uses.
+pub fn work_needed(limits: Limits) -> usize
+    ensures { λ r. ⌜ r ≡ workNeeded (capacitiesOf limits) ⌝ }
+{
+    words_needed(limits) + SPARE
+}
+
 // The run ended by a refusal.
-fn refuse(p: Progress, number: u32) -> Progress
+pub(crate) fn refuse(p: Progress, number: u32) -> Progress
     ensures { λ r. ⌜ r ≡ refusedProgress p number ⌝ }
 {
     let shape = p.shape;
@@ -101,7 +116,7 @@ fn run_one(journal: &[u8], work: &mut [u32], answers: &mut [u8], p: Progress) ->
 }
 
 // The run is not refused, and there is more of the journal.
-fn goes_on(p: Progress, end: usize) -> bool
+pub(crate) fn goes_on(p: Progress, end: usize) -> bool
     ensures { λ r. ⌜ r ≡ goesOn p end ⌝ }
 {
     if p.refusal != 0 {

@@ -1,14 +1,18 @@
 //! Measures the engines against each other: runs of journals of several shapes at three sizes, two
-//! routes by the size of the network, and forecasts and rewritings of long journals.
+//! routes by the size of the network, forecasts and rewritings of long journals, and joinings of two.
 //!
 //!     bench [--quick]             with --quick one run of each, for a look
 //!     bench --routes [--quick]    the routes by the size of the network alone
 //!     bench --forecast [--quick]  the forecasts alone
 //!     bench --rewrite [--quick]   the rewritings alone
+//!     bench --join [--quick]      the joinings alone
 //!     bench --only SHAPE          the last engine alone, on this shape at the greatest size, for
 //!                                 two seconds: for a profiler
 //!
 //! All figures come from one process. Times are for looking; the ratios are what is compared.
+
+#[path = "bench/joinings.rs"]
+mod joinings;
 
 use differential::engine::{work_needed, Call, Engine, LONGEST_JOURNAL, REPORT_NUMBERS};
 use differential::incremental::Incremental;
@@ -19,6 +23,7 @@ use differential::second::forecast::counts;
 use differential::second::surveys::Record;
 use differential::second::Second;
 use differential::spans::Span;
+use joinings::print_joinings;
 use std::hint::black_box;
 use std::time::{Duration, Instant};
 
@@ -604,6 +609,9 @@ fn main() {
     if words.iter().any(|word| word == "--rewrite") {
         return print_rewritings(quick, budget);
     }
+    if words.iter().any(|word| word == "--join") {
+        return print_joinings(quick, &mut buffers);
+    }
     if words.iter().any(|word| word == "--routes") {
         return print_routes(quick, &mut buffers, budget);
     }
@@ -626,4 +634,6 @@ fn main() {
     print_forecasts(quick, budget);
     println!();
     print_rewritings(quick, budget);
+    println!();
+    print_joinings(quick, &mut buffers);
 }

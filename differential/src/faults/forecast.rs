@@ -1,5 +1,6 @@
 //! Forecasts that are wrong on purpose. The comparison must find each of them.
 
+use crate::engine::join::Join;
 use crate::engine::{Call, Engine, Forecast, MOST_CABINETS, MOST_SPANS};
 use crate::second::command::{read, Capacities};
 use crate::second::forecast::{counts, length, Counts};
@@ -184,5 +185,9 @@ impl Engine for Unfilled {
 
     fn rewrite(&self, journal: &[u8], out: &mut [u8], place: &mut u32, length: &mut u32) -> u32 {
         Second::new().rewrite(journal, out, place, length)
+    }
+
+    fn join(&self, call: Join) -> u32 {
+        Second::new().join(call)
     }
 }

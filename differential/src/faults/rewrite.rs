@@ -1,6 +1,7 @@
 //! Rewritings that are wrong on purpose. The comparison must find each of them.
 
 use super::forecast::run_place;
+use crate::engine::join::Join;
 use crate::engine::{Call, Engine, Rewriting, LONGEST_JOURNAL};
 use crate::second::forecast::counts;
 use crate::second::rewrite::{first_in_duct, result, rewrite, rewritten, text, Text};
@@ -381,5 +382,9 @@ impl Engine for Unfilled {
             (*place, *length) = before;
         }
         number
+    }
+
+    fn join(&self, call: Join) -> u32 {
+        Second::new().join(call)
     }
 }

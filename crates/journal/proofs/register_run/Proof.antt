@@ -9,7 +9,8 @@ use Rattle.commands.specs.Entry.{Buffers}
 use Rattle.commands.proofs.Bytes.{bytes-by-place}
 use Rattle.numbers.specs.declared.Limits.{Limits}
 use Rattle.run.specs.Promise.{capacitiesOf}
-use Rattle.journal.proofs.EntryLaws.{work-is-words, promised-at-start, Begins, begins, promised-by-run}
+use Rattle.run.proofs.Needed.{work-is-words}
+use Rattle.journal.proofs.EntryLaws.{promised-at-start, Begins, begins, promised-by-run}
 use Rattle.journal.proofs.register_run.Statement.{statement}
 use Rattle.journal.proofs.register_run.Tie as tie
 

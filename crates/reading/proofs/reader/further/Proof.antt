@@ -3,20 +3,17 @@ use mathlib.Core.Path.{refl}
 use Prim.Native.Nat.{ℕ, _+_, _<_, _≤_, _^_}
 use native.Mathlib.Omega.{arith}
 use mathlib.Core.List.{[], _∷_}
-use mir.Syntax.{w64}
-use types.Kit.{_$_, !, ‵, move, split, fsplit, use2}
+use types.Kit.{_$_, !, ‵, move, use2}
 use types.Part.{agg}
 use types.Run.{look, init, lit, of-opd, bin, and-then, no-more, returns, alloc1, alloc0, params1, pass1, pass0, free0}
-use denote.Builtin.{usize}
-use denote.Laws.{Is}
-use denote.Plain.{uint-makes}
-use denote.Steps.{owned}
 use denote.Struct.Rest.{own-put}
 use borrow.Fn.World.{World}
 use Rattle.reading.specs.declared.reader.Reader.{Reader}
-use Rattle.reading.proofs.ReaderLocals.{local, field-of, sets, free-at}
+use Rattle.walks.proofs.Known.{W, model}
+use Rattle.walks.proofs.Lent.{counted}
+use Rattle.walks.proofs.Locals.{local, field-of, sets, free-at}
+use Rattle.walks.proofs.Walk.{Walk, Call, walked, ends}
 use Rattle.reading.proofs.ReaderPromise.{further-promise, ReaderOf, struct, laws}
-use Rattle.reading.proofs.ReaderWalk.{Walk, Call, W, model, walked, ends}
 use Rattle.reading.proofs.reader.Reader.Laws.{lowered}
 use Rattle.reading.proofs.reader.further.Code as code
 use Rattle.reading.proofs.reader.further.Key.{name as #further}
@@ -33,7 +30,7 @@ abbrev moved : Call further-promise → Reader
 moved x = record { journal = x .3 .0 .journal; at = x .3 .0 .at + 1 + x .3 .1 .0 }
 
 walk : (w : World) → Walk w further-promise code.env code.function
-walk w x ok typed =
+walk w x ok are typed =
     let byte = past-byte (x .3 .0 .at) (x .3 .1 .0) _ ok (typed .0 .1 .0 .1 .0 .fits) in
     let all = past-operands (x .3 .0 .at) (x .3 .1 .0) _ ok (typed .0 .1 .0 .1 .0 .fits) in
     alloc1 ! (λ l₀. alloc1 ! (λ l₁. alloc1 ! (λ l₂. alloc1 ! (λ l₃. alloc1 ! (λ l₄. alloc1 ! (λ l₅. alloc1 ! (λ l₆. alloc0 ! $ params1 ! $
@@ -45,12 +42,11 @@ walk w x ok typed =
     sets ! (agg ! (and-then ! (local ! 6 refl) (and-then ! (local ! 0 refl) (no-more !)))) 12 refl (tt, (typed .0 .1 .0, (record { fits = all }, tt))) $
     returns ! (look ! 12 refl) $ free-at ! 12 refl refl $ free-at ! 10 refl refl $ free-at ! 8 refl refl $ free-at ! 6 refl refl $
     free-at ! 4 refl refl $ free-at ! 2 refl refl $ free-at ! 0 refl refl $ free0 ! $
-    -- [the tokens and what the arguments own]: the reader's number is another
-    split ! $ move ! (1 ∷ []) $ fsplit ! $
-    owned ! usize (Is usize) (uint-makes (w .𝓤) (w .H) (w .𝓖 .A) (W w) w64) (moved x .at) _ (refl, all) $ move ! (1 ∷ 0 ∷ 3 ∷ []) $
+    -- [κ; the reader; the width]: the reader's number is another
+    counted ! (moved x .at) all $ move ! (2 ∷ 0 ∷ []) $
     use2 (W w) (‵ (ReaderOf (x .0) .own (moved x) (lowered (moved x) ∷ [])))
     (own-put (w .𝓤) (w .H) (w .𝓖 .A) (W w) (struct (x .0)) (laws (x .0)) 1 (x .3 .0 .journal, (x .3 .0 .at, tt)) (moved x .at) (lowered (x .3 .0))) $
-    ends w further-promise ! x _ (moved x) (refl, refl))))))))
+    move ! (1 ∷ 0 ∷ []) $ ends w further-promise ! x _ (moved x) (tt, (tt, tt)) refl (refl, refl))))))))
 
 pub further-spec : {M : Type 1} → statement M
 unfolding code.routine

@@ -2,9 +2,9 @@
 use native.Mathlib.Omega.{arith}
 use borrow.Author.Needs.{needs}
 use Rattle.forest.specs.Promise.{words-needed}
-use Rattle.journal.proofs.EntryLaws.{work-is-words}
-use Rattle.journal.proofs.work_needed.Statement.{statement}
-use Rattle.journal.proofs.work_needed.Tie as tie
+use Rattle.run.proofs.Needed.{work-is-words}
+use Rattle.run.proofs.work_needed.Statement.{statement}
+use Rattle.run.proofs.work_needed.Tie as tie
 
 words-needed-requires : tie.Need-words-needed-requires
 words-needed-requires c κs = search needs

@@ -1,0 +1,117 @@
+-- `unanswered::run_order_unanswered` hands the command to the step, and drops the reply.
+use native.Mathlib.Omega.{arith}
+use Rattle.commands.proofs.TextAt.{operands-stand}
+use Rattle.forest.specs.Promise.{few-vertices, few-edges}
+use Rattle.reading.specs.Inside.Reads.{meaning}
+use Rattle.run.proofs.Further.{was-done}
+use Rattle.run.proofs.WithoutAnswers.{step-refused-ends, carried-on}
+use borrow.Author.Needs.{needs}
+use Rattle.run.proofs.unanswered.run_order_unanswered.Statement.{statement}
+use Rattle.run.proofs.unanswered.run_order_unanswered.Tie as tie
+
+place-after-requires : tie.Need-place-after-requires
+place-after-requires c κs =
+    let s = c .before .before .before in
+    operands-stand
+    (s .args .journal .now)
+    (s .args .p .place)
+    (s .pre .underway .at-command)
+    (meaning (s .args .order))
+    (s .args .width)
+    (s .pre .reads)
+
+step-requires : tie.Need-step-requires
+step-requires c κs = search needs
+
+enum-known-stepped : tie.Need-enum-known-stepped
+enum-known-stepped c = search needs
+
+refuse-requires : tie.Need-refuse-requires
+refuse-requires c κs = search needs
+
+enum-known-stepped-2 : tie.Need-enum-known-stepped-2
+enum-known-stepped-2 c = search needs
+
+shape-after-requires : tie.Need-shape-after-requires
+shape-after-requires c κs =
+    let at-step = c .before .before .before .before .before in
+    let s = at-step .before .before .before .before .before .before in
+    let holds = s .pre .underway .going .holds in
+    (few-vertices (s .args .p .shape) (s .args .work .now) holds, few-edges (s .args .p .shape) (s .args .work .now) holds)
+
+add-t15 : tie.Need-add-t15
+add-t15 c = search needs
+
+same-length : tie.Need-same-length
+same-length c = search needs
+
+returns : tie.Need-returns
+returns c =
+    let at-stepped = c .before .before in
+    let g = at-stepped .stepped .given in
+    let at-step = at-stepped .before .before .before .before in
+    let s = at-step .before .before .before .before .before .before in
+    step-refused-ends
+    (s .args .p)
+    (s .args .journal .now)
+    (s .args .work .now)
+    (s .pre .underway)
+    (meaning (s .args .order))
+    (s .args .width)
+    (s .pre .reads)
+    (at-step .step .last .0)
+    (c .refuse .result)
+    (g .0 .0)
+    (rw (g .1) at (at-step .step .ensures))
+    (c .refuse .ensures)
+
+same-length-2 : tie.Need-same-length-2
+same-length-2 c = search needs
+
+returns-2 : tie.Need-returns-2
+returns-2 c =
+    let at-shape-after = c .before in
+    let at-stepped2 = at-shape-after .before .before in
+    let g = at-stepped2 .stepped2 .given in
+    let at-step = at-stepped2 .before .before .before .before in
+    let at-place-after = at-step .before .before in
+    let s = at-place-after .before .before .before .before in
+    carried-on
+    (s .args .p)
+    (s .args .journal .now)
+    (s .args .work .now)
+    (s .pre .underway)
+    (meaning (s .args .order))
+    (s .args .width)
+    (s .pre .reads)
+    (at-step .step .last .0)
+    _
+    (g .0 .0)
+    (was-done
+    (s .args .p .shape)
+    (meaning (s .args .order))
+    (s .args .work .now)
+    (at-step .step .last .0)
+    (g .0 .0)
+    (rw (g .1) at (at-step .step .ensures)))
+    (at-shape-after .shape-after .ensures)
+    (omega (arith, at-place-after .place-after .ensures))
+    (omega arith)
+    (omega arith)
+    (omega arith)
+
+pub run-order-unanswered-spec : {M : Type 1} → statement M
+run-order-unanswered-spec =
+    tie.close
+    (tie.spec
+    place-after-requires
+    step-requires
+    enum-known-stepped
+    refuse-requires
+    enum-known-stepped-2
+    shape-after-requires
+    add-t15
+    same-length
+    returns
+    same-length-2
+    returns-2)

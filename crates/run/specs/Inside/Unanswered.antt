@@ -1,0 +1,61 @@
+-- The run without answers in code: what it will come to, and what each command does to it. No answer buffer is lent: what is said of a run that
+-- goes on is said with an empty one.
+use mathlib.Core.List.{List, []}
+use mathlib.Core.Path.{_≡_}
+use Prim.Native.Nat.{ℕ, _<_}
+use lib.ListN.{length, drop}
+use Rattle.graph.specs.Network.{edgeCount}
+use Rattle.naming.specs.State.{State}
+use Rattle.commands.specs.Text.{textFrom}
+use Rattle.commands.specs.Run.{Run, runText}
+use Rattle.commands.specs.Entry.{numberOf}
+use Rattle.commands.specs.Register.{registerRoutes}
+use Rattle.numbers.specs.declared.Limits.{Limits}
+use Rattle.forest.specs.Promise.{stateOf, SameBeyond}
+use Rattle.step.specs.Promise.{capacitiesOf}
+use Rattle.run.specs.declared.Progress.{Progress}
+use Rattle.run.specs.Inside.Runs.{networkAfter, Going, stepsLeft}
+
+-- What is left of a run, as if there were always room: the run of the rest of the journal, from the state that the table holds.
+unfoldable pub allLeft : Progress → List ℕ → List ℕ → Run
+allLeft p journal t =
+    runText
+    registerRoutes
+    (capacitiesOf (p .shape .limits))
+    (stateOf (p .shape) t)
+    (textFrom (p .place) 0 (drop (p .place) journal))
+
+-- What a run comes to: the number of the refusal that ended it, 0 if none did, and the size of its network.
+pub record Ending : Type 0 where
+  pub refusal : ℕ
+  pub vertices : ℕ
+  pub edges : ℕ
+
+-- A run that ends here comes to this.
+unfoldable pub endsHere : Progress → Ending
+endsHere p = record { refusal = p .refusal; vertices = p .shape .vertices; edges = p .shape .edges }
+
+-- And so does one that takes this course from a state on.
+unfoldable pub endsAfter : State → Run → Ending
+endsAfter s run =
+    record { refusal = numberOf (run .refusal); vertices = networkAfter s run .vertices; edges = edgeCount (networkAfter s run) }
+
+-- What the run will come to, where it takes the course that the definition gives it.
+abbrev pub willEnd : Progress → List ℕ → List ℕ → Ending
+willEnd p journal t = endsAfter (stateOf (p .shape) t) (allLeft p journal t)
+
+-- A run that is to come to this end can go on and will, or is refused and has.
+pub data ComesTo (end : Ending) (p : Progress) (journal t : List ℕ) : Type 0 where
+  can-go-on : Going p t [] → willEnd p journal t ≡ end → ComesTo end p journal t
+  has-ended : (p .refusal ≡ 0 → ⊥) → endsHere p ≡ end → ComesTo end p journal t
+
+-- From a table the run has come so far, and is to come to this end.
+pub record Came (limits : Limits) (end : Ending) (p : Progress) (journal old new : List ℕ) : Type 0 where
+  pub same-limits : p .shape .limits ≡ limits
+  pub same-beyond : SameBeyond limits old new
+  pub comes-to : ComesTo end p journal new
+
+-- The run is a command further, and is to come to the end that it was to come to before.
+pub record WentOn (p p′ : Progress) (journal old new : List ℕ) : Type 0 where
+  pub so-far : Came (p .shape .limits) (willEnd p journal old) p′ journal old new
+  pub fewer : stepsLeft (length journal) p′ < stepsLeft (length journal) p
