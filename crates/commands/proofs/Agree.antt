@@ -17,7 +17,7 @@ use Rattle.commands.specs.Exchange.{ringHoldsExchange, withExchange, sha
 use Rattle.commands.specs.Facts.{Demand, differ, noExchange, someDuct, shareDistrict, shareRing, facts, asks, lengthAnswer, demandsOf, addition, recording, after, answerTo, answer}
 use Rattle.commands.specs.Refusal.{Refusal, equalCabinets, alreadyExchange, noDuct, twoDistricts, noSharedRing, refusalNumber, Capacities, cabinetsKnown, spansKnown, met, cause, meets, isFull, lines, refusalOf}
 use Rattle.commands.specs.Text.{Read, Text, followedBy}
-use Rattle.commands.specs.Run.{andThen, acceptedIn, runOver, runText, fitting, runWithin}
+use Rattle.commands.specs.Run.{andThen, acceptedIn, runOver, runText}
 use Rattle.commands.proofs.Steps.{run-refuses, run-accepts}
 
 -- The state with other surveys.
@@ -144,9 +144,3 @@ agree-run choice caps {s} {s′} a (r ∷ later) end = go (agree-run choice caps
 pub agree-text : (choice : Choice) (caps : Capacities) {s s′ : State} → Agree s s′ → (t : Text) → runText choice caps s t ≡ runText choice caps s′ t
 unfolding runText
 agree-text choice caps a t = agree-run choice caps a (t .commands) (t .refusal)
-
--- with whatever room
-pub agree-within : (room : ℕ) (choice : Choice) (caps : Capacities) {s s′ : State} → Agree s s′ → (t : Text)
-    → runWithin room choice caps s t ≡ runWithin room choice caps s′ t
-unfolding runWithin
-agree-within room choice caps a t = ap (λ r. fitting room (r .accepted) (r .refusal)) (agree-text choice caps a t)

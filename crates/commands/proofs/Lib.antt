@@ -1,6 +1,5 @@
 pub mod Computed
-pub mod Anew
-pub mod Shown
+pub mod Afresh
 pub mod Cases
 pub mod ByPlace
 pub mod StateAfter
@@ -58,6 +57,7 @@ pub mod RewrittenEntry
 pub mod RewrittenPlace
 pub mod AnswersTell
 pub mod Answers
+pub mod Known
 pub mod Marks
 pub mod Surveys
 pub mod Agree

@@ -4,7 +4,7 @@ use mathlib.Core.List.{List, [], _∷_, List·Memᴰ, List·Memᴰ·head, List·
 use mathlib.Core.Logic.{_↔_, _⊎_, inl, inr, ⊎-elim}
 use mathlib.Core.Option.{none}
 use mathlib.Core.Path.{_≡_, refl, sym, _∙_, ap, subst}
-use Prim.Native.Nat.{ℕ, suc, _+_, _≤_, _<_}
+use Prim.Native.Nat.{ℕ, suc, _+_, _<_}
 use native.Mathlib.Nat.{zero-add}
 use native.Mathlib.Omega.{arith}
 use lib.Dec.{eqb}
@@ -16,8 +16,9 @@ use Rattle.graph.specs.Groups.{bridgeBlock}
 use Rattle.graph.specs.Route.{Choice}
 use Rattle.graph.proofs.Truth.{false-of-not, false-of-not-true, not-both, and-left, or-left, or-right, or-cases, eqb-eq, eq-eqb, ltb-lt}
 use Rattle.graph.proofs.BridgeBlock.{bridge-block-equivalence}
-use Rattle.naming.specs.Book.{Book, Addition, vertex, edge, neither, emptyBook, enterVertex, enterEdge, feed}
+use Rattle.naming.specs.Book.{Addition, vertex, edge, neither, emptyBook, enterVertex, enterEdge, feed}
 use Rattle.naming.specs.State.{State, emptyState, afterAddition, Recording, recordsNothing, recordsMark, recordsSurvey, marksAfter, afterRecording, marksWith}
+use Rattle.naming.proofs.Book.{vertices-grow}
 use Rattle.naming.proofs.Count.{count-last-out, count-with}
 use Rattle.naming.proofs.Equivalent.{equivalent-of}
 use Rattle.naming.proofs.GroupSum.{groups-add-up}
@@ -27,6 +28,7 @@ use Rattle.commands.specs.Refusal.{Capacities, refusalNumber, cabinetKno
 use Rattle.commands.specs.Entry.{wholeRun, acceptedCommands}
 use Rattle.commands.specs.Marks.{markCommands, exchangesOfRings, ExchangesAddUp}
 use Rattle.commands.proofs.Causes.{not-refused-exactly}
+use Rattle.commands.proofs.Known.{KnownState, empty-known, known-after}
 use Rattle.commands.proofs.RunBooks.{NoneRefused, first-not-refused, whole-run-not-refused}
 
 -- what a command records: a mark of a cabinet if it is 09 of that cabinet, and else none
@@ -119,36 +121,15 @@ new-recording caps s c e = go (recording c) (records-marks c)
     go (recordsMark x) is = new-mark caps s x (subst (λ d. refusalOf caps s d ≡ none) is e)
     go (recordsSurvey r) other = tt
 
--- every exchange is a cabinet of the network
-abbrev MarksKnown : State → Type 0
-MarksKnown s = (x : ℕ) → s .marked x ≡ true → x < s .book .network .vertices
-
 -- the exchanges of the network, counted
 abbrev exchanges : State → ℕ
 exchanges s = count (s .book .network .vertices) (s .marked)
 
--- no command takes a cabinet away
-more-cabinets : (b : Book) (a : Addition) → b .network .vertices ≤ feed b a .network .vertices
-unfolding feed enterVertex addVertex enterEdge addEdge
-more-cabinets b vertex = omega arith
-more-cabinets b (edge e) = omega arith
-more-cabinets b neither = omega arith
-
--- so what is marked stays known
-known-after : (s : State) (a : Addition) (r : Recording) → MarksKnown s → New s r → MarksKnown (afterRecording (afterAddition s a) r)
-unfolding afterRecording afterAddition marksAfter
-known-after s a recordsNothing known new x m = omega (arith, known x m, more-cabinets (s .book) a)
-known-after s a (recordsSurvey r) known new x m = omega (arith, known x m, more-cabinets (s .book) a)
-known-after s a (recordsMark y) known new x m = omega (arith, more-cabinets (s .book) a, below)
-  where
-    below : x < s .book .network .vertices
-    below = ⊎-elim (λ e. rw (eqb-eq x y e) (new .0)) (known x) (or-cases (eqb x y) (s .marked x) m)
-
 -- what is added is no exchange
-added-none : (s : State) (a : Addition) → MarksKnown s → exchanges (afterAddition s a) ≡ exchanges s
+added-none : (s : State) (a : Addition) → KnownState s → exchanges (afterAddition s a) ≡ exchanges s
 unfolding afterAddition feed enterVertex addVertex enterEdge addEdge
 added-none s vertex known =
-    count-last-out (s .book .network .vertices) (s .marked) (false-of-not _ (λ m. not-below (known (s .book .network .vertices) m)))
+    count-last-out (s .book .network .vertices) (s .marked) (false-of-not _ (λ m. not-below (known .marks-known (s .book .network .vertices) m)))
   where
     not-below : {n : ℕ} → n < n → ⊥
     not-below h = omega arith
@@ -169,17 +150,17 @@ new-still : (s : State) (a : Addition) (r : Recording) → New s r → New (afte
 unfolding afterAddition
 new-still s a recordsNothing new = tt
 new-still s a (recordsSurvey r) new = tt
-new-still s a (recordsMark x) new = (omega (arith, new .0, more-cabinets (s .book) a), new .1)
+new-still s a (recordsMark x) new = (omega (arith, new .0, vertices-grow (s .book) a), new .1)
 
 -- after commands that are not refused there are as many exchanges more as commands of 09
-exchanges-after : (caps : Capacities) (s : State) (cs : List Command) → MarksKnown s → NoneRefused caps s cs
+exchanges-after : (caps : Capacities) (s : State) (cs : List Command) → KnownState s → NoneRefused caps s cs
     → exchanges (stateAfter s cs) ≡ exchanges s + markCommands cs
 unfolding stateAfter markCommands
 exchanges-after caps s [] known w = omega arith
 exchanges-after caps s (c ∷ later) known w =
     let new = new-recording caps s c (w .0) in
     let added = afterAddition s (addition c) in
-    exchanges-after caps (after s c) later (unfold after in known-after s (addition c) (recording c) known new) (w .1)
+    exchanges-after caps (after s c) later (known-after caps s c known (w .0)) (w .1)
     ∙ more (eqb (commandByte c) 0x09) (exchanges s) (markCommands later)
     (unfold after in (
     one-exchange-more added c (recording c) (records-marks c) (new-still s (addition c) (recording c) new)
@@ -205,5 +186,5 @@ exchanges-add-up rule choice caps journal workLength answersLength reportLength 
     let cs = acceptedCommands (wholeRun rule choice caps journal workLength answersLength reportLength) in
     let not-refused = whole-run-not-refused rule choice caps journal workLength answersLength reportLength in
     rings-add-up (stateAfter (emptyState rule) (take k cs))
-    ∙ exchanges-after caps (emptyState rule) (take k cs) (λ x m. absurd (false≢true m)) (first-not-refused caps (emptyState rule) cs not-refused k)
+    ∙ exchanges-after caps (emptyState rule) (take k cs) (empty-known rule) (first-not-refused caps (emptyState rule) cs not-refused k)
     ∙ zero-add (markCommands (take k cs))

@@ -1,8 +1,8 @@
 pub mod Truth
 pub mod Below
 pub mod BelowSum
-pub mod Beside
-pub mod BesideLists
+pub mod SideBySide
+pub mod SideBySideLists
 pub mod Labels
 pub mod Chains
 pub mod Gathered

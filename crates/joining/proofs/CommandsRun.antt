@@ -5,11 +5,10 @@ use mathlib.Core.Option.{Option, none, some}
 use mathlib.Core.Path.{_≡_, refl, sym, _∙_, ap}
 use Prim.Native.Nat.{_≤_}
 use native.Mathlib.Omega.{arith}
-use Rattle.graph.specs.Network.{edgeCount, addVertex, addEdge}
+use Rattle.graph.specs.Network.{edgeCount}
 use Rattle.graph.specs.Route.{Choice}
-use Rattle.graph.proofs.Joined.{edge-count-more}
-use Rattle.naming.specs.Book.{Book, Addition, vertex, edge, neither, enterVertex, enterEdge, feed}
 use Rattle.naming.specs.State.{State, afterAddition, afterRecording}
+use Rattle.naming.proofs.Book.{vertices-grow, edges-grow}
 use Rattle.commands.specs.Command.{Command}
 use Rattle.commands.specs.Answer.{Answer}
 use Rattle.commands.specs.Facts.{addition, after, stateAfter, answer}
@@ -99,20 +98,7 @@ unfolding answersFrom stateAfter
 answers-behind choice s [] ds = refl
 answers-behind choice s (c ∷ cs) ds = ap (λ (l : List Answer). answer choice s c ∷ l) (answers-behind choice (after s c) cs ds)
 
--- no cabinet and no span is lost by what is added
-pub vertices-grow : (b : Book) (a : Addition) → b .network .vertices ≤ feed b a .network .vertices
-unfolding feed
-vertices-grow b vertex = unfold enterVertex addVertex in omega arith
-vertices-grow b (edge e) = unfold enterEdge addEdge in omega arith
-vertices-grow b neither = omega arith
-
-pub edges-grow : (b : Book) (a : Addition) → edgeCount (b .network) ≤ edgeCount (feed b a .network)
-unfolding feed
-edges-grow b vertex = unfold enterVertex addVertex edgeCount in omega arith
-edges-grow b (edge e) = unfold enterEdge in omega (arith, edge-count-more (b .network) e)
-edges-grow b neither = omega arith
-
--- so it is after any number of commands
+-- no cabinet and no span is lost by any number of commands
 pub vertices-grow-all : (s : State) (cs : List Command) → s .book .network .vertices ≤ stateAfter s cs .book .network .vertices
 unfolding stateAfter after afterAddition afterRecording
 vertices-grow-all s [] = omega arith

@@ -14,6 +14,7 @@ use Rattle.commands.specs.Join.{Seam, joinCapacities, isRefused, countsIn, good
 use Rattle.commands.proofs.Table.{given-exactly, none-exactly}
 use Rattle.commands.proofs.Causes.{not-is-true, not-is-false}
 use Rattle.commands.proofs.Returned.{number-exactly, zero-exactly}
+use Rattle.joining.proofs.BadSeams.{BadAmong, bad-among-exactly}
 
 -- the number is that of the refusal, if there is one
 pub number-of-joining : (o : Option Refusal) (result : List ℕ) → joiningUnless o result .number ≡ numberOf o
@@ -66,9 +67,14 @@ module _ (workLength room : ℕ) (first second : List ℕ) (seams : List Seam) w
 
   -- 18: neither of these, and a seam names a cabinet that its journal lacks, or duct 0
   pub eighteen-exactly : (joined .number ≡ 18)
-      ↔ (LongTable × (BothAccepted × (allIn (goodSeam (countsIn first .cabinets) (countsIn second .cabinets)) seams ≡ false)))
+      ↔ (LongTable × (BothAccepted × BadAmong (countsIn first .cabinets) (countsIn second .cabinets) seams))
   unfolding joinLines refusalNumber
-  eighteen-exactly = Iff·trans (given-by badSeam) (simp not-is-true at (given-exactly 2 badSeam lines refl))
+  eighteen-exactly =
+      let exactly = Iff·trans (given-by badSeam) (simp not-is-true at (given-exactly 2 badSeam lines refl)) in
+      let bad = bad-among-exactly (countsIn first .cabinets) (countsIn second .cabinets) seams in (
+        λ e. let w = exactly .0 e in (w .0, (w .1 .0, bad .0 (w .1 .1))),
+        λ w. exactly .1 (w .0, (w .1 .0, bad .1 (w .1 .1))),
+      )
 
   -- 19: none of these, and the result exceeds 65,536 bytes or the output buffer
   pub nineteen-exactly : (joined .number ≡ 19) ↔ (LongTable × (BothAccepted × (GoodSeams × TooLong)))

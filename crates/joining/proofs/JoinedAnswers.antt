@@ -14,7 +14,7 @@ use Rattle.graph.specs.Lists.{allIn}
 use Rattle.graph.specs.Network.{Rule, edgeCount}
 use Rattle.graph.specs.Route.{Choice, Serves}
 use Rattle.graph.proofs.Truth.{true-or-false, false-of-not, not-both, and-left, and-right, and-both, or-neither-left, or-neither-right, leb-le, le-leb}
-use Rattle.graph.proofs.Beside.{Raises, one-duct-raises}
+use Rattle.graph.proofs.SideBySide.{Raises, one-duct-raises}
 use Rattle.naming.specs.Book.{emptyBook}
 use Rattle.naming.specs.State.{State, emptyState}
 use Rattle.commands.specs.Bytes.{allBytes}
@@ -35,6 +35,7 @@ use Rattle.commands.proofs.Behind.{text-behind}
 use Rattle.commands.proofs.NameList.{answersFrom}
 use Rattle.commands.proofs.Decode.{answersIn}
 use Rattle.commands.proofs.RunBooks.{NoneRefused, Answered, Sound, empty-sound, sound-after-all, steps-answered, answers-of-run}
+use Rattle.commands.proofs.Known.{KnownState, empty-known, known-after-all}
 use Rattle.commands.proofs.Place.{whole-run-steps}
 use Rattle.commands.proofs.WholeRun.{register-mates}
 use Rattle.commands.proofs.Room.{all-fit-whole}
@@ -42,7 +43,7 @@ use Rattle.commands.proofs.Start.{ran-exactly}
 use Rattle.commands.proofs.Returned.{nought-exactly}
 use Rattle.commands.proofs.ReadBack.{accepted, read-back}
 use Rattle.joining.proofs.CommandsRun.{orElse, refusalIn, run-refusal, refusal-behind, none-in, accepted-all, answers-behind}
-use Rattle.joining.proofs.BesideStates.{KnownState, empty-known, known-after, BesideState, BesideSound, beside-first, beside-after}
+use Rattle.joining.proofs.BesideStates.{BesideState, BesideSound, beside-first, beside-after}
 use Rattle.joining.proofs.RaisedRefusals.{vertices-are, edges-are}
 use Rattle.joining.proofs.RaisedAnswers.{told-raised}
 use Rattle.joining.proofs.JoinedRun.{within, sound-beside-after, sound-beside-all, beside-all, second-refusal, seams-refusal, edges-after-seam}
@@ -58,12 +59,6 @@ start = emptyState registerRule
 pub register-raises : Raises registerRule
 unfolding registerRule
 register-raises = one-duct-raises
-
--- the marks and surveys of a run are of what it knows
-known-after-all : (caps : Capacities) (s : State) → KnownState s → (cs : List Command) → NoneRefused caps s cs → KnownState (stateAfter s cs)
-unfolding stateAfter
-known-after-all caps s w [] n = w
-known-after-all caps s w (c ∷ cs) n = known-after-all caps (after s c) (known-after caps s c w (n .0)) cs (n .1)
 
 -- A journal that is accepted alone: it is no longer than a journal may be and read to its end, and none of its commands is refused.
 pub record Alone (journal : List ℕ) : Type 0 where
@@ -143,14 +138,14 @@ answers-raised choice own one serves {s} {s′} w q (a ∷ l) n = (
 )
 
 -- the answers to the seams
-seams-answered : (choice : Choice) (by : Counts) (others : ℕ) (t : State) (xs : List Seam)
+seams-answered : (choice : Choice) (by : Counts) (t : State) (xs : List Seam)
     → SeamAnswers (edgeCount (t .book .network)) xs (answersFrom choice t (map (seamCommand by) xs))
 unfolding answersFrom answer answerTo facts seamCommand spanAnswer
-seams-answered choice by others t [] = tt
-seams-answered choice by others t (x ∷ xs) = (
+seams-answered choice by t [] = tt
+seams-answered choice by t (x ∷ xs) = (
   record { mesh-name = _; told = _; is-added = refl },
   subst (λ (n : ℕ). SeamAnswers n xs (answersFrom choice (after t (seamCommand by x)) (map (seamCommand by) xs)))
-      (edges-after-seam caps by others t x) (seams-answered choice by others (after t (seamCommand by x)) xs),
+      (edges-after-seam by t x) (seams-answered choice by (after t (seamCommand by x)) xs),
 )
 
 -- networks that fit, and whether so many spans more do
@@ -364,7 +359,7 @@ module _ {first second : List ℕ} {xs : List Seam} (w : Joinable first second x
   unfolding countsIn countsOf
   seam-answers choice =
       subst (λ (n : ℕ). SeamAnswers n xs (answersFrom choice t seams)) (edges-are sound-end beside-end)
-      (seams-answered choice by (countsIn second .cabinets) t xs)
+      (seams-answered choice by t xs)
 
   -- the result's bytes are bytes
   result-bytes : allBytes (joinedBytes first second xs) ≡ true

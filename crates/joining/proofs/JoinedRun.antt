@@ -15,7 +15,7 @@ use Rattle.graph.proofs.Truth.{true-or-false, and-left, and-right, and-both, or
 use Rattle.graph.proofs.Joined.{edge-count-more}
 use Rattle.naming.specs.Book.{Addition, vertex, edge, neither, enterVertex, enterEdge, feed}
 use Rattle.naming.specs.State.{State, afterAddition, afterRecording}
-use Rattle.naming.proofs.BesideBooks.{raiseAddition}
+use Rattle.naming.proofs.SideBySideBooks.{raiseAddition}
 use Rattle.commands.specs.Command.{Command, addDuctSpan}
 use Rattle.commands.specs.Facts.{differ, someDuct, facts, operandsOf, demandsOf, additionOf, addition, after, stateAfter}
 use Rattle.commands.specs.Refusal.{Refusal, full, refusalNumber, Capacities, cabinetKnown, spanKnown, cabinetsKnown, spansKnown, met, cause, meets, fullFor, isFull, refusalOf}
@@ -184,6 +184,16 @@ module _ (caps : Capacities) {t : State} {x y d : ℕ} (good : GoodSpan t x y d)
       full-exactly caps t (addDuctSpan x y d) .1
       (known, (span-free, (all-met _, (all-met _, (all-met _, unfold isFull fullFor addition additionOf facts in no-room)))))
 
+-- after a seam there are as many cabinets and a span more
+vertices-after-seam : (by : Counts) (t : State) (x : Seam) → after t (seamCommand by x) .book .network .vertices ≡ t .book .network .vertices
+unfolding after afterAddition afterRecording seamCommand addition additionOf facts feed enterEdge addEdge
+vertices-after-seam by t x = refl
+
+pub edges-after-seam : (by : Counts) (t : State) (x : Seam)
+    → edgeCount (after t (seamCommand by x) .book .network) ≡ suc (edgeCount (t .book .network))
+unfolding after afterAddition afterRecording seamCommand addition additionOf facts feed enterEdge
+edges-after-seam by t x = edge-count-more (t .book .network) _
+
 module _ (caps : Capacities) (by : Counts) (others : ℕ) where
   -- a good seam is such a span where all cabinets of both are known
   good-span : (t : State) → t .book .network .vertices ≡ by .cabinets + others → (x : Seam) → goodSeam (by .cabinets) others x ≡ true
@@ -200,15 +210,6 @@ module _ (caps : Capacities) (by : Counts) (others : ℕ) where
         some-duct = false-of-not-true (eqb (x .duct) 0) (and-right (ltb (x .first) (by .cabinets) && ltb (x .second) others) _ e);
       }
 
-  -- after a seam there are as many cabinets and a span more
-  vertices-after-seam : (t : State) (x : Seam) → after t (seamCommand by x) .book .network .vertices ≡ t .book .network .vertices
-  unfolding after afterAddition afterRecording seamCommand addition additionOf facts feed enterEdge addEdge
-  vertices-after-seam t x = refl
-
-  pub edges-after-seam : (t : State) (x : Seam) → edgeCount (after t (seamCommand by x) .book .network) ≡ suc (edgeCount (t .book .network))
-  unfolding after afterAddition afterRecording seamCommand addition additionOf facts feed enterEdge
-  edges-after-seam t x = edge-count-more (t .book .network) _
-
   -- The seams' commands behind both networks.
   pub seams-refusal : (t : State) → t .book .network .vertices ≡ by .cabinets + others → edgeCount (t .book .network) ≤ caps .spans
       → (xs : List Seam) → allIn (goodSeam (by .cabinets) others) xs ≡ true
@@ -217,7 +218,7 @@ module _ (caps : Capacities) (by : Counts) (others : ℕ) where
   seams-refusal t v h [] good = unfold refusalIn in rw (le-leb (edgeCount (t .book .network) + 0) (caps .spans) (omega (arith, h)))
   seams-refusal t v h (x ∷ xs) good =
       go (true-or-false (leb (caps .spans) (edgeCount (t .book .network))))
-      (λ r. seams-refusal (after t (seamCommand by x)) (vertices-after-seam t x ∙ v) r xs (and-right (goodSeam (by .cabinets) others x) _ good))
+      (λ r. seams-refusal (after t (seamCommand by x)) (vertices-after-seam by t x ∙ v) r xs (and-right (goodSeam (by .cabinets) others x) _ good))
     where
       span-is : GoodSpan t (x .first) (by .cabinets + x .second) (x .duct)
       span-is = good-span t v x (and-left (goodSeam (by .cabinets) others x) _ good)
@@ -238,5 +239,5 @@ module _ (caps : Capacities) (by : Counts) (others : ℕ) where
           ∙ sym (ap (λ b. cond b none (some full)) (gt-leb (n + suc (length xs)) (caps .spans) (omega (arith, leb-le (caps .spans) n f))))
       go (inr f) ih =
           refusal-goes-on caps t (seamCommand by x) (map (seamCommand by) xs) none (unfold seamCommand in span-accepted caps span-is f)
-          ∙ ih (omega (arith, edges-after-seam t x, leb-gt (caps .spans) n f))
-          ∙ ap (λ (j : ℕ). cond (leb j (caps .spans)) none (some full)) (omega (arith, edges-after-seam t x))
+          ∙ ih (omega (arith, edges-after-seam by t x, leb-gt (caps .spans) n f))
+          ∙ ap (λ (j : ℕ). cond (leb j (caps .spans)) none (some full)) (omega (arith, edges-after-seam by t x))

@@ -8,6 +8,7 @@ pub mod JoinedText
 pub mod JoinedAnswers
 pub mod JoinedSeen
 pub mod JoinedRuns
+pub mod BadSeams
 pub mod JoinExactly
 pub mod SeamSteps
 pub mod SeamPromise

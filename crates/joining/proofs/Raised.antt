@@ -4,9 +4,9 @@ use mathlib.Core.Path.{_≡_, refl}
 use Prim.Native.Nat.{ℕ, _+_}
 use Rattle.naming.specs.Survey.{Survey}
 use Rattle.naming.specs.State.{Recording, recordsNothing, recordsMark, recordsSurvey}
-use Rattle.naming.proofs.BesideBooks.{raiseAddition}
+use Rattle.naming.proofs.SideBySideBooks.{raiseAddition}
 use Rattle.graph.specs.Network.{edgeBetween, edgeInDuct}
-use Rattle.graph.proofs.Beside.{raiseEdge}
+use Rattle.graph.proofs.SideBySide.{raiseEdge}
 use Rattle.commands.specs.Command.{Command, addCabinet, addSpan, districtName, ringName, sharedMesh, soleSpans, cutCabinets, isSole, markExchange, holdsExchange, addDuctSpan, routesBetween, recordLength, spanLength, exchangeShare, forms, form, commandByte}
 use Rattle.commands.specs.Facts.{Demand, differ, noExchange, someDuct, shareDistrict, shareRing, facts, asks, operandsOf, demandsOf, additionOf, addition, recordingOf, recording}
 use Rattle.commands.specs.Surveys.{numberIn}

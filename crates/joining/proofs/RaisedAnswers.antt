@@ -22,16 +22,16 @@ use Rattle.graph.proofs.Joined.{edge-count-more}
 use Rattle.graph.proofs.BelowSum.{raised, any-front, any-behind, count-sum}
 use Rattle.graph.proofs.BridgeBlock.{bridge-block-swap}
 use Rattle.graph.proofs.SharedBlock.{shared-block-some}
-use Rattle.graph.proofs.Beside.{raiseEdge, beside, Beside, eqb-raised, count-beside, bridge-block-apart, bridge-block-of-first, bridge-block-of-second, beside-proper}
-use Rattle.graph.proofs.BesideLists.{bridges-of-second, cuts-of-second, bridge-of-second, shared-block-of-second, ServeBack, serve-back}
+use Rattle.graph.proofs.SideBySide.{raiseEdge, beside, Beside, eqb-raised, count-beside, bridge-block-apart, bridge-block-of-first, bridge-block-of-second, beside-proper}
+use Rattle.graph.proofs.SideBySideLists.{bridges-of-second, cuts-of-second, bridge-of-second, shared-block-of-second, ServeBack, serve-back}
 use Rattle.graph.proofs.RoutesImage.{routesImage}
 use Rattle.naming.specs.Rename.{nameOf, Change, changesBetween}
 use Rattle.naming.specs.Book.{Book, Addition, edge, enterEdge, feed}
 use Rattle.naming.specs.Lookup.{Group, componentOf, bridgeBlockOf}
 use Rattle.naming.specs.Survey.{Survey, surveysOf, isLatest, firstLatest, holding}
 use Rattle.naming.specs.State.{State, afterAddition, afterRecording}
-use Rattle.naming.proofs.BesideNames.{namesBehind, name-of-second, group-of-second, raiseChange, changes-beside}
-use Rattle.naming.proofs.BesideBooks.{besideBook, components-beside, bridge-blocks-beside, networks, feed-edge-beside}
+use Rattle.naming.proofs.SideBySideNames.{namesBehind, name-of-second, group-of-second, raiseChange, changes-beside}
+use Rattle.naming.proofs.SideBySideBooks.{besideBook, components-beside, bridge-blocks-beside, networks, feed-edge-beside}
 use Rattle.commands.specs.Field.{Kind, district, ring, mesh, Field, cabinet, span, name, number, byte}
 use Rattle.commands.specs.Command.{Command, addCabinet, addSpan, districtName, ringName, sharedMesh, soleSpans, cutCabinets, isSole, markExchange, holdsExchange, addDuctSpan, routesBetween, recordLength, spanLength, exchangeShare, forms, form, commandByte}
 use Rattle.commands.specs.Answer.{kindByte, Notice, noticeFields, noticesFields, itemField, changeNotice, changes, notices, Plain, districtIs, ringIs, soleSpansAre, cutCabinetsAre, soleIs, exchangeHeld, shareIs, spanAdded, plain, plainFields, answerFields}

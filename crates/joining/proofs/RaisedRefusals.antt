@@ -11,10 +11,10 @@ use Rattle.graph.specs.Lists.{allIn}
 use Rattle.graph.specs.Network.{Network, MateRule, edgeCount}
 use Rattle.graph.specs.Groups.{component, bridgeBlock}
 use Rattle.graph.proofs.Truth.{bool-ext, ltb-lt, lt-ltb}
-use Rattle.graph.proofs.Beside.{beside, Beside, eqb-raised, count-beside, component-of-second, bridge-block-of-second}
+use Rattle.graph.proofs.SideBySide.{beside, Beside, eqb-raised, count-beside, component-of-second, bridge-block-of-second}
 use Rattle.naming.specs.Book.{Book}
 use Rattle.naming.specs.State.{State}
-use Rattle.naming.proofs.BesideBooks.{besideBook, networks}
+use Rattle.naming.proofs.SideBySideBooks.{besideBook, networks}
 use Rattle.commands.specs.Field.{Field, cabinet, span, name, number, byte}
 use Rattle.commands.specs.Command.{Command}
 use Rattle.commands.specs.Facts.{Demand, differ, noExchange, someDuct, shareDistrict, shareRing, facts, operandsOf, demandsOf}

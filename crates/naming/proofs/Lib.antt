@@ -16,9 +16,9 @@ pub mod Held
 pub mod Surveys
 pub mod SurveyOrder
 pub mod Agree
-pub mod BesideNames
+pub mod SideBySideNames
 pub mod Book
-pub mod BesideBooks
+pub mod SideBySideBooks
 pub mod BridgeNames
 pub mod AlikeBooks
 pub mod Lookup

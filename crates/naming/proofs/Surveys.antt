@@ -123,7 +123,7 @@ kept-latest e o earlier (r ∷ later) l =
     go with-it without (inr q) = rw q without
 
 -- the records of an edge in two lists, one behind the other
-surveys-together : (e : ℕ) (l k : List Survey) → surveysOf e (l ++ k) ≡ surveysOf e l ++ surveysOf e k
+pub surveys-together : (e : ℕ) (l k : List Survey) → surveysOf e (l ++ k) ≡ surveysOf e l ++ surveysOf e k
 unfolding surveysOf
 surveys-together e [] k = refl
 surveys-together e (r ∷ l) k = go (surveys-together e l k) (eqb (r .measured) e)

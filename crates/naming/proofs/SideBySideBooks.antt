@@ -12,10 +12,10 @@ use Rattle.graph.proofs.Truth.{bool-ext}
 use Rattle.graph.proofs.Mates.{component-swap}
 use Rattle.graph.proofs.BridgeBlock.{bridge-block-swap}
 use Rattle.graph.proofs.Block.{block-refl, block-swap, block-below}
-use Rattle.graph.proofs.Beside.{raiseEdge, beside, Raises, Beside, count-beside, vertex-beside, edge-beside, component-apart, bridge-block-apart, block-apart, component-of-first, bridge-block-of-first, block-of-first, component-of-second, bridge-block-of-second, block-of-second}
+use Rattle.graph.proofs.SideBySide.{raiseEdge, beside, Raises, Beside, count-beside, vertex-beside, edge-beside, component-apart, bridge-block-apart, block-apart, component-of-first, bridge-block-of-first, block-of-first, component-of-second, bridge-block-of-second, block-of-second}
 use Rattle.naming.specs.Rename.{rename}
 use Rattle.naming.specs.Book.{Book, Addition, vertex, edge, neither, enterVertex, enterEdge, feed}
-use Rattle.naming.proofs.BesideNames.{namesBehind, BesideGroups, rename-beside}
+use Rattle.naming.proofs.SideBySideNames.{namesBehind, BesideGroups, rename-beside}
 use Rattle.naming.proofs.Book.{BookLaws}
 
 -- Book b behind book `one`: its vertices and edges, and their names, are raised.

@@ -26,7 +26,7 @@ use Rattle.graph.proofs.Image.{EndsOf, image-ends, vertex-loss-image}
 use Rattle.graph.proofs.ImageBlocks.{bridge-image, on-block-image}
 use Rattle.graph.proofs.ImageLists.{imageSteps, visited-image, bridges-between-image, cuts-between-image}
 use Rattle.graph.proofs.RoutesImage.{routesImage}
-use Rattle.graph.proofs.Beside.{beside, Beside, count-beside, first-away, mates-of-second, at-second, second-image, beside-proper, rule-of-both, rule-of-second}
+use Rattle.graph.proofs.SideBySide.{beside, Beside, count-beside, first-away, mates-of-second, at-second, second-image, beside-proper, rule-of-both, rule-of-second}
 
 -- the edges of the steps along edges are these
 along-back : (g : Network) (a : ℕ) (ss : List ℕ) → map (λ q. q .along) (stepsAlong g a ss) ≡ ss

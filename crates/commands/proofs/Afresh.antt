@@ -1,43 +1,55 @@
--- The marked histories, those with exchanges, with ducts, with routes, with survey lengths and with sizes, the calls of the run's entry and
--- the forecasts hold of the definitions: each table is computed at once.
+-- The marked histories, those with exchanges, with ducts, with routes, with survey lengths and with sizes, the calls of the run's entry, the
+-- forecasts, the rewritings and the joins hold of the definitions: each table is computed afresh, at once. (By its name this file comes before
+-- all laws, so that a wrong definition is refused here first.)
 use mathlib.Core.List.{List, [], _∷_, _++_, map}
+use mathlib.Core.Logic.{_≢_}
 use mathlib.Core.Path.{_≡_, refl, ap}
-use lib.ListN.{replicate}
+use native.Mathlib.Omega.{arith}
+use lib.ListN.{length, replicate}
 use Rattle.graph.specs.Lists
 use Rattle.graph.specs.Cycle
 use Rattle.graph.specs.Travel
 use Rattle.graph.specs.Route
-use Rattle.commands.specs.Register.{program}
+use Rattle.commands.specs.Answer.{answerBytes}
+use Rattle.commands.specs.Register.{program, programReport}
 use Rattle.commands.specs.Forecast.{forecast}
 use Rattle.commands.specs.Histories.{History, EachShown, histories}
 use Rattle.commands.specs.Histories
 use Rattle.commands.specs.ExchangeHistories
 use Rattle.commands.specs.ExchangeHistories.{exchangeHistories}
+use Rattle.commands.specs.DuctHistories
 use Rattle.commands.specs.DuctHistories.{ductHistories}
 use Rattle.commands.specs.RouteHistories
 use Rattle.commands.specs.RouteHistories.{routeHistories, offers, judged}
 use Rattle.commands.specs.SurveyHistories
 use Rattle.commands.specs.SurveyHistories.{surveyHistories}
+use Rattle.commands.specs.SizeHistories
 use Rattle.commands.specs.SizeHistories.{sizeHistories}
-use Rattle.commands.specs.Calls.{sevens, call, atStart, startCalls, stopCalls, cabinetAnswers, acceptedCalls, entered, foretold, forecasts}
+use Rattle.commands.specs.RewriteHistories
+use Rattle.commands.specs.RewriteHistories.{readAnew, doubledSpan, oldReadings}
+use Rattle.commands.specs.JoinHistories
+use Rattle.commands.specs.JoinHistories.{joiningOf, joins, joinedOf, joinedHistories, answersAlone, answersBehind, raisedBytes}
+use Rattle.commands.specs.Calls.{sevens, call, atStart, startCalls, stopCalls, cabinetAnswers, acceptedCalls, entered, foretold, forecasts, rewriteCall, rewritingOf, spans02, spans0B, rewritings}
 use Rattle.commands.proofs.Computed.{computed}
-use Rattle.commands.proofs.Anew.{made, duct-histories-made, size-histories-made}
+
+-- the history that the program makes of the same input
+abbrev made : History → History
+made h = record { input = h .input; output = program (h .input); report = programReport (h .input) }
 
 -- of the whole table the program makes the table
 histories-made : map made histories ≡ histories
 unfolding computed Histories.output Histories.accepted Histories.refusedWith Histories.notice Histories.group Histories.emptyJournal Histories.triangle Histories.oneSpan Histories.twoSpans Histories.chain Histories.twoMeshes Histories.twoRings Histories.joiningAnswers Histories.twoRingsJoined Histories.twoRingsJoinedInDucts Histories.fromItselfToItself Histories.spanToItself Histories.spanToNowhere Histories.acrossDistricts Histories.cutShort Histories.histories
 histories-made = refl
 
-each-shown : (hs : List History) → map made hs ≡ hs → EachShown hs
-each-shown [] e = tt
-each-shown (h ∷ hs) e =
-    let one : made h ≡ h = cc in
-    (record { output-is = ap (λ k. k .output) one; report-is = ap (λ k. k .report) one }, each-shown hs (cc))
-
--- and of the one with exchanges too
+-- and of the one with exchanges
 exchange-histories-made : map made exchangeHistories ≡ exchangeHistories
 unfolding computed Histories.output Histories.accepted Histories.refusedWith Histories.notice ExchangeHistories.exchangeInOneOfTwoRings ExchangeHistories.shareOfCabinets ExchangeHistories.sharesInThirds ExchangeHistories.markedTwice ExchangeHistories.markedNowhere ExchangeHistories.askedNowhere ExchangeHistories.exchangeHistories
 exchange-histories-made = refl
+
+-- and of the one with ducts
+duct-histories-made : map made ductHistories ≡ ductHistories
+unfolding computed Histories.output Histories.accepted Histories.refusedWith Histories.notice Histories.group DuctHistories.twoInOneDuct DuctHistories.twoInTwoDucts DuctHistories.besideADuct DuctHistories.loopAroundADuct DuctHistories.measuredInSpans DuctHistories.oneNumberAtTwoPairs DuctHistories.greatestDuct DuctHistories.twoWithNoDuctTold DuctHistories.loopWithNoDuctTold DuctHistories.inNoDuct DuctHistories.ductHistories
+duct-histories-made = refl
 
 -- and of the one with routes
 route-histories-made : map made routeHistories ≡ routeHistories
@@ -48,6 +60,18 @@ route-histories-made = refl
 survey-histories-made : map made surveyHistories ≡ surveyHistories
 unfolding computed Histories.output Histories.accepted Histories.refusedWith Histories.notice SurveyHistories.oneSpan SurveyHistories.oneSpanAnswers SurveyHistories.measuredOnce SurveyHistories.earlierAfterLater SurveyHistories.oneDayTwice SurveyHistories.dayNought SurveyHistories.lastDay SurveyHistories.eachSpanItsOwn SurveyHistories.measuredInADuct SurveyHistories.measuredNowhere SurveyHistories.lengthNowhere SurveyHistories.surveyHistories
 survey-histories-made = refl
+
+-- and of the one with sizes
+size-histories-made : map made sizeHistories ≡ sizeHistories
+unfolding computed Histories.output Histories.accepted Histories.notice Histories.group SizeHistories.alone SizeHistories.districtGrows SizeHistories.ringsOfOneDistrict SizeHistories.sizeHistories
+size-histories-made = refl
+
+-- so each of a table holds
+each-shown : (hs : List History) → map made hs ≡ hs → EachShown hs
+each-shown [] e = tt
+each-shown (h ∷ hs) e =
+    let one : made h ≡ h = cc in
+    (record { output-is = ap (λ k. k .output) one; report-is = ap (λ k. k .report) one }, each-shown hs (cc))
 
 -- every marked history holds of the definitions
 pub histories-shown : EachShown histories
@@ -97,3 +121,33 @@ long-input-shown = refl
 pub forecasts-shown : map (λ f. forecast (f .journal)) forecasts ≡ map (λ f. f .forecast) forecasts
 unfolding computed foretold forecasts
 forecasts-shown = refl
+
+-- So each journal is rewritten.
+pub rewritings-shown : map rewritingOf rewritings ≡ map (λ c. c .rewriting) rewritings
+unfolding computed rewriteCall rewritingOf spans02 spans0B rewritings
+rewritings-shown = refl
+
+-- So journals of the old reading are rewritten, and answered before and after.
+pub old-readings-shown : map (λ h. readAnew (h .journal)) oldReadings ≡ oldReadings
+unfolding computed Histories.output Histories.notice Histories.group RewriteHistories.answersAndNumber RewriteHistories.answeredUnder RewriteHistories.readAnew RewriteHistories.inOneRing RewriteHistories.doubledSpan RewriteHistories.routesAndRefusal RewriteHistories.doubledRoutes RewriteHistories.oldReadings
+old-readings-shown = refl
+
+-- And the first would be answered otherwise as it stands.
+pub rewriting-needed : doubledSpan .before ≢ doubledSpan .otherwise
+unfolding computed Histories.output Histories.notice Histories.group RewriteHistories.inOneRing RewriteHistories.doubledSpan
+rewriting-needed e = omega (arith, ap length e)
+
+-- So journals are joined.
+pub joins-shown : map joiningOf joins ≡ map (λ c. c .joining) joins
+unfolding computed JoinHistories.seam JoinHistories.joinCall JoinHistories.joiningOf JoinHistories.pair JoinHistories.joins
+joins-shown = refl
+
+-- And so results are answered.
+pub joined-histories-shown : map joinedOf joinedHistories ≡ joinedHistories
+unfolding computed Histories.output Histories.notice Histories.group JoinHistories.seam JoinHistories.answersOf JoinHistories.joinedOf JoinHistories.questionsBehind JoinHistories.ringsBehind JoinHistories.joinedHistories
+joined-histories-shown = refl
+
+-- And so answers are raised.
+pub raised-answers-shown : map raisedBytes answersAlone ≡ map answerBytes answersBehind
+unfolding computed Histories.notice Histories.group JoinHistories.answersAlone JoinHistories.answersBehind JoinHistories.raisedBytes
+raised-answers-shown = refl

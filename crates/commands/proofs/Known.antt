@@ -1,0 +1,92 @@
+-- What a state knows: only its own cabinets are marked, and only its own spans measured.
+use mathlib.Core.Bool.{true}
+use mathlib.Core.List.{List, [], _∷_, append-nil}
+use mathlib.Core.Logic.{⊎-elim}
+use mathlib.Core.Option.{none}
+use mathlib.Core.Path.{_≡_, refl, _∙_}
+use Prim.Native.Nat.{ℕ, _<_, _≤_}
+use native.Mathlib.Omega.{arith}
+use lib.Dec.{eqb}
+use Rattle.graph.specs.Lists.{allIn}
+use Rattle.graph.specs.Network.{Rule, edgeCount}
+use Rattle.graph.proofs.Truth.{and-left, or-cases, not-both, eqb-eq, ne-eqb, ltb-lt}
+use Rattle.naming.specs.Survey.{surveysOf}
+use Rattle.naming.specs.State.{State, emptyState, afterAddition, Recording, recordsNothing, recordsMark, recordsSurvey, marksAfter, surveysAfter, afterRecording}
+use Rattle.naming.proofs.Surveys.{surveys-together}
+use Rattle.naming.proofs.Book.{vertices-grow, edges-grow}
+use Rattle.commands.specs.Command.{Command, addCabinet, addSpan, districtName, ringName, sharedMesh, soleSpans, cutCabinets, isSole, markExchange, holdsExchange, addDuctSpan, routesBetween, recordLength, spanLength, exchangeShare}
+use Rattle.commands.specs.Facts.{facts, asks, operandsOf, addition, recordingOf, recording, after, stateAfter}
+use Rattle.commands.specs.Refusal.{Capacities, cabinetKnown, spanKnown, cabinetsKnown, spansKnown, refusalOf}
+use Rattle.commands.proofs.Causes.{not-refused-exactly}
+use Rattle.commands.proofs.RunBooks.{NoneRefused}
+
+-- Every exchange is a cabinet of the network, and every record is of one of its spans.
+pub record KnownState (s : State) : Type 0 where
+  pub marks-known : (x : ℕ) → s .marked x ≡ true → x < s .book .network .vertices
+  pub surveys-known : (x : ℕ) → edgeCount (s .book .network) ≤ x → surveysOf x (s .surveys) ≡ []
+
+-- what a command records is of what the state knows
+abbrev RecordsKnown : State → Recording → Type 0
+RecordsKnown s recordsNothing = Unit
+RecordsKnown s (recordsMark x) = x < s .book .network .vertices
+RecordsKnown s (recordsSurvey r) = r .measured < edgeCount (s .book .network)
+
+-- so it is where its cabinets and spans are known
+records-known : (s : State) (c : Command) → cabinetsKnown s c ≡ true → spansKnown s c ≡ true → RecordsKnown s (recording c)
+unfolding recording recordingOf facts asks cabinetsKnown spansKnown operandsOf allIn cabinetKnown spanKnown
+records-known s addCabinet cabinets spans = tt
+records-known s (addSpan a b) cabinets spans = tt
+records-known s (districtName a) cabinets spans = tt
+records-known s (ringName a) cabinets spans = tt
+records-known s (sharedMesh a b) cabinets spans = tt
+records-known s (soleSpans a b) cabinets spans = tt
+records-known s (cutCabinets a b) cabinets spans = tt
+records-known s (isSole x) cabinets spans = tt
+records-known s (markExchange a) cabinets spans = ltb-lt _ _ (and-left _ true cabinets)
+records-known s (holdsExchange a) cabinets spans = tt
+records-known s (addDuctSpan a b d) cabinets spans = tt
+records-known s (routesBetween a b) cabinets spans = tt
+records-known s (recordLength x day metres) cabinets spans = ltb-lt _ _ (and-left _ true spans)
+records-known s (spanLength x) cabinets spans = tt
+records-known s exchangeShare cabinets spans = tt
+
+-- before the first command
+pub empty-known : (rule : Rule) → KnownState (emptyState rule)
+unfolding emptyState surveysOf
+empty-known rule = record { marks-known = λ x e. absurd (not-both e refl); surveys-known = λ x h. refl }
+
+-- what is recorded of known ones keeps it so
+marks-still-known : (s : State) (r : Recording) → RecordsKnown s r → KnownState s → (x : ℕ) → marksAfter (s .marked) r x ≡ true
+    → x < s .book .network .vertices
+unfolding marksAfter
+marks-still-known s recordsNothing k w x e = w .marks-known x e
+marks-still-known s (recordsMark y) k w x e =
+    ⊎-elim (λ (q : eqb x y ≡ true). rw (eqb-eq x y q) k) (w .marks-known x) (or-cases (eqb x y) (s .marked x) e)
+marks-still-known s (recordsSurvey r) k w x e = w .marks-known x e
+
+surveys-still-known : (s : State) (r : Recording) → RecordsKnown s r → KnownState s → (x : ℕ) → edgeCount (s .book .network) ≤ x
+    → surveysOf x (surveysAfter (s .surveys) r) ≡ []
+unfolding surveysAfter surveysOf
+surveys-still-known s recordsNothing k w x h = w .surveys-known x h
+surveys-still-known s (recordsMark y) k w x h = w .surveys-known x h
+surveys-still-known s (recordsSurvey r) k w x h =
+    surveys-together x (s .surveys) (r ∷ [])
+    ∙ rw (ne-eqb (r .measured) x (λ q. absurd (omega (arith, q, k, h)))) (append-nil (surveysOf x (s .surveys)) ∙ w .surveys-known x h)
+
+-- so it is after each command that is not refused
+pub known-after : (caps : Capacities) (s : State) (c : Command) → KnownState s → refusalOf caps s c ≡ none → KnownState (after s c)
+unfolding after afterAddition afterRecording
+known-after caps s c w e =
+    let n = not-refused-exactly caps s c .0 e in
+    let r = records-known s c (n .cabinets-known) (n .spans-known) in
+    record {
+      marks-known = λ x h.
+          omega (arith, marks-still-known s (recording c) r w x h, vertices-grow (s .book) (addition c));
+      surveys-known = λ x h. surveys-still-known s (recording c) r w x (omega (arith, h, edges-grow (s .book) (addition c)));
+    }
+
+-- and after all of them
+pub known-after-all : (caps : Capacities) (s : State) → KnownState s → (cs : List Command) → NoneRefused caps s cs → KnownState (stateAfter s cs)
+unfolding stateAfter
+known-after-all caps s w [] n = w
+known-after-all caps s w (c ∷ cs) n = known-after-all caps (after s c) (known-after caps s c w (n .0)) cs (n .1)
