@@ -316,7 +316,8 @@ _Static_assert(sizeof(struct register_seam) == 6 && _Alignof(struct register_sea
  * 2         The working table is too short.
  * 17        A run with capacities 4,096 and 8,192 and ample answer room refuses the first journal or the
  *           second, for whatever cause; so also where one is longer than REGISTER_LONGEST_JOURNAL. Such a
- *           run of each tells which one it is, where and why (its answer room by register_forecast).
+ *           run of each tells which one it is and why, and where, unless it is too long (its answer room
+ *           by register_forecast, for a damaged journal by the second call told of there).
  * 18        Some seam names a cabinet that its journal does not have, or duct 0. A journal with n cabinets
  *           has those from 0 to n - 1. All seams are looked at.
  * 19        The result is longer than REGISTER_LONGEST_JOURNAL or than out_len.
@@ -355,9 +356,9 @@ _Static_assert(sizeof(struct register_seam) == 6 && _Alignof(struct register_sea
  * second is put behind it with its items and names raised; the notices of the seams do the rest. In the
  * result the only mates of a seam are seams in the same duct between the same two cabinets.
  *
- * The result is a journal like any other: commands can be put behind it, and it can be joined again. But a
- * journal with a 0B, and so a result with a seam, is not rewritten: rewrite a journal of the old reading
- * before it is joined.
+ * The result is a journal like any other: commands can be put behind it, and where a run with capacities
+ * 4,096 and 8,192 accepts it, it can be joined again. But a journal with a 0B, and so a result with a
+ * seam, is not rewritten: rewrite a journal of the old reading before it is joined.
  *
  * REGISTER_STACK bytes of stack must be there.
  *

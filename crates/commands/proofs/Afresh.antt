@@ -28,7 +28,7 @@ use Rattle.commands.specs.SizeHistories.{sizeHistories}
 use Rattle.commands.specs.RewriteHistories
 use Rattle.commands.specs.RewriteHistories.{readAnew, doubledSpan, oldReadings}
 use Rattle.commands.specs.JoinHistories
-use Rattle.commands.specs.JoinHistories.{joiningOf, joins, joinedOf, joinedHistories, answersAlone, answersBehind, raisedBytes}
+use Rattle.commands.specs.JoinHistories.{joiningOf, joins, joinedOf, joinedHistories, answersAlone, answersBehind, answersStaying, raisedBytes}
 use Rattle.commands.specs.Calls.{sevens, call, atStart, startCalls, stopCalls, cabinetAnswers, acceptedCalls, entered, foretold, forecasts, rewriteCall, rewritingOf, spans02, spans0B, rewritings}
 use Rattle.commands.proofs.Computed.{computed}
 
@@ -144,10 +144,10 @@ joins-shown = refl
 
 -- And so results are answered.
 pub joined-histories-shown : map joinedOf joinedHistories ≡ joinedHistories
-unfolding computed Histories.output Histories.notice Histories.group JoinHistories.seam JoinHistories.answersOf JoinHistories.joinedOf JoinHistories.questionsBehind JoinHistories.ringsBehind JoinHistories.joinedHistories
+unfolding computed Histories.output Histories.notice Histories.group RewriteHistories.answersAndNumber JoinHistories.seam JoinHistories.joinedOf JoinHistories.questionsBehind JoinHistories.ringsBehind JoinHistories.joinedHistories
 joined-histories-shown = refl
 
 -- And so answers are raised.
-pub raised-answers-shown : map raisedBytes answersAlone ≡ map answerBytes answersBehind
-unfolding computed Histories.notice Histories.group JoinHistories.answersAlone JoinHistories.answersBehind JoinHistories.raisedBytes
+pub raised-answers-shown : map raisedBytes (answersAlone ++ answersStaying) ≡ map answerBytes (answersBehind ++ answersStaying)
+unfolding computed Histories.notice Histories.group JoinHistories.answersAlone JoinHistories.answersBehind JoinHistories.answersStaying JoinHistories.raisedBytes
 raised-answers-shown = refl

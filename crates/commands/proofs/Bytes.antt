@@ -6,7 +6,7 @@ use mathlib.Core.Path.{_≡_, refl, sym, _∙_, ap, ap₂}
 use Prim.Native.Nat.{ℕ, zero, suc, _*_, _/_, _%_, _<_}
 use native.Mathlib.Omega.{arith}
 use lib.Dec.{ltb}
-use lib.ListN.{length, getD}
+use lib.ListN.{length, getD, take, drop, take-append-drop}
 use Rattle.graph.specs.Lists.{allIn}
 use Rattle.graph.proofs.Members.{all-in-behind}
 use Rattle.graph.proofs.Truth.{and-left, and-right, and-both, ltb-lt, lt-ltb}
@@ -38,6 +38,10 @@ first-is-byte x xs p = ltb-lt x 256 (and-left (ltb x 256) (allBytes xs) p)
 pub all-bytes-behind : (xs ys : List ℕ) → allBytes (xs ++ ys) ≡ true → allBytes ys ≡ true
 unfolding allBytes
 all-bytes-behind xs ys p = all-in-behind (λ b. ltb b 256) xs ys p
+
+-- and those from any place on
+pub all-bytes-from : (k : ℕ) (l : List ℕ) → allBytes l ≡ true → allBytes (drop k l) ≡ true
+all-bytes-from k l p = all-bytes-behind (take k l) (drop k l) (rw (take-append-drop k l) p)
 
 -- and so is that at every place, beyond the last 0
 pub byte-at : (l : List ℕ) → allBytes l ≡ true → (i : ℕ) → getD l i 0 < 256

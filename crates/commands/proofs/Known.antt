@@ -3,7 +3,7 @@ use mathlib.Core.Bool.{true}
 use mathlib.Core.List.{List, [], _∷_, append-nil}
 use mathlib.Core.Logic.{⊎-elim}
 use mathlib.Core.Option.{none}
-use mathlib.Core.Path.{_≡_, refl, _∙_}
+use mathlib.Core.Path.{_≡_, refl, _∙_, subst}
 use Prim.Native.Nat.{ℕ, _<_, _≤_}
 use native.Mathlib.Omega.{arith}
 use lib.Dec.{eqb}
@@ -13,12 +13,13 @@ use Rattle.graph.proofs.Truth.{and-left, or-cases, not-both, eqb-eq, ne-eqb, lt
 use Rattle.naming.specs.Survey.{surveysOf}
 use Rattle.naming.specs.State.{State, emptyState, afterAddition, Recording, recordsNothing, recordsMark, recordsSurvey, marksAfter, surveysAfter, afterRecording}
 use Rattle.naming.proofs.Surveys.{surveys-together}
-use Rattle.naming.proofs.Book.{vertices-grow, edges-grow}
-use Rattle.commands.specs.Command.{Command, addCabinet, addSpan, districtName, ringName, sharedMesh, soleSpans, cutCabinets, isSole, markExchange, holdsExchange, addDuctSpan, routesBetween, recordLength, spanLength, exchangeShare}
-use Rattle.commands.specs.Facts.{facts, asks, operandsOf, addition, recordingOf, recording, after, stateAfter}
+use Rattle.commands.specs.Command.{Command, markExchange, recordLength}
+use Rattle.commands.specs.Facts.{facts, asks, operandsOf, addition, recording, after, stateAfter}
 use Rattle.commands.specs.Refusal.{Capacities, cabinetKnown, spanKnown, cabinetsKnown, spansKnown, refusalOf}
 use Rattle.commands.proofs.Causes.{not-refused-exactly}
-use Rattle.commands.proofs.RunBooks.{NoneRefused}
+use Rattle.commands.proofs.Report.{vertices-grow, edges-grow}
+use Rattle.commands.proofs.RunBooks.{NoneRefused, kept-by-all}
+use Rattle.commands.proofs.Recorded.{Records, records}
 
 -- Every exchange is a cabinet of the network, and every record is of one of its spans.
 pub record KnownState (s : State) : Type 0 where
@@ -31,24 +32,23 @@ RecordsKnown s recordsNothing = Unit
 RecordsKnown s (recordsMark x) = x < s .book .network .vertices
 RecordsKnown s (recordsSurvey r) = r .measured < edgeCount (s .book .network)
 
--- so it is where its cabinets and spans are known
+-- a cabinet that is marked is known where the command's cabinets are
+pub mark-known : (s : State) (x : ℕ) → cabinetsKnown s (markExchange x) ≡ true → x < s .book .network .vertices
+unfolding cabinetsKnown facts asks operandsOf allIn cabinetKnown
+mark-known s x e = ltb-lt _ _ (and-left _ true e)
+
+-- and a span that is measured where its spans are
+survey-known : (s : State) (x day metres : ℕ) → spansKnown s (recordLength x day metres) ≡ true → x < edgeCount (s .book .network)
+unfolding spansKnown facts asks operandsOf allIn spanKnown
+survey-known s x day metres e = ltb-lt _ _ (and-left _ true e)
+
 records-known : (s : State) (c : Command) → cabinetsKnown s c ≡ true → spansKnown s c ≡ true → RecordsKnown s (recording c)
-unfolding recording recordingOf facts asks cabinetsKnown spansKnown operandsOf allIn cabinetKnown spanKnown
-records-known s addCabinet cabinets spans = tt
-records-known s (addSpan a b) cabinets spans = tt
-records-known s (districtName a) cabinets spans = tt
-records-known s (ringName a) cabinets spans = tt
-records-known s (sharedMesh a b) cabinets spans = tt
-records-known s (soleSpans a b) cabinets spans = tt
-records-known s (cutCabinets a b) cabinets spans = tt
-records-known s (isSole x) cabinets spans = tt
-records-known s (markExchange a) cabinets spans = ltb-lt _ _ (and-left _ true cabinets)
-records-known s (holdsExchange a) cabinets spans = tt
-records-known s (addDuctSpan a b d) cabinets spans = tt
-records-known s (routesBetween a b) cabinets spans = tt
-records-known s (recordLength x day metres) cabinets spans = ltb-lt _ _ (and-left _ true spans)
-records-known s (spanLength x) cabinets spans = tt
-records-known s exchangeShare cabinets spans = tt
+records-known s c cabinets spans = go (recording c) (records c)
+  where
+    go : (r : Recording) → Records c r → RecordsKnown s r
+    go recordsNothing other = tt
+    go (recordsMark x) is = mark-known s x (subst (λ d. cabinetsKnown s d ≡ true) is cabinets)
+    go (recordsSurvey r) is = survey-known s (r .measured) (r .day) (r .metres) (subst (λ d. spansKnown s d ≡ true) is spans)
 
 -- before the first command
 pub empty-known : (rule : Rule) → KnownState (emptyState rule)
@@ -87,6 +87,4 @@ known-after caps s c w e =
 
 -- and after all of them
 pub known-after-all : (caps : Capacities) (s : State) → KnownState s → (cs : List Command) → NoneRefused caps s cs → KnownState (stateAfter s cs)
-unfolding stateAfter
-known-after-all caps s w [] n = w
-known-after-all caps s w (c ∷ cs) n = known-after-all caps (after s c) (known-after caps s c w (n .0)) cs (n .1)
+known-after-all caps = kept-by-all caps KnownState (known-after caps)

@@ -57,6 +57,7 @@ pub mod RewrittenEntry
 pub mod RewrittenPlace
 pub mod AnswersTell
 pub mod Answers
+pub mod Recorded
 pub mod Known
 pub mod Marks
 pub mod Surveys

@@ -14,60 +14,46 @@ use Rattle.graph.specs.Lists.{allIn}
 use Rattle.graph.specs.Network.{Rule, addVertex, addEdge}
 use Rattle.graph.specs.Groups.{bridgeBlock}
 use Rattle.graph.specs.Route.{Choice}
-use Rattle.graph.proofs.Truth.{false-of-not, false-of-not-true, not-both, and-left, or-left, or-right, or-cases, eqb-eq, eq-eqb, ltb-lt}
+use Rattle.graph.proofs.Truth.{false-of-not, false-of-not-true, not-both, and-left, or-left, or-right, or-cases, eqb-eq, eq-eqb}
 use Rattle.graph.proofs.BridgeBlock.{bridge-block-equivalence}
 use Rattle.naming.specs.Book.{Addition, vertex, edge, neither, emptyBook, enterVertex, enterEdge, feed}
+use Rattle.naming.specs.Survey.{Survey}
 use Rattle.naming.specs.State.{State, emptyState, afterAddition, Recording, recordsNothing, recordsMark, recordsSurvey, marksAfter, afterRecording, marksWith}
-use Rattle.naming.proofs.Book.{vertices-grow}
 use Rattle.naming.proofs.Count.{count-last-out, count-with}
 use Rattle.naming.proofs.Equivalent.{equivalent-of}
 use Rattle.naming.proofs.GroupSum.{groups-add-up}
-use Rattle.commands.specs.Command.{Command, addCabinet, addSpan, districtName, ringName, sharedMesh, soleSpans, cutCabinets, isSole, markExchange, holdsExchange, addDuctSpan, routesBetween, recordLength, spanLength, exchangeShare, commandByte}
-use Rattle.commands.specs.Facts.{asks, facts, operandsOf, demandsOf, addition, recordingOf, recording, after, stateAfter}
-use Rattle.commands.specs.Refusal.{Capacities, refusalNumber, cabinetKnown, cabinetsKnown, met, cause, meets, refusalOf}
+use Rattle.commands.specs.Command.{Command, markExchange, recordLength, commandByte}
+use Rattle.commands.specs.Facts.{facts, demandsOf, addition, recording, after, stateAfter}
+use Rattle.commands.specs.Refusal.{Capacities, refusalNumber, met, cause, meets, refusalOf}
 use Rattle.commands.specs.Entry.{wholeRun, acceptedCommands}
 use Rattle.commands.specs.Marks.{markCommands, exchangesOfRings, ExchangesAddUp}
 use Rattle.commands.proofs.Causes.{not-refused-exactly}
-use Rattle.commands.proofs.Known.{KnownState, empty-known, known-after}
+use Rattle.commands.proofs.Recorded.{Records, records}
+use Rattle.commands.proofs.Report.{vertices-grow}
+use Rattle.commands.proofs.Known.{KnownState, mark-known, empty-known, known-after}
 use Rattle.commands.proofs.RunBooks.{NoneRefused, first-not-refused, whole-run-not-refused}
-
--- what a command records: a mark of a cabinet if it is 09 of that cabinet, and else none
-abbrev Records : Command → Recording → Type 0
-Records c recordsNothing = eqb (commandByte c) 0x09 ≡ false
-Records c (recordsMark x) = c ≡ markExchange x
-Records c (recordsSurvey r) = eqb (commandByte c) 0x09 ≡ false
-
-records-marks : (c : Command) → Records c (recording c)
-unfolding facts asks recording recordingOf commandByte
-records-marks addCabinet = refl
-records-marks (addSpan a b) = refl
-records-marks (districtName a) = refl
-records-marks (ringName a) = refl
-records-marks (sharedMesh a b) = refl
-records-marks (soleSpans a b) = refl
-records-marks (cutCabinets a b) = refl
-records-marks (isSole x) = refl
-records-marks (markExchange a) = refl
-records-marks (holdsExchange a) = refl
-records-marks (addDuctSpan a b d) = refl
-records-marks (routesBetween a b) = refl
-records-marks (recordLength x day metres) = refl
-records-marks (spanLength x) = refl
-records-marks exchangeShare = refl
 
 -- the byte of a mark is 09
 mark-byte : (x : ℕ) → eqb (commandByte (markExchange x)) 0x09 ≡ true
 unfolding commandByte
 mark-byte x = refl
 
+-- and that of a survey is not
+survey-byte : (r : Survey) → eqb (commandByte (recordLength (r .measured) (r .day) (r .metres))) 0x09 ≡ false
+unfolding commandByte
+survey-byte r = refl
+
 -- a cabinet is an exchange after a command exactly if it was one, or the command is its 09
 marked-by-one : (s : State) (c : Command) (x : ℕ) → (after s c .marked x ≡ true) ↔ ((s .marked x ≡ true) ⊎ (markExchange x ≡ c))
 unfolding after afterAddition afterRecording marksAfter
-marked-by-one s c x = go (recording c) (records-marks c)
+marked-by-one s c x = go (recording c) (records c)
   where
+    unchanged : eqb (commandByte c) 0x09 ≡ false → (s .marked x ≡ true) ↔ ((s .marked x ≡ true) ⊎ (markExchange x ≡ c))
+    unchanged other = (inl, ⊎-elim (λ m. m) (λ e. absurd (not-both (mark-byte x) (rw e other))))
+
     go : (r : Recording) → Records c r → (marksAfter (s .marked) r x ≡ true) ↔ ((s .marked x ≡ true) ⊎ (markExchange x ≡ c))
-    go recordsNothing other = (inl, ⊎-elim (λ m. m) (λ e. absurd (not-both (mark-byte x) (rw e other))))
-    go (recordsSurvey r) other = (inl, ⊎-elim (λ m. m) (λ e. absurd (not-both (mark-byte x) (rw e other))))
+    go recordsNothing other = unchanged (other .0)
+    go (recordsSurvey r) is = unchanged (rw is (survey-byte r))
     go (recordsMark y) is = (
       λ m. ⊎-elim (λ e. inr (ap markExchange (eqb-eq x y e) ∙ sym is)) inl (or-cases (eqb x y) (s .marked x) m),
       ⊎-elim
@@ -108,18 +94,18 @@ New s (recordsSurvey r) = Unit
 
 -- a 09 that is not refused names a cabinet that is known, and is no exchange
 new-mark : (caps : Capacities) (s : State) (x : ℕ) → refusalOf caps s (markExchange x) ≡ none → New s (recordsMark x)
-unfolding cabinetsKnown meets facts operandsOf demandsOf allIn cabinetKnown met cause refusalNumber
+unfolding meets facts demandsOf allIn met cause refusalNumber
 new-mark caps s x e =
     let n = not-refused-exactly caps s (markExchange x) .0 e in
-    (ltb-lt _ _ (and-left _ true (n .cabinets-known)), false-of-not-true _ (and-left _ true (n .no-exchange)))
+    (mark-known s x (n .cabinets-known), false-of-not-true _ (and-left _ true (n .no-exchange)))
 
 new-recording : (caps : Capacities) (s : State) (c : Command) → refusalOf caps s c ≡ none → New s (recording c)
-new-recording caps s c e = go (recording c) (records-marks c)
+new-recording caps s c e = go (recording c) (records c)
   where
     go : (r : Recording) → Records c r → New s r
     go recordsNothing other = tt
     go (recordsMark x) is = new-mark caps s x (subst (λ d. refusalOf caps s d ≡ none) is e)
-    go (recordsSurvey r) other = tt
+    go (recordsSurvey r) is = tt
 
 -- the exchanges of the network, counted
 abbrev exchanges : State → ℕ
@@ -140,8 +126,8 @@ added-none s neither known = refl
 one-exchange-more : (s : State) (c : Command) (r : Recording) → Records c r → New s r
     → exchanges (afterRecording s r) ≡ cond (eqb (commandByte c) 0x09) (suc (exchanges s)) (exchanges s)
 unfolding afterRecording marksAfter
-one-exchange-more s c recordsNothing other new = rw other
-one-exchange-more s c (recordsSurvey r) other new = rw other
+one-exchange-more s c recordsNothing other new = rw (other .0)
+one-exchange-more s c (recordsSurvey r) is new = rw (is, survey-byte r)
 one-exchange-more s c (recordsMark x) is new =
     rw (is, mark-byte x) (count-with (s .book .network .vertices) (λ y. true) (s .marked) x (new .0) (new .1))
 
@@ -163,7 +149,7 @@ exchanges-after caps s (c ∷ later) known w =
     exchanges-after caps (after s c) later (known-after caps s c known (w .0)) (w .1)
     ∙ more (eqb (commandByte c) 0x09) (exchanges s) (markCommands later)
     (unfold after in (
-    one-exchange-more added c (recording c) (records-marks c) (new-still s (addition c) (recording c) new)
+    one-exchange-more added c (recording c) (records c) (new-still s (addition c) (recording c) new)
     ∙ ap (λ k. cond (eqb (commandByte c) 0x09) (suc k) k) (added-none s (addition c) known)
     ))
   where

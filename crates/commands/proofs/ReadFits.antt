@@ -5,7 +5,7 @@ use mathlib.Core.Logic.{_⊎_, inl, inr}
 use mathlib.Core.Option.{Option}
 use mathlib.Core.Path.{_≡_, refl, sym, _∙_, ap, subst}
 use Prim.Native.Nat.{ℕ, zero, suc, _+_, _*_, _<_, _≤_}
-use lib.ListN.{length, take, drop, getD, take-append-drop}
+use lib.ListN.{length, take, getD}
 use Rattle.graph.specs.Network.{edgeBetween, edgeInDuct}
 use Rattle.graph.specs.Route.{Choice}
 use Rattle.naming.specs.State.{State}
@@ -17,7 +17,7 @@ use Rattle.commands.specs.Text.{Read, textOf}
 use Rattle.commands.specs.Run.{runText, runWithin}
 use Rattle.commands.proofs.Cases.{le-or-gt, impossible}
 use Rattle.commands.proofs.ByPlace.{each-at, _also_}
-use Rattle.commands.proofs.Bytes.{number-below, all-bytes-behind, byte-at, Small, FieldsFit}
+use Rattle.commands.proofs.Bytes.{number-below, all-bytes-behind, all-bytes-from, byte-at, Small, FieldsFit}
 use Rattle.commands.proofs.Reading.{long-enough, too-short}
 use Rattle.commands.proofs.Place.{within-is-prefix}
 use Rattle.commands.proofs.TextSteps.{Spells, no-more, unreadable, one-more, text-steps}
@@ -82,9 +82,7 @@ spells-fit (unreadable u) are = tt
 spells-fit (one-more {byte = byte} {bytes = bytes} {r = r} q rest) are =
     let behind = all-bytes-behind (byte ∷ []) bytes are in (
       command-fits byte bytes (r .command) (r .width) behind q,
-      spells-fit rest
-          (all-bytes-behind (take (r .width) bytes) (drop (r .width) bytes)
-          (subst (λ l. allBytes l ≡ true) (sym (take-append-drop (r .width) bytes)) behind)),
+      spells-fit rest (all-bytes-from (r .width) bytes behind),
     )
 
 -- so do the commands of a journal's text

@@ -2,7 +2,7 @@
 use mathlib.Core.Bool.{Bool, true, false, cond}
 use mathlib.Core.List.{List, [], _∷_, map}
 use mathlib.Core.Path.{_≡_, refl, sym, _∙_, ap}
-use Prim.Native.Nat.{ℕ, suc, _+_}
+use Prim.Native.Nat.{ℕ, suc, _+_, _≤_}
 use native.Mathlib.Nat.{zero-add, add-zero}
 use native.Mathlib.Omega.{arith}
 use lib.ListN.{length}
@@ -46,6 +46,17 @@ unfolding feed isSpan enterVertex enterEdge addVertex edgeCount
 span-step b vertex = refl
 span-step b (edge e) = edge-count-more (b .network) e
 span-step b neither = refl
+
+-- so nothing that is added takes one away
+no-less : (t : Bool) (n : ℕ) → n ≤ cond t (suc n) n
+no-less true n = omega arith
+no-less false n = omega arith
+
+pub vertices-grow : (b : Book) (a : Addition) → b .network .vertices ≤ feed b a .network .vertices
+vertices-grow b a = rw (cabinet-step b a) (no-less (isCabinet a) (b .network .vertices))
+
+pub edges-grow : (b : Book) (a : Addition) → edgeCount (b .network) ≤ edgeCount (feed b a .network)
+edges-grow b a = rw (span-step b a) (no-less (isSpan a) (edgeCount (b .network)))
 
 -- after commands there are as many cabinets more as commands that add one
 pub cabinets-after : (s : State) (cs : List Command)

@@ -62,11 +62,17 @@ first-not-refused caps s cs n zero = tt
 first-not-refused caps s [] n (suc k) = tt
 first-not-refused caps s (c ∷ later) n (suc k) = (n .0, first-not-refused caps (after s c) later (n .1) k)
 
+-- what each of them keeps, all of them keep
+pub kept-by-all : (caps : Capacities) (P : State → Type 0)
+    → ((s : State) (c : Command) → P s → refusalOf caps s c ≡ none → P (after s c))
+    → (s : State) → P s → (cs : List Command) → NoneRefused caps s cs → P (stateAfter s cs)
+unfolding stateAfter
+kept-by-all caps P keeps s p [] n = p
+kept-by-all caps P keeps s p (c ∷ later) n = kept-by-all caps P keeps (after s c) (keeps s c p (n .0)) later (n .1)
+
 -- the state after them is sound
 pub sound-after-all : (caps : Capacities) (s : State) (cs : List Command) → Sound caps s → NoneRefused caps s cs → Sound caps (stateAfter s cs)
-unfolding stateAfter
-sound-after-all caps s [] sound n = sound
-sound-after-all caps s (c ∷ later) sound n = sound-after-all caps (after s c) later (sound-after caps s c sound (n .0)) (n .1)
+sound-after-all caps s cs sound n = kept-by-all caps (Sound caps) (sound-after caps) s sound cs n
 
 -- the commands were accepted one after another: none was refused, and each answer is the definition's
 abbrev pub Answered : Choice → Capacities → State → List Accepted → Type 0

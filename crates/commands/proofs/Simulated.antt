@@ -1,7 +1,7 @@
 -- Two runs of commands without 0B, step by step. In the first a span of 02 has no mate. In the second every command is the same, but that
 -- a span may be told a duct; and its spans have no mates either. So after each command the networks are alike: the next is refused alike
 -- and answered alike, 0C too where the choices give the same routes.
-use mathlib.Core.Bool.{true, false, cond, false≢true}
+use mathlib.Core.Bool.{false, cond, false≢true}
 use mathlib.Core.List.{List}
 use mathlib.Core.Option.{Option, none, some}
 use mathlib.Core.Path.{_≡_, refl, sym, _∙_, ap}

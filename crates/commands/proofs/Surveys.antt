@@ -16,9 +16,9 @@ use Rattle.naming.specs.Book.{Book, neither, feed}
 use Rattle.naming.specs.State.{State, Agree, emptyState, afterAddition, Recording, recordsNothing, recordsMark, recordsSurvey, marksAfter, surveysAfter, afterRecording}
 use Rattle.naming.proofs.Surveys.{kept-is-holding, holding-behind}
 use Rattle.naming.proofs.SurveyOrder.{arranged-for-edge, own-days-differ}
-use Rattle.commands.specs.Command.{Command, addCabinet, addSpan, districtName, ringName, sharedMesh, soleSpans, cutCabinets, isSole, markExchange, holdsExchange, addDuctSpan, routesBetween, recordLength, spanLength, exchangeShare, commandByte}
+use Rattle.commands.specs.Command.{Command, addCabinet, addSpan, recordLength, spanLength, commandByte}
 use Rattle.commands.specs.Answer.{plain}
-use Rattle.commands.specs.Facts.{facts, asks, operandsOf, demandsOf, additionOf, addition, recordingOf, recording, after, stateAfter, lengthAnswer, answerTo, answer}
+use Rattle.commands.specs.Facts.{facts, asks, operandsOf, demandsOf, additionOf, addition, recording, after, stateAfter, lengthAnswer, answerTo, answer}
 use Rattle.commands.specs.Refusal.{unknownCabinet, unknownSpan, equalCabinets, full, twoDistricts, alreadyExchange, noDuct, noSharedRing, firstThatApplies, Capacities, cabinetKnown, spanKnown, cabinetsKnown, spansKnown, meets, fullFor, isFull, lines, refusalOf}
 use Rattle.commands.specs.Text.{textOf}
 use Rattle.commands.specs.Run.{Run, runText}
@@ -27,6 +27,7 @@ use Rattle.commands.proofs.Cases.{impossible}
 use Rattle.commands.proofs.Agree.{agree-text}
 use Rattle.commands.proofs.Behind.{behind, journal-behind}
 use Rattle.commands.proofs.Bytes.{Small, FieldsFit}
+use Rattle.commands.proofs.Recorded.{Records, records}
 
 -- what a command records: a survey if it is 0D, which then adds nothing, and the metres are among its numbers; and else none
 abbrev RecordsSurvey : Command → Recording → Type 0
@@ -36,22 +37,13 @@ RecordsSurvey c (recordsSurvey r) = (eqb (commandByte c) 0x0D ≡ true) × (r �
     × (FieldsFit (operandsOf (facts c)) → Small (r .metres))
 
 records-survey : (c : Command) → RecordsSurvey c (recording c)
-unfolding facts asks recording recordingOf addition additionOf operandsOf commandByte surveyOf operandIn numberIn
-records-survey addCabinet = refl
-records-survey (addSpan a b) = refl
-records-survey (districtName a) = refl
-records-survey (ringName a) = refl
-records-survey (sharedMesh a b) = refl
-records-survey (soleSpans a b) = refl
-records-survey (cutCabinets a b) = refl
-records-survey (isSole x) = refl
-records-survey (markExchange a) = refl
-records-survey (holdsExchange a) = refl
-records-survey (addDuctSpan a b d) = refl
-records-survey (routesBetween a b) = refl
-records-survey (recordLength x day metres) = (refl, refl, refl, λ fit. fit .1 .1 .0)
-records-survey (spanLength x) = refl
-records-survey exchangeShare = refl
+unfolding facts asks addition additionOf operandsOf commandByte surveyOf operandIn numberIn
+records-survey c = go (recording c) (records c)
+  where
+    go : (r : Recording) → Records c r → RecordsSurvey c r
+    go recordsNothing other = other .1
+    go (recordsMark x) is = ap (λ d. eqb (commandByte d) 0x0D) is
+    go (recordsSurvey r) is = subst (λ d. RecordsSurvey d (recordsSurvey r)) (sym is) (refl, refl, refl, λ fit. fit .1 .1 .0)
 
 -- 0D and 0E are refused for a span that is not known, and for nothing else: only room is left to refuse them
 pub only-unknown-spans : (caps : Capacities) (s : State) (x day metres : ℕ)

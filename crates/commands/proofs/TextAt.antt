@@ -1,7 +1,7 @@
 -- The text of a journal from a place on, by what is read at that place.
 use mathlib.Core.List.{List, _∷_}
 use mathlib.Core.Option.{none, some}
-use mathlib.Core.Path.{_≡_, _∙_}
+use mathlib.Core.Path.{_≡_, sym, _∙_, ap}
 use Prim.Native.Nat.{ℕ, _+_, _≤_, _<_}
 use native.Mathlib.Numerals.{add-one}
 use native.Mathlib.Omega.{arith}
@@ -10,6 +10,7 @@ use lib.Seq.{drop-cons, drop-drop}
 use Rattle.commands.specs.Command.{Command, Reading, unknownByte, cutOff, command, readCommand}
 use Rattle.commands.specs.Refusal.{badByte, cutOperands}
 use Rattle.commands.specs.Text.{Text, endsWith, followedBy, textFrom}
+use Rattle.commands.proofs.Cases.{impossible}
 use Rattle.commands.proofs.Reading.{operands-fit}
 use Rattle.commands.proofs.Steps.{text-ends, text-unknown, text-cut-off, text-goes-on}
 
@@ -45,6 +46,15 @@ module _ (journal : List ℕ) (place : ℕ) where
     pub text-at-cut-off : readingHere ≡ cutOff → textHere ≡ endsWith (some cutOperands)
     text-at-cut-off e = begins-here ∙ text-cut-off place byteHere bytesBehind e
 
+    -- from where it is read to its end, a command stands
+    pub not-unknown : textHere .refusal ≡ none → readingHere ≡ unknownByte → ⊥
+    unfolding endsWith
+    not-unknown read-on e = impossible (cc (ap (λ t. t .refusal) (text-at-unknown e), read-on))
+
+    pub not-cut-off : textHere .refusal ≡ none → readingHere ≡ cutOff → ⊥
+    unfolding endsWith
+    not-cut-off read-on e = impossible (cc (ap (λ t. t .refusal) (text-at-cut-off e), read-on))
+
     module _ (c : Command) (width : ℕ) (reads : readingHere ≡ command c width) where
       -- a command is followed by the text from behind its operands
       pub text-at-command : textHere
@@ -54,3 +64,8 @@ module _ (journal : List ℕ) (place : ℕ) where
       -- which stand in the journal
       pub operands-stand : place + 1 + width ≤ length journal
       operands-stand = omega (arith, at-byte, simp length-drop at (operands-fit byteHere bytesBehind c width reads))
+
+      -- and behind them it is read to its end, if it is here
+      pub whole-behind : textHere .refusal ≡ none → textFrom (place + 1 + width) 0 (drop (place + 1 + width) journal) .refusal ≡ none
+      unfolding followedBy
+      whole-behind e = sym (ap (λ t. t .refusal) text-at-command) ∙ e

@@ -19,10 +19,10 @@ use Rattle.commands.specs.Exchange.{withExchange, thousandths}
 use Rattle.commands.specs.Facts.{facts, operandsOf, routesAnswer, after, stateAfter}
 use Rattle.commands.specs.Surveys.{numberIn, operandIn}
 use Rattle.commands.specs.Refusal.{Refusal, shortBuffer, full, refusedJournal, badSeam, longJoin, refusalNumber, Line, firstThatApplies, Capacities}
-use Rattle.commands.specs.Text.{textOf, commandsIn, journalBytes}
-use Rattle.commands.specs.Run.{Accepted, Run, runText}
+use Rattle.commands.specs.Text.{commandsIn, journalBytes}
+use Rattle.commands.specs.Run.{Accepted, Run}
 use Rattle.commands.specs.Entry.{workNeeded, over, Buffers, entryUnder}
-use Rattle.commands.specs.Register.{registerRule, registerRoutes}
+use Rattle.commands.specs.Register.{registerRule, registerRoutes, ampleRun}
 use Rattle.commands.specs.Decode.{decodeFirst}
 
 -- How many cabinets and spans a network has.
@@ -71,9 +71,9 @@ seamCommand by x = addDuctSpan (x .first) (by .cabinets + x .second) (x .duct)
 unfoldable pub joinCapacities : Capacities
 joinCapacities = record { cabinets = 4096; spans = 8192 }
 
--- The run of a journal so sized, from an empty network, with ample answer room.
+-- The run of a journal so sized, with ample answer room.
 unfoldable pub runAlone : Choice → List ℕ → Run
-runAlone choice journal = runText choice joinCapacities (emptyState registerRule) (textOf journal)
+runAlone choice = ampleRun choice joinCapacities
 
 -- There is a refusal.
 unfoldable pub isSome : Option Refusal → Bool

@@ -8,11 +8,11 @@ use Rattle.commands.specs.Field.{district, ring, mesh, fieldsBytes}
 use Rattle.commands.specs.Command.{addCabinet, addSpan, districtName, ringName, sharedMesh, soleSpans, cutCabinets, isSole, markExchange, holdsExchange, addDuctSpan, routesBetween, recordLength, spanLength, exchangeShare}
 use Rattle.commands.specs.Answer.{Answer, cabinetAdded, spanAdded, plain, districtIs, ringIs, meshShared, noMeshShared, soleSpansAre, cutCabinetsAre, soleIs, exchangeMarked, exchangeHeld, routesAre, lengthRecorded, lengthIs, noLength, shareIs, answerFields}
 use Rattle.commands.specs.Text.{journalBytes}
-use Rattle.commands.specs.Run.{Run, bytesOfAnswers}
-use Rattle.commands.specs.Entry.{numberOf}
+use Rattle.commands.specs.Entry.{ran}
 use Rattle.commands.specs.Register.{registerRoutes}
 use Rattle.commands.specs.Join.{raiseFields, Seam, runAlone, Joining, join}
 use Rattle.commands.specs.Histories.{output, notice, group}
+use Rattle.commands.specs.RewriteHistories.{answersAndNumber}
 
 unfoldable pub seam : ℕ → ℕ → ℕ → Seam
 seam first second duct = record { first = first; second = second; duct = duct }
@@ -104,7 +104,7 @@ joins =
     -- equal seams are two spans
     ∷ joinCall (0x01 ∷ []) (0x01 ∷ []) (seam 0 0 1 ∷ seam 0 0 1 ∷ []) 163904 16 0
     (0x01 ∷ 0x01 ∷ 0x0B ∷ 0 ∷ 0 ∷ 0 ∷ 1 ∷ 0 ∷ 1 ∷ 0x0B ∷ 0 ∷ 0 ∷ 0 ∷ 1 ∷ 0 ∷ 1 ∷ [])
-    -- 2: a working table too short by one, where the journals, the seam and the buffer are refused too
+    -- 2: a working table too short by one, alone, and where the journals, the seam and the buffer are refused too
     ∷ joinCall pair pair [] 163903 100 2 []
     ∷ joinCall (0x00 ∷ []) (replicate 65537 0x0F) (seam 9 9 0 ∷ []) 163903 0 2 []
     -- 17: an unknown byte, cut-off operands, a command that a run refuses, a journal too long; in the first, in the second, and before 18 and 19
@@ -132,9 +132,6 @@ pub record JoinedHistory : Type 0 where
   pub alone : List ℕ
   pub joined : List ℕ
 
-unfoldable pub answersOf : Run → List ℕ
-answersOf r = bytesOfAnswers (r .accepted) ++ numberOf (r .refusal) ∷ []
-
 -- What the definitions make of two journals and seams.
 unfoldable pub joinedOf : JoinedHistory → JoinedHistory
 joinedOf h =
@@ -142,8 +139,8 @@ joinedOf h =
       first = h .first;
       second = h .second;
       seams = h .seams;
-      alone = answersOf (runAlone registerRoutes (h .second));
-      joined = answersOf (runAlone registerRoutes (join 163904 65536 (h .first) (h .second) (h .seams) .result));
+      alone = answersAndNumber (ran (runAlone registerRoutes (h .second)));
+      joined = answersAndNumber (ran (runAlone registerRoutes (join 163904 65536 (h .first) (h .second) (h .seams) .result)));
     }
 
 -- Behind two cabinets, a span and an exchange: numbers and names are raised; sizes, metres, flags and the 0000 of no shared mesh and of no
@@ -278,7 +275,7 @@ ringsBehind =
 unfoldable pub joinedHistories : List JoinedHistory
 joinedHistories = questionsBehind ∷ ringsBehind ∷ []
 
--- Answers of every kind, and what they are where they are raised by two cabinets and three spans.
+-- Answers of every kind that hold a number or a name of an item, and what they are where they are raised by two cabinets and three spans.
 unfoldable pub answersAlone : List Answer
 answersAlone =
     cabinetAdded 1
@@ -286,16 +283,8 @@ answersAlone =
     ∷ plain (districtIs (group 1 9))
     ∷ plain (ringIs (group 0 9))
     ∷ plain (meshShared 1)
-    ∷ plain noMeshShared
     ∷ plain (soleSpansAre (1 ∷ 0 ∷ []))
     ∷ plain (cutCabinetsAre (1 ∷ 0 ∷ []))
-    ∷ plain (soleIs true)
-    ∷ plain exchangeMarked
-    ∷ plain (exchangeHeld true)
-    ∷ plain lengthRecorded
-    ∷ plain (lengthIs 7)
-    ∷ plain noLength
-    ∷ plain (shareIs 9)
     ∷ plain (routesAre (1 ∷ []) (0 ∷ 2 ∷ []))
     ∷ []
 
@@ -306,9 +295,15 @@ answersBehind =
     ∷ plain (districtIs (group 3 9))
     ∷ plain (ringIs (group 2 9))
     ∷ plain (meshShared 4)
-    ∷ plain noMeshShared
     ∷ plain (soleSpansAre (4 ∷ 3 ∷ []))
     ∷ plain (cutCabinetsAre (3 ∷ 2 ∷ []))
+    ∷ plain (routesAre (4 ∷ []) (3 ∷ 5 ∷ []))
+    ∷ []
+
+-- The others stay as they are.
+unfoldable pub answersStaying : List Answer
+answersStaying =
+    plain noMeshShared
     ∷ plain (soleIs true)
     ∷ plain exchangeMarked
     ∷ plain (exchangeHeld true)
@@ -316,7 +311,6 @@ answersBehind =
     ∷ plain (lengthIs 7)
     ∷ plain noLength
     ∷ plain (shareIs 9)
-    ∷ plain (routesAre (4 ∷ []) (3 ∷ 5 ∷ []))
     ∷ []
 
 -- The bytes of an answer that is raised by these counts.

@@ -4,10 +4,12 @@ use mathlib.Core.Option.{Option, none, some}
 use Prim.Native.Nat.{ℕ}
 use Rattle.graph.specs.Network.{Rule, oneDuct}
 use Rattle.graph.specs.Route.{Choice}
+use Rattle.naming.specs.State.{emptyState}
 use Rattle.ways.specs.TwoRoutes.{twoRoutes}
 use Rattle.commands.specs.Bytes.{fourBytes}
 use Rattle.commands.specs.Refusal.{Refusal, Capacities, refusalNumber}
-use Rattle.commands.specs.Run.{bytesOfAnswers, placeAfter}
+use Rattle.commands.specs.Text.{textOf}
+use Rattle.commands.specs.Run.{Run, runText, bytesOfAnswers, placeAfter}
 use Rattle.commands.specs.Entry.{Whole, refusedAtStart, ran, Buffers, Outcome, wholeRun, workNeeded, reportOf, entryUnder}
 
 -- A span is lost with the spans of its duct between the same two cabinets; those of 02, with no duct told, lie in one.
@@ -20,6 +22,10 @@ registerRoutes = twoRoutes
 
 unfoldable pub register : Capacities → List ℕ → Buffers → Outcome
 register = entryUnder registerRule registerRoutes
+
+-- The run of a journal from an empty network with ample answer room, under a choice of routes.
+unfoldable pub ampleRun : Choice → Capacities → List ℕ → Run
+ampleRun choice caps journal = runText choice caps (emptyState registerRule) (textOf journal)
 
 -- The program's capacities.
 unfoldable pub programCapacities : Capacities

@@ -1,15 +1,14 @@
 -- Changes as they are written down: each changed item, with the name that the table has for it.
 use mathlib.Core.Bool.{false, not}
 use mathlib.Core.List.{List, map}
-use mathlib.Core.Path.{_≡_, refl, sym, _∙_, ap, ap₂}
+use mathlib.Core.Path.{_≡_, sym, _∙_, ap, ap₂}
 use Prim.Native.Nat.{ℕ, _≤_, _<_}
 use native.Mathlib.Omega.{arith}
 use lib.Dec.{eqb}
 use lib.ListN.{length}
 use Rattle.graph.specs.Below.{listed, tabulate, length-tabulate}
 use Rattle.graph.proofs.Truth.{eq-eqb}
-use Rattle.graph.proofs.Below.{listed-same}
-use Rattle.graph.proofs.Members.{listed-none}
+use Rattle.graph.proofs.Below.{listed-same, listed-none}
 use Rattle.graph.proofs.Lengths.{length-listed}
 use Rattle.naming.specs.Rename.{Change, nameOf, changedItems, changesBetween}
 use Rattle.naming.proofs.Listed.{map-listed-same, map-tabulate, tabulate-same}
@@ -55,8 +54,7 @@ unfolding tabulate
 no-names-changed area n n′ old new h stays =
     sym
     (sym (changed-names area n n′ old new h)
-    ∙ listed-same n (λ x. not (eqb (nameIn old area x) (nameIn new area x))) (λ x. false) each
-    ∙ listed-none n (λ x. false) (λ x. refl))
+    ∙ listed-none n (λ x. not (eqb (nameIn old area x) (nameIn new area x))) each)
   where
     each : (x : ℕ) → x < n → not (eqb (nameIn old area x) (nameIn new area x)) ≡ false
     each x l = ap not (eq-eqb (nameIn old area x) (nameIn new area x) (sym (stays x l)))

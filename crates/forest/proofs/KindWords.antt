@@ -7,11 +7,11 @@ use Prim.Native.Nat.{ℕ, suc, _+_, _*_, _%_, _≤_, _<_}
 use native.Mathlib.Nat.{le-refl}
 use native.Mathlib.Omega.{arith}
 use Rattle.graph.specs.Below.{tabulate}
-use Rattle.graph.proofs.Below.{below-or-last, Agree, count-same}
+use Rattle.graph.proofs.Below.{below-or-last, Agree, count-same, count-none}
 use Rattle.graph.specs.Network.{Network}
 use Rattle.graph.specs.Block.{block}
 use Rattle.naming.specs.Rename.{Grouping, size}
-use Rattle.naming.proofs.Count.{count-last-out, count-none}
+use Rattle.naming.proofs.Count.{count-last-out}
 use Rattle.naming.proofs.Listed.{tabulate-same}
 use Rattle.naming.proofs.Equivalent.{Equivalent, group-swap, size-agree, size-others, size-alone}
 use Rattle.naming.proofs.Rename.{AgreeBelow}

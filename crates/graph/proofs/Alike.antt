@@ -1,25 +1,24 @@
 -- Two networks alike: the ends of their edges and the mates among them are the same, and so all their groups and lists are.
-use mathlib.Core.Bool.{true, false, not, _&&_}
+use mathlib.Core.Bool.{true, false, not}
 use mathlib.Core.List.{map-id}
-use mathlib.Core.Logic.{_⊎_, inl, inr, ⊎-elim}
+use mathlib.Core.Logic.{_⊎_, inl, inr}
 use mathlib.Core.Path.{_≡_, sym, _∙_, ap, ap₂}
 use Prim.Native.Nat.{ℕ, suc, _<_}
 use native.Mathlib.Omega.{arith}
 use lib.Dec.{eqb}
-use Rattle.graph.specs.Network.{Network, Edge, MateRule, Proper, edge, edgeCount, parallel, touches, without, addVertex, addEdge, mates}
+use Rattle.graph.specs.Network.{Network, Edge, MateRule, Proper, edge, edgeCount, parallel, addVertex, addEdge, mates}
 use Rattle.graph.specs.Groups.{component, bridge, bridgeBlock}
 use Rattle.graph.specs.Cycle.{joins}
-use Rattle.graph.specs.Block.{block, onBlock, atBoth, sharedBlock}
+use Rattle.graph.specs.Block.{block, atBoth, sharedBlock}
 use Rattle.graph.specs.Between.{leastMate, bridgesBetween, cutsBetween}
-use Rattle.graph.proofs.Truth.{bool-ext, eqb-swap}
+use Rattle.graph.proofs.Truth.{eqb-swap}
 use Rattle.graph.proofs.Below.{any-below-same, least-below-same}
 use Rattle.graph.proofs.Mates.{parallel-carries, mates-refl, mates-swap}
 use Rattle.graph.proofs.Ducts.{parallel-sym}
 use Rattle.graph.proofs.Joined.{edge-count-more, edge-old, edge-new, old-or-new, each-edge-more}
 use Rattle.graph.proofs.MateLoss.{mates-old, mates-new}
-use Rattle.graph.proofs.Block.{block-refl, block-below}
-use Rattle.graph.proofs.Image.{Image, vertex-loss-image, component-image}
-use Rattle.graph.proofs.ImageBlocks.{bridge-image, bridge-block-image, block-image, on-block-image}
+use Rattle.graph.proofs.Image.{Image, component-image}
+use Rattle.graph.proofs.ImageBlocks.{bridge-image, bridge-block-image, block-image-any, at-both-image}
 use Rattle.graph.proofs.ImageLists.{bridges-between-image, cuts-between-image}
 
 -- Two networks alike: as many vertices and edges, the same ends in either direction, the same mates.
@@ -86,11 +85,6 @@ module _ {g h : Network} (a : Alike g h) where
     cuts-between-alike proper x y =
         cuts-between-image (alike-image a) rule proper (proper-alike a proper) x y ∙ map-id (cutsBetween g x y)
 
-    -- and the same edges at each vertex
-    touches-alike : (s : ℕ) → s < edgeCount g → (x : ℕ) → touches (edge h s) x ≡ touches (edge g s) x
-    unfolding without
-    touches-alike s k x = vertex-loss-image (alike-image a) rule x .agrees s k
-
 module _ {g h : Network} (a : Alike g h) (rule : MateRule (g .rule)) (rule′ : MateRule (h .rule)) where
   -- networks alike have the same bridge-blocks
   pub bridge-block-alike : (x y : ℕ) → bridgeBlock h x y ≡ bridgeBlock g x y
@@ -98,26 +92,13 @@ module _ {g h : Network} (a : Alike g h) (rule : MateRule (g .rule)) (rule′ : 
 
   -- and the same blocks
   pub block-alike : (s t : ℕ) → block h s t ≡ block g s t
-  block-alike s t =
-      bool-ext (block h s t) (block g s t)
-      (λ e. ⊎-elim (λ q. rw q (block-refl g t))
-      (λ k. sym (both (rw (a .as-many-edges) at (k .0)) (rw (a .as-many-edges) at (k .1))) ∙ e) (block-below h s t e))
-      (λ e. ⊎-elim (λ q. rw q (block-refl h t)) (λ k. both (k .0) (k .1) ∙ e) (block-below g s t e))
-    where
-      both : s < edgeCount g → t < edgeCount g → block h s t ≡ block g s t
-      both = block-image (alike-image a) rule rule′ s t
-
-  -- and the same vertices on them
-  pub on-block-alike : (s x : ℕ) → s < edgeCount g → onBlock h s x ≡ onBlock g s x
-  on-block-alike = on-block-image (alike-image a) rule rule′
+  block-alike = block-image-any (alike-image a) rule rule′ (λ s t q. q) (λ s k. rw (a .as-many-edges) at k)
 
   -- and the same block that two vertices share
   pub shared-block-alike : (x y : ℕ) → sharedBlock h x y ≡ sharedBlock g x y
-  unfolding sharedBlock atBoth
+  unfolding sharedBlock
   shared-block-alike x y =
-      rw (a .as-many-edges)
-      (least-below-same (edgeCount g) (atBoth h x y) (atBoth g x y)
-      (λ s k. ap₂ _&&_ (touches-alike a rule′ s k x) (on-block-alike s y k)))
+      rw (a .as-many-edges) (least-below-same (edgeCount g) (atBoth h x y) (atBoth g x y) (at-both-image (alike-image a) rule rule′ x y))
 
   -- and the same bridges between two vertices, in the same order
   pub bridges-between-alike : (x y : ℕ) → bridgesBetween h x y ≡ bridgesBetween g x y

@@ -1,89 +1,23 @@
--- The numbers below a sum m + n: those below m, and behind them m and a number below n.
---     where none below m passes a test, those below m + n that pass are m and those below n of which m and they pass
-use mathlib.Core.Bool.{Bool, true, false, cond, _||_, or-false}
+-- The numbers below a sum m + n: those below m, and behind them the m + x with x below n. What holds of both holds of all; lists and counts
+-- below the sum are made of both; and where none below m passes a test, those that pass are the m + x with x below n that do.
+use mathlib.Core.Bool.{Bool, true, false, cond, _||_, or-false, or-assoc}
 use mathlib.Core.List.{List, [], _∷_, _++_, map, map-append, append-assoc, append-nil}
-use mathlib.Core.Option.{Option, none, some}
-use mathlib.Core.Path.{_≡_, refl, sym, _∙_, ap, ap₂}
-use Prim.Native.Nat.{ℕ, zero, suc, _+_, _<_}
-use native.Mathlib.Nat.{add-suc, add-zero}
+use mathlib.Core.Logic.{⊎-elim}
+use mathlib.Core.Option.{Option, none, some, Option·map}
+use mathlib.Core.Path.{_≡_, refl, sym, _∙_, ap, subst}
+use Prim.Native.Nat.{ℕ, zero, suc, _+_, _-_, _<_}
+use native.Mathlib.Nat.{add-suc, add-zero, add-sub-of-le}
 use native.Mathlib.Omega.{arith}
+use lib.Dec.{ltb}
 use Rattle.graph.specs.Below.{anyBelow, leastBelow, count, listed, tabulate}
+use Rattle.graph.proofs.Truth.{true-or-false, ltb-lt, ltb-ge}
+use Rattle.graph.proofs.Below.{NoneBelow, any-none, count-none, listed-none, least-none}
 
--- no number below m passes the test
-abbrev pub NoneBelow : ℕ → (ℕ → Bool) → Type 0
-NoneBelow m p = (x : ℕ) → x < m → p x ≡ false
-
--- so it is below less
-less : {m : ℕ} {p : ℕ → Bool} → NoneBelow (suc m) p → NoneBelow m p
-less none-passes x h = none-passes x (omega arith)
-
--- the number, if there is one, with m added
-unfoldable pub raised : ℕ → Option ℕ → Option ℕ
-raised m none = none
-raised m (some k) = some (m + k)
-
--- what is found below m where none passes: nothing
-pub any-none : (m : ℕ) (p : ℕ → Bool) → NoneBelow m p → anyBelow m p ≡ false
-unfolding anyBelow
-any-none zero p w = refl
-any-none (suc m) p w = ap₂ _||_ (any-none m p (less w)) (w m (omega arith))
-
-count-none : (m : ℕ) (p : ℕ → Bool) → NoneBelow m p → count m p ≡ 0
-unfolding count
-count-none zero p w = refl
-count-none (suc m) p w = rw (w m (omega arith)) (count-none m p (less w))
-
-listed-none : (m : ℕ) (p : ℕ → Bool) → NoneBelow m p → listed m p ≡ []
-unfolding listed
-listed-none zero p w = refl
-listed-none (suc m) p w = rw (w m (omega arith)) (listed-none m p (less w))
-
-least-none : (m : ℕ) (p : ℕ → Bool) → NoneBelow m p → leastBelow m p ≡ none
-unfolding leastBelow
-least-none zero p w = refl
-least-none (suc m) p w = rw (least-none m p (less w), w m (omega arith))
-
-module _ (m : ℕ) (p : ℕ → Bool) (w : NoneBelow m p) where
-  -- whether one passes
-  pub any-behind : (n : ℕ) → anyBelow (m + n) p ≡ anyBelow n (λ x. p (m + x))
-  unfolding anyBelow
-  any-behind zero = ap (λ k. anyBelow k p) (add-zero m) ∙ any-none m p w
-  any-behind (suc n) = ap (λ k. anyBelow k p) (add-suc m n) ∙ ap (λ c. c || p (m + n)) (any-behind n)
-
-  -- how many do
-  pub count-behind : (n : ℕ) → count (m + n) p ≡ count n (λ x. p (m + x))
-  unfolding count
-  count-behind zero = ap (λ k. count k p) (add-zero m) ∙ count-none m p w
-  count-behind (suc n) = ap (λ k. count k p) (add-suc m n) ∙ ap (λ c. cond (p (m + n)) (suc c) c) (count-behind n)
-
-  -- the least that does
-  pub least-behind : (n : ℕ) → leastBelow (m + n) p ≡ raised m (leastBelow n (λ x. p (m + x)))
-  unfolding leastBelow raised
-  least-behind zero = ap (λ k. leastBelow k p) (add-zero m) ∙ least-none m p w
-  least-behind (suc n) =
-      ap (λ k. leastBelow k p) (add-suc m n)
-      ∙ go (leastBelow n (λ x. p (m + x))) (leastBelow (m + n) p) (least-behind n) (p (m + n))
-    where
-      go : (o o′ : Option ℕ) → o′ ≡ raised m o → (c : Bool)
-          → elim o′ as (λ x. Option ℕ) [ some k ↦ some k | none ↦ cond c (some (m + n)) none ]
-          ≡ raised m (elim o as (λ x. Option ℕ) [ some k ↦ some k | none ↦ cond c (some n) none ])
-      go none o′ e true = rw e refl
-      go none o′ e false = rw e refl
-      go (some k) o′ e c = rw e refl
-
-  -- all that do, rising
-  pub listed-behind : (n : ℕ) → listed (m + n) p ≡ map (λ x. m + x) (listed n (λ x. p (m + x)))
-  unfolding listed
-  listed-behind zero = ap (λ k. listed k p) (add-zero m) ∙ listed-none m p w
-  listed-behind (suc n) = ap (λ k. listed k p) (add-suc m n) ∙ go (p (m + n)) (listed-behind n)
-    where
-      here : List ℕ
-      here = listed n (λ x. p (m + x))
-
-      go : (c : Bool) → listed (m + n) p ≡ map (λ x. m + x) here
-          → cond c (listed (m + n) p ++ (m + n) ∷ []) (listed (m + n) p) ≡ map (λ x. m + x) (cond c (here ++ n ∷ []) here)
-      go true e = ap (λ l. l ++ (m + n) ∷ []) e ∙ sym (map-append (λ x. m + x) here (n ∷ []))
-      go false e = e
+-- what holds of the numbers below m and of those behind them holds of all below the sum
+pub below-sum : (P : ℕ → Type 0) (m n : ℕ) → ((x : ℕ) → x < m → P x) → ((x : ℕ) → x < n → P (m + x)) → (y : ℕ) → y < m + n → P y
+below-sum P m n low high y h =
+    ⊎-elim (λ e. low y (ltb-lt y m e))
+    (λ e. let k = ltb-ge y m e in subst P (add-sub-of-le k) (high (y - m) (omega (arith, h, k)))) (true-or-false (ltb y m))
 
 -- f at the numbers below a sum: at those below m, and then behind them
 pub tabulate-sum : {A : Type 0} (m n : ℕ) (f : ℕ → A) → tabulate (m + n) f ≡ tabulate m f ++ tabulate n (λ x. f (m + x))
@@ -104,10 +38,53 @@ count-sum m (suc n) p = ap (λ k. count k p) (add-suc m n) ∙ go (p (m + n)) (c
     go true e = ap suc e ∙ sym (add-suc (count m p) _)
     go false e = e
 
--- where none behind m passes, one below the sum passes exactly if one below m does
-pub any-front : (m : ℕ) (p : ℕ → Bool) (n : ℕ) → ((x : ℕ) → x < n → p (m + x) ≡ false) → anyBelow (m + n) p ≡ anyBelow m p
+-- whether one below a sum passes: one below m, or one behind them
+any-sum : (m n : ℕ) (p : ℕ → Bool) → anyBelow (m + n) p ≡ (anyBelow m p || anyBelow n (λ x. p (m + x)))
 unfolding anyBelow
-any-front m p zero w = ap (λ k. anyBelow k p) (add-zero m)
-any-front m p (suc n) w =
-    ap (λ k. anyBelow k p) (add-suc m n)
-    ∙ ap₂ _||_ (any-front m p n (λ x h. w x (omega arith))) (w n (omega arith)) ∙ or-false (anyBelow m p)
+any-sum m zero p = ap (λ k. anyBelow k p) (add-zero m) ∙ sym (or-false (anyBelow m p))
+any-sum m (suc n) p =
+    ap (λ k. anyBelow k p) (add-suc m n) ∙ ap (λ c. c || p (m + n)) (any-sum m n p)
+    ∙ or-assoc (anyBelow m p) (anyBelow n (λ x. p (m + x))) (p (m + n))
+
+-- where none below m passes a test:
+module _ (m : ℕ) (p : ℕ → Bool) (w : NoneBelow m p) where
+  -- whether one passes
+  pub any-behind : (n : ℕ) → anyBelow (m + n) p ≡ anyBelow n (λ x. p (m + x))
+  any-behind n = any-sum m n p ∙ ap (λ b. b || anyBelow n (λ x. p (m + x))) (any-none m p w)
+
+  -- how many do
+  pub count-behind : (n : ℕ) → count (m + n) p ≡ count n (λ x. p (m + x))
+  count-behind n = omega (arith, count-sum m n p, count-none m p w)
+
+  -- the least that does
+  pub least-behind : (n : ℕ) → leastBelow (m + n) p ≡ Option·map (λ x. m + x) (leastBelow n (λ x. p (m + x)))
+  unfolding leastBelow
+  least-behind zero = ap (λ k. leastBelow k p) (add-zero m) ∙ least-none m p w
+  least-behind (suc n) =
+      ap (λ k. leastBelow k p) (add-suc m n)
+      ∙ go (leastBelow n (λ x. p (m + x))) (leastBelow (m + n) p) (least-behind n) (p (m + n))
+    where
+      go : (o o′ : Option ℕ) → o′ ≡ Option·map (λ x. m + x) o → (c : Bool)
+          → elim o′ as (λ x. Option ℕ) [ some k ↦ some k | none ↦ cond c (some (m + n)) none ]
+          ≡ Option·map (λ x. m + x) (elim o as (λ x. Option ℕ) [ some k ↦ some k | none ↦ cond c (some n) none ])
+      go none o′ e true = rw e refl
+      go none o′ e false = rw e refl
+      go (some k) o′ e c = rw e refl
+
+  -- all that do, rising
+  pub listed-behind : (n : ℕ) → listed (m + n) p ≡ map (λ x. m + x) (listed n (λ x. p (m + x)))
+  unfolding listed
+  listed-behind zero = ap (λ k. listed k p) (add-zero m) ∙ listed-none m p w
+  listed-behind (suc n) = ap (λ k. listed k p) (add-suc m n) ∙ go (p (m + n)) (listed-behind n)
+    where
+      here : List ℕ
+      here = listed n (λ x. p (m + x))
+
+      go : (c : Bool) → listed (m + n) p ≡ map (λ x. m + x) here
+          → cond c (listed (m + n) p ++ (m + n) ∷ []) (listed (m + n) p) ≡ map (λ x. m + x) (cond c (here ++ n ∷ []) here)
+      go true e = ap (λ l. l ++ (m + n) ∷ []) e ∙ sym (map-append (λ x. m + x) here (n ∷ []))
+      go false e = e
+
+-- where none behind m passes, one below the sum passes exactly if one below m does
+pub any-front : (m : ℕ) (p : ℕ → Bool) (n : ℕ) → NoneBelow n (λ x. p (m + x)) → anyBelow (m + n) p ≡ anyBelow m p
+any-front m p n w = any-sum m n p ∙ ap (λ b. anyBelow m p || b) (any-none n _ w) ∙ or-false (anyBelow m p)

@@ -13,7 +13,7 @@ use Rattle.graph.specs.Groups.{component, parts, bridge}
 use Rattle.graph.specs.Between.{leastMate, isBridgeBetween, bridgeBefore, bridgesBetween}
 use Rattle.graph.proofs.Truth.{true-or-false, false-of-not, not-both, bool-ext, not-of-false, false-of-not-true, and-left, and-right}
 use Rattle.graph.proofs.Truth.{and-both, ltb-lt, lt-ltb, ltb-ge}
-use Rattle.graph.proofs.Below.{any-below, some-below}
+use Rattle.graph.proofs.Below.{any-below, none-below, some-below}
 use Rattle.graph.proofs.Joined.{joined-sym, joined-trans, joined-edge, joined-less-lost}
 use Rattle.graph.proofs.Mates.{mates-sym, mates-carry}
 use Rattle.graph.proofs.Losses.{AtEnd, joined-stays, joined-or-at-ends}
@@ -89,8 +89,7 @@ module _ (g : Network) where
 
           none : anyBelow (edgeCount g) (mates g s) ≡ false → ltb s (edgeCount g) ≡ true
           none q = absurd (not-both
-              (joined-less-lost g nothing (mates g s)
-              (λ t h i. false-of-not (mates g s t) (λ m. not-both (any-below (edgeCount g) (mates g s) t h m) q)) a b
+              (joined-less-lost g nothing (mates g s) (λ t h i. none-below (edgeCount g) (mates g s) q t h) a b
               (parts-component g (lossOf g s) a b (bridge-between-parts a b s e)))
               (parts-apart g (lossOf g s) a b (bridge-between-parts a b s e)))
 
@@ -186,7 +185,7 @@ module _ (g : Network) where
 
     no-bridges : ((lost : Loss) → parts g lost a b ≡ false) → bridgesBetween g a b ≡ []
     unfolding bridgesBetween
-    no-bridges w = sorted-none (bridgeBefore g a) (edgeCount g) (isBridgeBetween g a b) (λ s.
+    no-bridges w = sorted-none (bridgeBefore g a) (edgeCount g) (isBridgeBetween g a b) (λ s h.
         false-of-not (isBridgeBetween g a b s) (λ e. not-both (bridge-between-parts a b s e) (w (lossOf g s))))
 
     -- across components there is none

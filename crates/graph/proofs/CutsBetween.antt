@@ -130,7 +130,7 @@ module _ (g : Network) where
 
     no-cuts : ((lost : Loss) → parts g lost a b ≡ false) → cutsBetween g a b ≡ []
     unfolding cutsBetween
-    no-cuts w = sorted-none (cutBefore g a) (g .vertices) (isCutBetween g a b) (λ c.
+    no-cuts w = sorted-none (cutBefore g a) (g .vertices) (isCutBetween g a b) (λ c h.
         false-of-not (isCutBetween g a b c) (λ e. not-both (cut-between-parts c e) (w (without g c))))
 
     -- across components there is none

@@ -10,7 +10,7 @@ use Rattle.graph.specs.Network.{Network, Edge, MateRule, edge, edgeCount
 use Rattle.graph.specs.Groups.{component, bridge, bridgeBlock}
 use Rattle.graph.specs.Block.{block, link, onBlock}
 use Rattle.graph.proofs.Truth.{true-or-false, false-of-not, not-of-false, false-of-not-true, not-both, bool-ext, eqb-eq, eq-eqb}
-use Rattle.graph.proofs.Below.{any-below, some-below, Below}
+use Rattle.graph.proofs.Below.{none-below, some-below, Below}
 use Rattle.graph.proofs.Joined.{joined-less-lost, joined-same-loss, edge-count-more, edge-old, old-or-new, joined-old}
 use Rattle.graph.proofs.Mates.{loss-of-mates}
 use Rattle.graph.proofs.MateLoss.{joined-loss-old}
@@ -72,10 +72,7 @@ module _ (g : Network) (e : Edge) where
       go (inr n) =
           joined-old g e (mates (addEdge g e) (edgeCount g)) x y
           (joined-less-lost g nothing (mates (addEdge g e) (edgeCount g))
-          (λ s h k.
-          false-of-not (mates (addEdge g e) (edgeCount g) s)
-          (λ m. not-both (any-below (edgeCount g) (mates (addEdge g e) (edgeCount g)) s h m) n))
-          x y c)
+          (λ s h k. none-below (edgeCount g) (mates (addEdge g e) (edgeCount g)) n s h) x y c)
 
   -- what shared a bridge-block still does
   pub bridge-block-grows : MateRule (g .rule) → (x y : ℕ) → bridgeBlock g x y ≡ true → bridgeBlock (addEdge g e) x y ≡ true

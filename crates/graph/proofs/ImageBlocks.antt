@@ -1,10 +1,11 @@
 -- The bridges, bridge-blocks and blocks of an image are those of the network that it is the image of.
-use mathlib.Core.Bool.{true, not}
-use mathlib.Core.Path.{_≡_, sym, _∙_, ap}
+use mathlib.Core.Bool.{true, not, _&&_}
+use mathlib.Core.Logic.{⊎-elim}
+use mathlib.Core.Path.{_≡_, sym, _∙_, ap, ap₂}
 use Prim.Native.Nat.{ℕ, _<_}
 use Rattle.graph.specs.Network.{Network, MateRule, edge, edgeCount, touches, mates, lossOf, without, joined}
 use Rattle.graph.specs.Groups.{bridge, bridgeBlock}
-use Rattle.graph.specs.Block.{link, block, onBlock}
+use Rattle.graph.specs.Block.{link, block, onBlock, atBoth}
 use Rattle.graph.proofs.Truth.{bool-ext}
 use Rattle.graph.proofs.Below.{Below}
 use Rattle.graph.proofs.Joined.{joined-swap}
@@ -12,7 +13,7 @@ use Rattle.graph.proofs.Joins.{joins-carries, joins-touches}
 use Rattle.graph.proofs.Mates.{mates-refl, mates-sym}
 use Rattle.graph.proofs.MateEdges.{mates-share-block}
 use Rattle.graph.proofs.BridgeBlock.{bridge-block-is-joined-off-bridges}
-use Rattle.graph.proofs.Block.{block-trans, block-equivalence, block-least}
+use Rattle.graph.proofs.Block.{block-refl, block-trans, block-equivalence, block-least, block-below}
 use Rattle.graph.proofs.Ends.{link-sym}
 use Rattle.graph.proofs.Links.{Link, link-parts, linked-edges-share-block}
 use Rattle.graph.proofs.BlockVertices.{on-block, block-on}
@@ -111,6 +112,16 @@ module _ {g h : Network} {f p : ℕ → ℕ} (i : Image g h f p) (rule : MateRul
           (mates-share-block g rule (u .of) t (u .is .0) l
           (sym (i .mates-go (u .of) t (u .is .0) l) ∙ mates-sym h rule′ (p t) (p (u .of)) (u .is .1)))
 
+  -- where different numbers have different images, and only edges have images that are edges, images of numbers share a block exactly if the
+  -- numbers do, whether they are edges or not
+  pub block-image-any : ((s t : ℕ) → p s ≡ p t → s ≡ t) → ((s : ℕ) → p s < edgeCount h → s < edgeCount g)
+      → (s t : ℕ) → block h (p s) (p t) ≡ block g s t
+  block-image-any one known s t =
+      bool-ext (block h (p s) (p t)) (block g s t)
+      (λ e. ⊎-elim (λ q. rw (one s t q) (block-refl g t))
+      (λ k. sym (block-image s t (known s (k .0)) (known t (k .1))) ∙ e) (block-below h (p s) (p t) e))
+      (λ e. ⊎-elim (λ q. rw q (block-refl h (p t))) (λ k. block-image s t (k .0) (k .1) ∙ e) (block-below g s t e))
+
   -- the image of a vertex is on the block of the image of an edge exactly if the vertex is on the edge's block
   pub on-block-image : (s x : ℕ) → s < edgeCount g → onBlock h (p s) (f x) ≡ onBlock g s x
   unfolding without
@@ -134,3 +145,8 @@ module _ {g h : Network} {f p : ℕ → ℕ} (i : Image g h f p) (rule : MateRul
           (sym (block-image s (t .at) k (t .below))
           ∙ block-trans h (p s) (o .by) (p (t .at)) (o .within) (mates-share-block h rule′ (o .by) (p (t .at)) (o .known) known (t .passes)))
           (sym (same (t .at) (t .below)) ∙ sym (vertex-loss-image i rule′ x .mates-alike (o .by) (p (t .at)) (t .passes)) ∙ o .at)
+
+  -- the image of an edge is at the image of one vertex and its block has the image of another, exactly if so it is with edge and vertices
+  pub at-both-image : (x y s : ℕ) → s < edgeCount g → atBoth h (f x) (f y) (p s) ≡ atBoth g x y s
+  unfolding atBoth without
+  at-both-image x y s k = ap₂ _&&_ (vertex-loss-image i rule′ x .agrees s k) (on-block-image s y k)

@@ -1,4 +1,4 @@
--- Laws of lists of numbers under a map: where two maps agree, and what becomes of first occurrences, of tests and of members.
+-- Laws of lists under a map: where two maps agree, and what becomes of first occurrences, of tests, of members and of entries.
 use mathlib.Core.Bool.{Bool, true, false, not, cond, _&&_, _||_}
 use mathlib.Core.List.{List, [], _∷_, map}
 use mathlib.Core.Path.{_≡_, refl, ap, ap₂}
@@ -43,7 +43,7 @@ firsts-mapped k p q (x ∷ l) same one =
     go false e r = rw e r
 
 -- a test of a mapped list is one of the list
-pub all-in-mapped : (k : ℕ → ℕ) (test : ℕ → Bool) (l : List ℕ) → allIn test (map k l) ≡ allIn (λ x. test (k x)) l
+pub all-in-mapped : {A B : Type 0} (k : A → B) (test : B → Bool) (l : List A) → allIn test (map k l) ≡ allIn (λ x. test (k x)) l
 unfolding allIn
 all-in-mapped k test [] = refl
 all-in-mapped k test (x ∷ l) = ap (λ rest. test (k x) && rest) (all-in-mapped k test l)

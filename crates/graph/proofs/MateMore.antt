@@ -13,7 +13,7 @@ use Rattle.graph.specs.Cycle.{Step, joins, anyStep}
 use Rattle.graph.specs.Block.{block, onBlock}
 use Rattle.graph.specs.BlockPath.{BlockPath}
 use Rattle.graph.proofs.Truth.{true-or-false, not-both, false-of-not, not-of-false, bool-ext, or-neither, eq-eqb, eqb-swap}
-use Rattle.graph.proofs.Below.{Below, any-below, some-below}
+use Rattle.graph.proofs.Below.{Below, none-below, some-below}
 use Rattle.graph.proofs.Gathered.{gathered, gathered-ways, gathered-before}
 use Rattle.graph.proofs.Walks.{joins-joined}
 use Rattle.graph.proofs.Joins.{joins-apart, touches-no-third}
@@ -59,7 +59,7 @@ module _ (g : Network) (e : Edge) (proper : Proper g) (rule : MateRule (g .rule)
   mate-or-none : Below (edgeCount g) (λ s. g .rule (edge g s) e) ⊎ NoMate g e
   mate-or-none = ⊎-elim
       (λ k. inl (some-below (edgeCount g) (λ s. g .rule (edge g s) e) k))
-      (λ n. inr (λ s h. false-of-not (g .rule (edge g s) e) (λ m. not-both (any-below (edgeCount g) (λ s. g .rule (edge g s) e) s h m) n)))
+      (λ n. inr (none-below (edgeCount g) (λ s. g .rule (edge g s) e) n))
       (true-or-false (anyBelow (edgeCount g) (λ s. g .rule (edge g s) e)))
 
   -- a mate joins the ends of the new edge

@@ -179,12 +179,6 @@ distinct-listed (suc n) p = go (distinct-listed n p) (p n)
     go d true = distinct-last n (listed n p) (is-in-listed n p n ∙ ap (λ b. b && p n) (ge-ltb n n (omega arith))) d
     go d false = d
 
--- where no number passes it is empty
-pub listed-none : (n : ℕ) (p : ℕ → Bool) → ((x : ℕ) → p x ≡ false) → listed n p ≡ []
-unfolding listed
-listed-none zero p w = refl
-listed-none (suc n) p w = ap (λ b. cond b (listed n p ++ n ∷ []) (listed n p)) (w n) ∙ listed-none n p w
-
 -- the members of two lists on end
 pub is-in-append : (x : ℕ) (l m : List ℕ) → isIn x (l ++ m) ≡ (isIn x l || isIn x m)
 unfolding isIn

@@ -1,16 +1,15 @@
--- The rule of document 01, by which no other edge is lost with an edge: it is a rule of mates, under it a new edge has no mate, every edge
--- is the least of its mates, and two parallel edges are a simple cycle.
+-- The rule of document 01, by which no other edge is lost with an edge: it is a rule of mates, under it every edge is the least of its
+-- mates, and two parallel edges are a simple cycle.
 use mathlib.Core.Bool.{true, false, false≢true}
-use mathlib.Core.Path.{_≡_, sym, _∙_, ap}
+use mathlib.Core.Path.{_≡_, sym, _∙_}
 use Prim.Native.Nat.{ℕ, _<_}
 use lib.Dec.{eqb}
-use Rattle.graph.specs.Network.{Network, Edge, MateRule, Proper, never, parallel, edge, edgeCount, mates-never}
+use Rattle.graph.specs.Network.{Network, MateRule, Proper, never, parallel, edge, edgeCount, mates-never}
 use Rattle.graph.specs.Cycle.{OnCycle}
 use Rattle.graph.specs.Between.{leastMate}
 use Rattle.graph.specs.Travel.{firstMate}
 use Rattle.graph.proofs.Truth.{eqb-eq}
 use Rattle.graph.proofs.Travel.{first-mate, first-mate-least}
-use Rattle.graph.proofs.MateLoss.{NoMate}
 use Rattle.graph.proofs.CommonCycle.{parallel-edges-on-cycle}
 
 -- "no other edge" is a rule of mates
@@ -22,11 +21,6 @@ never-mates =
       transitive = λ e f h k l. k;
       only-parallel = λ e f k. absurd (false≢true k);
     }
-
--- a new edge has no mate
-pub no-mate-never : (g : Network) → g .rule ≡ never → (e : Edge) → NoMate g e
-unfolding never
-no-mate-never g none e s h = ap (λ rule. rule (edge g s) e) none
 
 -- every edge is the least of its mates
 pub first-mate-never : (g : Network) → g .rule ≡ never → (s : ℕ) → firstMate g s ≡ s

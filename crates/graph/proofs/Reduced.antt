@@ -1,12 +1,11 @@
 -- The network in which each set of mates is one edge: how its edges are numbered, and that it and the network are images of each other.
 use mathlib.Core.Bool.{true, false}
-use mathlib.Core.List.{List, [], _∷_, map}
 use mathlib.Core.Logic.{_↔_}
 use mathlib.Core.Path.{_≡_, refl, sym, _∙_, ap, ap₂}
-use Prim.Native.Nat.{ℕ, zero, suc, _<_}
+use Prim.Native.Nat.{ℕ, _<_}
 use native.Mathlib.Omega.{arith}
 use lib.Dec.{eqb}
-use lib.ListN.{length, getD, length-map}
+use lib.ListN.{length, length-map}
 use lib.Seq.{ext-getD}
 use Rattle.graph.specs.Below.{count}
 use Rattle.graph.specs.Network.{Network, Edge, MateRule, Proper, never, edgeBetween, edge, edgeCount, mates, mates-never}
@@ -19,15 +18,10 @@ use Rattle.graph.proofs.Mates.{mates-refl}
 use Rattle.graph.proofs.MateEdges.{mates-joins}
 use Rattle.graph.proofs.Travel.{first-mate-least}
 use Rattle.graph.proofs.FirstMates.{first-mate-low, mate-of-first, mates-first, first-mates, least-first}
+use Rattle.graph.proofs.MappedLists.{entry-mapped}
 use Rattle.graph.proofs.Never.{never-mates, least-never}
 use Rattle.graph.proofs.Places.{Numbered, each-listed, At, listed-at, numbered-rise, length-listed-count, count-all}
 use Rattle.graph.proofs.Image.{Image}
-
--- an element of a list under a map is that of the list
-getD-map : {A : Type 0} (f : ℕ → A) (l : List ℕ) (i d : ℕ) (e : A) → i < length l → getD (map f l) i e ≡ f (getD l i d)
-getD-map f [] i d e k = absurd (omega arith)
-getD-map f (x ∷ l) zero d e k = refl
-getD-map f (x ∷ l) (suc i) d e k = getD-map f l i d e (omega arith)
 
 module _ (g : Network) where
   -- no edge of the reduced network is lost with another
@@ -48,7 +42,7 @@ module _ (g : Network) where
   -- each of its edges is the edge of the network that it stands for
   pub edge-reduced : (k : ℕ) → k < edgeCount (reduced g) → edge (reduced g) k ≡ edge g (fullNumber g k)
   unfolding reduced edgeCount edge fullNumber
-  edge-reduced k l = getD-map (edge g) (leastEdges g) k 0 (edgeBetween 0 0) (rw edge-count-reduced at l)
+  edge-reduced k l = entry-mapped (edge g) (leastEdges g) k (edgeBetween 0 0) 0 (rw edge-count-reduced at l)
 
   -- edge k stands for the least of mates before which k others are the least of their mates
   full-numbered : (k : ℕ) → k < edgeCount (reduced g) → Numbered (edgeCount g) (leastMate g) k (fullNumber g k)

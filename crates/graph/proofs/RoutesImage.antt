@@ -1,7 +1,7 @@
 -- Routes in an image: two that serve two vertices have images that serve their images. So in networks alike the same two serve.
 use mathlib.Core.Bool.{true, not}
-use mathlib.Core.List.{List, [], _∷_, map, map-id}
-use mathlib.Core.Path.{_≡_, refl, _∙_, ap, ap₂, subst}
+use mathlib.Core.List.{List, [], _∷_, map, map-id, map-map}
+use mathlib.Core.Path.{_≡_, refl, sym, _∙_, ap, ap₂, subst}
 use Prim.Native.Nat.{ℕ, _<_}
 use Rattle.graph.specs.Lists.{allIn, isIn, distinct}
 use Rattle.graph.specs.Network.{Network, edge, edgeCount, otherEnd, mates}
@@ -17,11 +17,15 @@ use Rattle.graph.proofs.ImageLists.{imageSteps, visited-image, leads-im
 use Rattle.graph.proofs.Alike.{Alike, alike-image, alike-sym}
 
 -- the edges of the steps along edges are these
-along-steps : (g : Network) (p : ℕ → ℕ) (f : ℕ → ℕ) (a : ℕ) (ss : List ℕ)
-    → map (λ q. q .along) (imageSteps f p (stepsAlong g a ss)) ≡ map p ss
-unfolding imageSteps stepsAlong
-along-steps g p f a [] = refl
-along-steps g p f a (s ∷ ss) = ap (λ l. p s ∷ l) (along-steps g p f (otherEnd (edge g s) a) ss)
+pub along-back : (g : Network) (a : ℕ) (ss : List ℕ) → map (λ q. q .along) (stepsAlong g a ss) ≡ ss
+unfolding stepsAlong
+along-back g a [] = refl
+along-back g a (s ∷ ss) = ap (λ l. s ∷ l) (along-back g (otherEnd (edge g s) a) ss)
+
+-- the edges of the images of steps are the images of their edges
+pub along-image : (f p : ℕ → ℕ) (ps : List Step) → map (λ q. q .along) (imageSteps f p ps) ≡ map p (map (λ q. q .along) ps)
+unfolding imageSteps
+along-image f p ps = map-map _ _ ps ∙ sym (map-map p _ ps)
 
 -- The images of two routes.
 unfoldable pub routesImage : (ℕ → ℕ) → Routes → Routes
@@ -32,7 +36,7 @@ module _ {g h : Network} {f p : ℕ → ℕ} (i : Image g h f p) where
   pub route-image : (a b : ℕ) (ss : List ℕ) → isRoute g a b ss ≡ true → isRoute h (f a) (f b) (map p ss) ≡ true
   unfolding isRoute
   route-image a b ss r =
-      subst (λ l. isRoute h (f a) (f b) l ≡ true) (along-steps g p f a ss)
+      subst (λ l. isRoute h (f a) (f b) l ≡ true) (along-image f p steps ∙ ap (map p) (along-back g a ss))
       (walk-is-route h (imageSteps f p steps) (f a) (f b)
       (leads-image i steps a b (and-left (leads g a steps b) _ r))
       (ap distinct (visited-image f p a steps)

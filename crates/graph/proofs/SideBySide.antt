@@ -4,17 +4,18 @@ use mathlib.Core.Bool.{true, false, cond, _||_}
 use mathlib.Core.List.{List, [], _∷_, _++_, map, map-append, append-assoc}
 use mathlib.Core.Logic.{_⊎_, inl, inr, ⊎-elim}
 use mathlib.Core.Path.{_≡_, refl, sym, _∙_, ap, ap₂}
-use Prim.Native.Nat.{ℕ, _+_, _-_, _<_, _≤_}
-use native.Mathlib.Nat.{add-suc}
+use Prim.Native.Nat.{ℕ, suc, _+_, _-_, _<_, _≤_}
+use native.Mathlib.Nat.{add-suc, add-sub-of-le}
 use native.Mathlib.Omega.{arith}
-use lib.Dec.{eqb, ltb}
+use lib.Dec.{eqb, leb, ltb}
 use lib.ListN.{length, length-append, length-map, List·getD-append}
 use lib.Seq.{getD-append-add}
 use Rattle.graph.specs.Network.{Network, Edge, Rule, MateRule, Proper, oneDuct, edge, edgeCount, touches, parallel, addVertex, addEdge, mates}
 use Rattle.graph.specs.Groups.{component, bridgeBlock}
 use Rattle.graph.specs.Block.{link, block}
-use Rattle.graph.proofs.Truth.{true-or-false, false-of-not, bool-ext, or-neither, not-both, eqb-eq, ne-eqb, eq-eqb, lt-ltb, ltb-lt, ge-ltb, ltb-ge}
+use Rattle.graph.proofs.Truth.{true-or-false, false-of-not, bool-ext, or-neither, not-both, eqb-eq, eqb-same, ne-eqb, lt-ltb, ltb-lt, ge-ltb, ltb-ge, leb-le, le-leb}
 use Rattle.graph.proofs.Below.{Below}
+use Rattle.graph.proofs.BelowSum.{below-sum}
 use Rattle.graph.proofs.Mates.{mates-refl, component-swap}
 use Rattle.graph.proofs.MappedLists.{eqb-mapped, entry-mapped}
 use Rattle.graph.proofs.Walks.{joins-ends}
@@ -23,7 +24,7 @@ use Rattle.graph.proofs.Links.{Link, link-parts}
 use Rattle.graph.proofs.Block.{block-least}
 use Rattle.graph.proofs.BridgeBlock.{bridge-block-component}
 use Rattle.graph.proofs.Image.{Image, component-image, component-image-closed}
-use Rattle.graph.proofs.ImageBlocks.{bridge-block-image, block-image}
+use Rattle.graph.proofs.ImageBlocks.{bridge-block-image, block-image, block-image-any}
 
 -- an edge with its ends raised
 unfoldable pub raiseEdge : ℕ → Edge → Edge
@@ -42,11 +43,20 @@ beside b g =
 pub eqb-raised : (m x y : ℕ) → eqb (m + x) (m + y) ≡ eqb x y
 eqb-raised m x y = eqb-mapped (λ z. m + z) x y (λ e. omega (arith, e))
 
+-- and in order exactly if the numbers are
+pub leb-raised : (m x y : ℕ) → leb (m + x) (m + y) ≡ leb x y
+leb-raised m x y =
+    bool-ext (leb (m + x) (m + y)) (leb x y)
+    (λ e. le-leb x y (omega (arith, leb-le (m + x) (m + y) e))) (λ e. le-leb (m + x) (m + y) (omega (arith, leb-le x y e)))
+
+pub ltb-raised : (m x y : ℕ) → ltb (m + x) (m + y) ≡ ltb x y
+ltb-raised m x y = ap (λ z. leb z (m + y)) (sym (add-suc m x)) ∙ leb-raised m (suc x) y
+
 -- The rule has raised edges lost together exactly if it has the edges lost together.
 abbrev pub Raises : Rule → Type 0
 Raises rule = (m : ℕ) (e f : Edge) → rule (raiseEdge m e) (raiseEdge m f) ≡ rule e f
 
--- the rule of request 7 does
+-- the rule of one duct does
 pub one-duct-raises : Raises oneDuct
 unfolding oneDuct parallel raiseEdge
 one-duct-raises m e f =
@@ -56,10 +66,6 @@ one-duct-raises m e f =
       eqb-raised m (e .left) (f .right),
       eqb-raised m (e .right) (f .left),
     )
-
--- a number that is not below another is that and a difference
-sum-of-difference : (m c : ℕ) → m ≤ c → c ≡ m + (c - m)
-sum-of-difference m c l = omega arith
 
 -- a vertex more in the second
 pub vertex-beside : (b g : Network) → addVertex (beside b g) ≡ beside b (addVertex g)
@@ -94,20 +100,10 @@ module _ (b g : Network) where
       (append-assoc (b .edges) (map (raiseEdge (b .vertices)) (g .edges)) _
       ∙ ap (λ (es : List Edge). b .edges ++ es) (sym (map-append (raiseEdge (b .vertices)) (g .edges) (e ∷ []))))
 
-  -- an edge is one of the first or one of the second
-  of-either : (r : ℕ) → r < edgeCount (beside b g) → (r < edgeCount b) ⊎ Below (edgeCount g) (λ s. eqb r (edgeCount b + s))
-  of-either r k = go (true-or-false (ltb r (edgeCount b)))
-    where
-      go : (ltb r (edgeCount b) ≡ true) ⊎ (ltb r (edgeCount b) ≡ false) → (r < edgeCount b) ⊎ Below (edgeCount g) (λ s. eqb r (edgeCount b + s))
-      go (inl l) = inl (ltb-lt r (edgeCount b) l)
-      go (inr l) =
-          let behind = ltb-ge r (edgeCount b) l in
-          inr
-          (record {
-            at = r - edgeCount b;
-            below = omega (arith, k, count-beside, behind);
-            passes = eq-eqb r (edgeCount b + (r - edgeCount b)) (omega (arith, behind));
-          })
+  -- what holds of the edges of the first and of those of the second holds of all
+  each-edge-beside : (P : ℕ → Type 0) → ((s : ℕ) → s < edgeCount b → P s) → ((s : ℕ) → s < edgeCount g → P (edgeCount b + s))
+      → (r : ℕ) → r < edgeCount (beside b g) → P r
+  each-edge-beside P first second r l = below-sum P (edgeCount b) (edgeCount g) first second r (rw count-beside at l)
 
 -- Vertices of the first keep their numbers; what is no vertex of it is put behind both.
 unfoldable pub inFirst : Network → Network → ℕ → ℕ
@@ -160,7 +156,7 @@ module _ {b g : Network} (w : Beside b g) where
       go (inl e) = let l = ltb-lt x m e in rw (known-in-first b g x l) (away x (inl l))
       go (inr e) = let l = ltb-ge x m e in rw (unknown-in-first b g x l) (away (g .vertices + x) (inr (omega (arith, l))))
 
-  -- the rule is a rule of both
+  -- edges of the second are mates in both exactly if they are there
   pub mates-of-second : (s t : ℕ) → s < edgeCount g → t < edgeCount g → mates both (k + s) (k + t) ≡ mates g s t
   unfolding mates beside
   mates-of-second s t l l′ =
@@ -170,19 +166,16 @@ module _ {b g : Network} (w : Beside b g) where
 
   -- what ends at a vertex of the second is an edge of it
   pub at-second : (r x : ℕ) → r < edgeCount both → touches (edge both r) (m + x) ≡ true → Below (edgeCount g) (λ s. eqb r (k + s))
-  at-second r x l t = go (of-either b g r l)
-    where
-      go : (r < k) ⊎ Below (edgeCount g) (λ s. eqb r (k + s)) → Below (edgeCount g) (λ s. eqb r (k + s))
-      go (inl e) = absurd (not-both t (first-away r x e))
-      go (inr s) = s
+  at-second r x =
+      each-edge-beside b g (λ r. touches (edge both r) (m + x) ≡ true → Below (edgeCount g) (λ s. eqb r (k + s)))
+      (λ r l t. absurd (not-both t (first-away r x l)))
+      (λ s l t. record { at = s; below = l; passes = eqb-same (k + s) }) r
 
   -- and what ends at a vertex of the first, one of that
   at-first : (r x : ℕ) → r < edgeCount both → touches (edge both r) (inFirst b g x) ≡ true → r < k
-  at-first r x l t = go (of-either b g r l)
-    where
-      go : (r < k) ⊎ Below (edgeCount g) (λ s. eqb r (k + s)) → r < k
-      go (inl e) = e
-      go (inr s) = absurd (not-both (rw (eqb-eq r (k + s .at) (s .passes)) at t) (second-away (s .at) x (s .below)))
+  at-first r x =
+      each-edge-beside b g (λ r. touches (edge both r) (inFirst b g x) ≡ true → r < k)
+      (λ r l t. l) (λ s l t. absurd (not-both t (second-away s x l))) r
 
   -- The second is found again with its numbers raised.
   pub second-image : Image g both (λ x. m + x) (λ s. k + s)
@@ -245,28 +238,24 @@ module _ {b g : Network} (w : Beside b g) where
       P s = (edge both s .left < both .vertices) × (edge both s .right < both .vertices) × (eqb (edge both s .left) (edge both s .right) ≡ false)
 
       ends : (s : ℕ) → s < edgeCount both → P s
-      ends s l = go (of-either b g s l)
-        where
-          go : (s < k) ⊎ Below (edgeCount g) (λ t. eqb s (k + t)) → P s
-          go (inl e) =
-              rw (edge-of-first b g s e)
-              (omega (arith, w .first-proper .left-known s e), omega (arith, w .first-proper .right-known s e), w .first-proper .no-loop s e)
-          go (inr t) =
-              rw (eqb-eq s (k + t .at) (t .passes), edge-of-second b g (t .at) (t .below))
-              (unfold raiseEdge in (
-                omega (arith, w .second-proper .left-known (t .at) (t .below)),
-                omega (arith, w .second-proper .right-known (t .at) (t .below)),
-                eqb-raised m _ _ ∙ w .second-proper .no-loop (t .at) (t .below),
-              ))
+      ends =
+          each-edge-beside b g P
+          (λ s l.
+          rw (edge-of-first b g s l)
+          (omega (arith, w .first-proper .left-known s l), omega (arith, w .first-proper .right-known s l), w .first-proper .no-loop s l))
+          (λ s l.
+          rw (edge-of-second b g s l)
+          (unfold raiseEdge in (
+            omega (arith, w .second-proper .left-known s l),
+            omega (arith, w .second-proper .right-known s l),
+            eqb-raised m _ _ ∙ w .second-proper .no-loop s l,
+          )))
 
   -- an edge of the first ends at vertices of the first
   ends-in-first : (s c : ℕ) → s < k → touches (edge both s) c ≡ true → c < m
-  ends-in-first s c l t = go (true-or-false (ltb c m))
-    where
-      go : (ltb c m ≡ true) ⊎ (ltb c m ≡ false) → c < m
-      go (inl e) = ltb-lt c m e
-      go (inr e) =
-          absurd (not-both (rw (sum-of-difference m c (ltb-ge c m e)) at t) (first-away s (c - m) l))
+  ends-in-first s c l t =
+      ⊎-elim (ltb-lt c m) (λ e. absurd (not-both (rw (sym (add-sub-of-le (ltb-ge c m e))) at t) (first-away s (c - m) l)))
+      (true-or-false (ltb c m))
 
   -- edges that end at one vertex are of one network
   of-one : (s t c : ℕ) → t < edgeCount both → touches (edge both s) c ≡ true → touches (edge both t) c ≡ true → s < k → t < k
@@ -343,5 +332,7 @@ module _ {b g : Network} (w : Beside b g) where
     pub bridge-block-of-second : (x y : ℕ) → bridgeBlock both (m + x) (m + y) ≡ bridgeBlock g x y
     bridge-block-of-second = bridge-block-image second-image rule-of-second rule-of-both
 
-    pub block-of-second : (s t : ℕ) → s < edgeCount g → t < edgeCount g → block both (k + s) (k + t) ≡ block g s t
-    block-of-second = block-image second-image rule-of-second rule-of-both
+    -- whether there are such edges or not
+    pub block-of-second : (s t : ℕ) → block both (k + s) (k + t) ≡ block g s t
+    block-of-second =
+        block-image-any second-image rule-of-second rule-of-both (λ s t e. omega (arith, e)) (λ s l. omega (arith, l, count-beside b g))

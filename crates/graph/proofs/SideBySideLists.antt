@@ -2,11 +2,12 @@
 -- serve them, are those of the second, raised.
 use mathlib.Core.Bool.{true, false, not, _&&_}
 use mathlib.Core.List.{List, [], _∷_, map}
+use mathlib.Core.Option.{Option·map}
 use mathlib.Core.Path.{_≡_, refl, sym, _∙_, ap, ap₂}
 use Prim.Native.Nat.{ℕ, _+_, _<_}
 use native.Mathlib.Omega.{arith}
 use Rattle.graph.specs.Lists.{isIn, distinct}
-use Rattle.graph.specs.Network.{Network, MateRule, edge, edgeCount, otherEnd, mates, without}
+use Rattle.graph.specs.Network.{Network, MateRule, edge, edgeCount, mates}
 use Rattle.graph.specs.Groups.{bridge}
 use Rattle.graph.specs.Block.{onBlock, atBoth, sharedBlock}
 use Rattle.graph.specs.Between.{leastMate, bridgesBetween, cutsBetween}
@@ -15,30 +16,18 @@ use Rattle.graph.specs.Travel.{visited}
 use Rattle.graph.specs.Route.{stepsAlong, isRoute, Routes, serve}
 use Rattle.graph.proofs.Truth.{false-of-not, not-both, and-left, and-right, and-both, eqb-eq, eq-eqb}
 use Rattle.graph.proofs.Below.{any-below-same, least-below-same}
-use Rattle.graph.proofs.BelowSum.{raised, any-behind, least-behind}
+use Rattle.graph.proofs.BelowSum.{any-behind, least-behind}
 use Rattle.graph.proofs.Walks.{leads-none, leads-first, first-leads}
 use Rattle.graph.proofs.Joins.{joins-touches}
 use Rattle.graph.proofs.Mates.{mates-refl, mates-sym}
 use Rattle.graph.proofs.MateEdges.{mates-joins}
 use Rattle.graph.proofs.MappedLists.{is-in-mapped, distinct-mapped}
 use Rattle.graph.proofs.Routes.{walk-is-route, route-known, apart-by, apart-mates, served}
-use Rattle.graph.proofs.Image.{EndsOf, image-ends, vertex-loss-image}
-use Rattle.graph.proofs.ImageBlocks.{bridge-image, on-block-image}
+use Rattle.graph.proofs.Image.{EndsOf, image-ends}
+use Rattle.graph.proofs.ImageBlocks.{bridge-image, at-both-image}
 use Rattle.graph.proofs.ImageLists.{imageSteps, visited-image, bridges-between-image, cuts-between-image}
-use Rattle.graph.proofs.RoutesImage.{routesImage}
+use Rattle.graph.proofs.RoutesImage.{along-back, along-image, routesImage}
 use Rattle.graph.proofs.SideBySide.{beside, Beside, count-beside, first-away, mates-of-second, at-second, second-image, beside-proper, rule-of-both, rule-of-second}
-
--- the edges of the steps along edges are these
-along-back : (g : Network) (a : ℕ) (ss : List ℕ) → map (λ q. q .along) (stepsAlong g a ss) ≡ ss
-unfolding stepsAlong
-along-back g a [] = refl
-along-back g a (s ∷ ss) = ap (λ l. s ∷ l) (along-back g (otherEnd (edge g s) a) ss)
-
--- the edges of raised steps are raised
-along-image : (f p : ℕ → ℕ) (ps : List Step) → map (λ q. q .along) (imageSteps f p ps) ≡ map p (map (λ q. q .along) ps)
-unfolding imageSteps
-along-image f p [] = refl
-along-image f p (q ∷ ps) = ap (λ l. p (q .along) ∷ l) (along-image f p ps)
 
 module _ {b g : Network} (w : Beside b g) (rule : MateRule (b .rule)) where
   abbrev both : Network
@@ -80,15 +69,13 @@ module _ {b g : Network} (w : Beside b g) (rule : MateRule (b .rule)) where
   bridge-of-second = bridge-image (second-image w) (rule-of-both w rule)
 
   -- The block that two of its vertices share.
-  pub shared-block-of-second : (x y : ℕ) → sharedBlock both (m + x) (m + y) ≡ raised k (sharedBlock g x y)
-  unfolding sharedBlock atBoth without
+  pub shared-block-of-second : (x y : ℕ) → sharedBlock both (m + x) (m + y) ≡ Option·map (λ s. k + s) (sharedBlock g x y)
+  unfolding sharedBlock
   shared-block-of-second x y =
       rw (count-beside b g)
-      (least-behind k (atBoth both (m + x) (m + y)) (λ s h. ap (λ c. c && onBlock both s (m + y)) (first-away w s x h)) (edgeCount g)
-      ∙ ap (raised k)
-      (least-below-same (edgeCount g) _ (atBoth g x y) (λ s h.
-      ap₂ _&&_ (vertex-loss-image (second-image w) (rule-of-both w rule) x .agrees s h)
-      (on-block-image (second-image w) (rule-of-second w rule) (rule-of-both w rule) s y h))))
+      (least-behind k (atBoth both (m + x) (m + y)) (λ s h. unfold atBoth in ap (λ c. c && onBlock both s (m + y)) (first-away w s x h)) (edgeCount g)
+      ∙ ap (Option·map (λ s. k + s))
+      (least-below-same (edgeCount g) _ (atBoth g x y) (at-both-image (second-image w) (rule-of-second w rule) (rule-of-both w rule) x y)))
 
   -- steps of the second that are these, raised, and lead from a to c
   record StepsBack (a c : ℕ) (ps : List Step) : Type 0 where

@@ -10,8 +10,9 @@ use Rattle.graph.specs.Lists.{isIn, distinct, ordered}
 use Rattle.graph.specs.Between.{insert, sort}
 use Rattle.graph.proofs.Truth.{true-or-false, not-both, bool-ext, and-right, or-cases, or-neither, or-neither-left}
 use Rattle.graph.proofs.Truth.{or-neither-right, eqb-eq, eqb-ne, eqb-swap}
+use Rattle.graph.proofs.Below.{NoneBelow, listed-none}
 use Rattle.graph.proofs.Members.{or-exchange, is-in-head, is-in-tail, is-in-cases, distinct-head, distinct-tail, distinct-cons}
-use Rattle.graph.proofs.Members.{ordered-head, ordered-tail, ordered-cons, is-in-listed, distinct-listed, listed-none}
+use Rattle.graph.proofs.Members.{ordered-head, ordered-tail, ordered-cons, is-in-listed, distinct-listed}
 
 -- on the numbers that pass the test the order is strict, and of two different ones one comes before the other
 pub record Strict (before : ℕ → ℕ → Bool) (item : ℕ → Bool) : Type 0 where
@@ -64,8 +65,8 @@ is-in-sorted before n p x = is-in-sort before x (listed n p) ∙ is-in-listed n 
 pub distinct-sorted : (before : ℕ → ℕ → Bool) (n : ℕ) (p : ℕ → Bool) → distinct (sort before (listed n p)) ≡ true
 distinct-sorted before n p = distinct-sort before (listed n p) (distinct-listed n p)
 
--- where no number passes it is empty
-pub sorted-none : (before : ℕ → ℕ → Bool) (n : ℕ) (p : ℕ → Bool) → ((x : ℕ) → p x ≡ false) → sort before (listed n p) ≡ []
+-- where no number below n passes it is empty
+pub sorted-none : (before : ℕ → ℕ → Bool) (n : ℕ) (p : ℕ → Bool) → NoneBelow n p → sort before (listed n p) ≡ []
 unfolding sort
 sorted-none before n p w = ap (sort before) (listed-none n p w)
 

@@ -5,7 +5,7 @@ use mathlib.Core.List.{List, [], _∷_}
 use mathlib.Core.Logic.{⊎-elim, _≢_}
 use mathlib.Core.Option.{Option, none, some}
 use mathlib.Core.Path.{_≡_, refl, sym, _∙_, ap, ap₂, subst}
-use Prim.Native.Nat.{ℕ, _<_}
+use Prim.Native.Nat.{ℕ}
 use lib.Dec.{eqb}
 use Rattle.graph.specs.Below.{anyBelow}
 use Rattle.graph.specs.Lists.{isIn, ordered}
@@ -15,7 +15,7 @@ use Rattle.graph.specs.Between.{leastMate, isCutBetween, cutBefore, cuts
 use Rattle.graph.specs.Travel.{firsts, visited, firstMate, crossed}
 use Rattle.graph.proofs.Truth.{true-or-false, false-of-not, not-both, not-of-false, and-both, or-neither-left, or-neither-right}
 use Rattle.graph.proofs.Truth.{eqb-eq, eqb-ne, eqb-swap}
-use Rattle.graph.proofs.Below.{some-below, Least, found, missing, least-below}
+use Rattle.graph.proofs.Below.{Least, found, missing, least-below, any-none}
 use Rattle.graph.proofs.Joined.{joined-refl, joined-trans}
 use Rattle.graph.proofs.Walks.{joins-joined, FirstStep, leads-first, leads-none}
 use Rattle.graph.proofs.Joins.{joins-carries}
@@ -87,14 +87,11 @@ module _ (g : Network) (r : MateRule (g .rule)) where
   unfolding firstMate leastMate
   first-mate-least s = go (least-below s (λ t. mates g t s))
     where
-      none-below : (k : ℕ) → ((t : ℕ) → t < k → mates g t k ≡ true → ⊥) → not (anyBelow k (λ t. mates g t k)) ≡ true
-      none-below k n = not-of-false (false-of-not (anyBelow k (λ t. mates g t k)) (λ e.
-          let w = some-below k (λ t. mates g t k) e in n (w .at) (w .below) (w .passes)))
-
       go : {o : Option ℕ} → Least s (λ t. mates g t s) o
           → let k : ℕ = elim o [ some t ↦ t | none ↦ s ] in not (anyBelow k (λ t. mates g t k)) ≡ true
-      go (found k h m n) = none-below k (λ t i e. not-both (mates-trans g r t k s e m) (n t i))
-      go (missing n) = none-below s (λ t i e. not-both e (n t i))
+      go (found k h m n) =
+          not-of-false (any-none k _ (λ t i. false-of-not (mates g t k) (λ e. not-both (mates-trans g r t k s e m) (n t i))))
+      go (missing n) = not-of-false (any-none s _ n)
 
   -- an edge whose first mate is not t is no mate of t
   pub other-first-mate : (t s : ℕ) → leastMate g t ≡ true → t ≢ firstMate g s → mates g t s ≡ false

@@ -57,6 +57,10 @@ pub and-both : {a b : Bool} → a ≡ true → b ≡ true → (a && b) ≡ true
 and-both {a = true} p q = q
 and-both {a = false} p q = p
 
+pub and-not : (a : Bool) {b : Bool} → b ≡ false → (a && b) ≡ false
+and-not true q = q
+and-not false q = refl
+
 pub or-left : {a : Bool} → a ≡ true → (b : Bool) → (a || b) ≡ true
 or-left {a = true} p b = refl
 or-left {a = false} p b = absurd (false≢true p)

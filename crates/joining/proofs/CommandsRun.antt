@@ -3,18 +3,14 @@
 use mathlib.Core.List.{List, [], _∷_, _++_, map}
 use mathlib.Core.Option.{Option, none, some}
 use mathlib.Core.Path.{_≡_, refl, sym, _∙_, ap}
-use Prim.Native.Nat.{_≤_}
-use native.Mathlib.Omega.{arith}
-use Rattle.graph.specs.Network.{edgeCount}
 use Rattle.graph.specs.Route.{Choice}
-use Rattle.naming.specs.State.{State, afterAddition, afterRecording}
-use Rattle.naming.proofs.Book.{vertices-grow, edges-grow}
+use Rattle.naming.specs.State.{State}
 use Rattle.commands.specs.Command.{Command}
 use Rattle.commands.specs.Answer.{Answer}
-use Rattle.commands.specs.Facts.{addition, after, stateAfter, answer}
+use Rattle.commands.specs.Facts.{after, stateAfter, answer}
 use Rattle.commands.specs.Refusal.{Refusal, Capacities, refusalOf}
-use Rattle.commands.specs.Text.{Read}
-use Rattle.commands.specs.Run.{Run, stop, andThen, acceptedIn, runOver}
+use Rattle.commands.specs.Text.{Read, Text}
+use Rattle.commands.specs.Run.{Run, stop, andThen, acceptedIn, runOver, runText, commandsOf}
 use Rattle.commands.proofs.Cases.{impossible}
 use Rattle.commands.proofs.NameList.{answersFrom}
 use Rattle.commands.proofs.RunBooks.{NoneRefused}
@@ -80,7 +76,7 @@ module _ (caps : Capacities) where
       go none d ih = let rest = ih (sym (refusal-goes-on s c cs end d) ∙ e) in ((d, rest .0), rest .1)
 
   -- and all commands that were read are accepted
-  pub accepted-all : (choice : Choice) (s : State) (l : List Read) (end : Option Refusal) → NoneRefused caps s (map (λ r. r .command) l)
+  accepted-all : (choice : Choice) (s : State) (l : List Read) (end : Option Refusal) → NoneRefused caps s (map (λ r. r .command) l)
       → map (λ a. a .command) (runOver choice caps s l end .accepted) ≡ map (λ r. r .command) l
   unfolding runOver andThen acceptedIn
   accepted-all choice s [] end n = refl
@@ -91,20 +87,22 @@ module _ (caps : Capacities) where
       next : Option Refusal → Run
       next o = elim o as (λ x. Run) [ some cause ↦ stop cause | none ↦ andThen (acceptedIn choice s r) (runOver choice caps (after s (r .command)) later end) ]
 
+  -- So where the run of a text ends without a refusal, none of its commands is refused, and it was read to its end;
+  pub none-refused : (choice : Choice) (s : State) (t : Text) → runText choice caps s t .refusal ≡ none
+      → NoneRefused caps s (map (λ r. r .command) (t .commands)) × (t .refusal ≡ none)
+  unfolding runText
+  none-refused choice s t e =
+      none-in s (map (λ r. r .command) (t .commands)) (t .refusal) (sym (run-refusal choice s (t .commands) (t .refusal)) ∙ e)
+
+  -- and all of them are accepted.
+  pub takes-all : (choice : Choice) (s : State) (t : Text) → runText choice caps s t .refusal ≡ none
+      → commandsOf (runText choice caps s t) ≡ map (λ r. r .command) (t .commands)
+  unfolding commandsOf runText
+  takes-all choice s t e = accepted-all choice s (t .commands) (t .refusal) (none-refused choice s t e .0)
+
 -- answers to commands one list after another
 pub answers-behind : (choice : Choice) (s : State) (cs ds : List Command)
     → answersFrom choice s (cs ++ ds) ≡ answersFrom choice s cs ++ answersFrom choice (stateAfter s cs) ds
 unfolding answersFrom stateAfter
 answers-behind choice s [] ds = refl
 answers-behind choice s (c ∷ cs) ds = ap (λ (l : List Answer). answer choice s c ∷ l) (answers-behind choice (after s c) cs ds)
-
--- no cabinet and no span is lost by any number of commands
-pub vertices-grow-all : (s : State) (cs : List Command) → s .book .network .vertices ≤ stateAfter s cs .book .network .vertices
-unfolding stateAfter after afterAddition afterRecording
-vertices-grow-all s [] = omega arith
-vertices-grow-all s (c ∷ cs) = omega (arith, vertices-grow (s .book) (addition c), vertices-grow-all (after s c) cs)
-
-pub edges-grow-all : (s : State) (cs : List Command) → edgeCount (s .book .network) ≤ edgeCount (stateAfter s cs .book .network)
-unfolding stateAfter after afterAddition afterRecording
-edges-grow-all s [] = omega arith
-edges-grow-all s (c ∷ cs) = omega (arith, edges-grow (s .book) (addition c), edges-grow-all (after s c) cs)

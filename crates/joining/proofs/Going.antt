@@ -1,62 +1,30 @@
 -- How the second journal is stored, raised: what stands at a place of it, and then what is behind that.
 use mathlib.Core.Bool.{true}
-use mathlib.Core.List.{List, [], _∷_, _++_, map}
-use mathlib.Core.Option.{none}
-use mathlib.Core.Path.{_≡_, refl, sym, _∙_, ap, ap₂, subst}
+use mathlib.Core.List.{List, _∷_, _++_, map}
+use mathlib.Core.Path.{_≡_, refl, sym, _∙_, ap, subst}
 use Prim.Native.Nat.{ℕ, suc, _+_, _≤_, _<_}
 use native.Mathlib.Numerals.{add-one}
 use native.Mathlib.Omega.{arith}
-use lib.ListN.{length, getD, take, drop, length-append, take-append-drop}
+use lib.ListN.{length, getD, drop}
 use lib.Seq.{sets, length-sets, drop-cons}
-use Rattle.commands.specs.Bytes.{twoBytes, allBytes}
-use Rattle.commands.specs.Field.{Field, cabinet, span, name, number, byte, fieldBytes, fieldsBytes}
-use Rattle.commands.specs.Command.{Command, unknownByte, cutOff, command}
+use Rattle.commands.specs.Bytes.{allBytes}
+use Rattle.commands.specs.Command.{Command, command}
 use Rattle.commands.specs.Facts.{facts, operandsOf, commandBytes}
 use Rattle.commands.specs.Text.{endsWith, followedBy, textOf, commandsIn, journalBytes}
-use Rattle.commands.specs.Join.{Counts, raiseField, raiseFields, raiseCommand}
-use Rattle.commands.proofs.Cases.{impossible}
-use Rattle.commands.proofs.Bytes.{all-bytes-behind, FieldsFit}
+use Rattle.commands.specs.Join.{Counts, raiseCommand}
+use Rattle.commands.proofs.Bytes.{all-bytes-from, FieldsFit}
 use Rattle.commands.proofs.Steps.{text-goes-on}
 use Rattle.commands.proofs.Spelled.{AllSpelled}
 use Rattle.commands.proofs.SpelledBack.{length-of-read}
 use Rattle.commands.proofs.ReadFits.{text-spelled}
-use Rattle.joining.proofs.Raised.{raised-operands}
-use Rattle.commands.proofs.TextAt.{textHere, readingHere, text-at-end, text-at-unknown, text-at-cut-off, text-at-command, operands-stand}
+use Rattle.joining.proofs.Raised.{raised-as-long}
+use Rattle.commands.proofs.TextAt.{readingHere, text-at-end, text-at-command, operands-stand, whole-behind}
 use Rattle.storing.proofs.Sets.{sets-behind}
-use Rattle.joining.specs.Inside.Raising.{Readable, raisedFrom, RaisableAt, RaisedOn, RaisedTo}
-
--- raised, a field has as many bytes, and so have a command's fields and a command
-field-as-long : (by : Counts) (f : Field) → length (fieldBytes (raiseField by f)) ≡ length (fieldBytes f)
-unfolding raiseField fieldBytes twoBytes
-field-as-long by (cabinet n) = refl
-field-as-long by (span n) = refl
-field-as-long by (name kind n) = refl
-field-as-long by (number n) = refl
-field-as-long by (byte n) = refl
-
-fields-as-long : (by : Counts) (fs : List Field) → length (fieldsBytes (raiseFields by fs)) ≡ length (fieldsBytes fs)
-unfolding raiseFields fieldsBytes
-fields-as-long by [] = refl
-fields-as-long by (f ∷ fs) =
-    length-append (fieldBytes (raiseField by f)) (fieldsBytes (raiseFields by fs))
-    ∙ ap₂ _+_ (field-as-long by f) (fields-as-long by fs)
-    ∙ sym (length-append (fieldBytes f) (fieldsBytes fs))
-
-raised-as-long : (by : Counts) (c : Command) → length (commandBytes (raiseCommand by c)) ≡ length (commandBytes c)
-unfolding commandBytes fieldsBytes fieldBytes
-raised-as-long by c = ap suc (ap (λ fs. length (fieldsBytes fs)) (raised-operands by c) ∙ fields-as-long by (operandsOf (facts c)))
+use Rattle.reading.specs.Inside.Places.{Readable}
+use Rattle.joining.specs.Inside.Raising.{raisedFrom, RaisableAt, RaisedOn, RaisedTo}
 
 -- A place of a journal.
 module _ (journal : List ℕ) (place : ℕ) (at-byte : place < length journal) where
-  -- from where it is read to its end, a command stands
-  pub not-unknown : textHere journal place .refusal ≡ none → unknownByte ≡ readingHere journal place → ⊥
-  unfolding endsWith
-  not-unknown read-on e = impossible (cc (ap (λ t. t .refusal) (text-at-unknown journal place at-byte (sym e)), read-on))
-
-  pub not-cut-off : textHere journal place .refusal ≡ none → cutOff ≡ readingHere journal place → ⊥
-  unfolding endsWith
-  not-cut-off read-on e = impossible (cc (ap (λ t. t .refusal) (text-at-cut-off journal place at-byte (sym e)), read-on))
-
   -- A command that stands there.
   module _ (c : Command) (width : ℕ) (reads : command c width ≡ readingHere journal place) where
     abbrev behind : ℕ
@@ -66,27 +34,18 @@ module _ (journal : List ℕ) (place : ℕ) (at-byte : place < length journal) w
     pub stands-whole : behind ≤ length journal
     stands-whole = operands-stand journal place at-byte c width (sym reads)
 
-    -- which fit into two bytes each, where the journal is bytes
+    -- from there on the journal is the command's byte and what is behind it
     from-here : drop place journal ≡ getD journal place 0 ∷ drop (place + 1) journal
     from-here = drop-cons journal place 0 at-byte ∙ rw (add-one place) refl
 
+    -- where the journal is bytes, the operands fit into two each
     pub read-fits : allBytes journal ≡ true → FieldsFit (operandsOf (facts c))
     unfolding textOf followedBy
     read-fits are =
-        let bytes = getD journal place 0 ∷ drop (place + 1) journal in
-        let here =
-        subst (λ l. allBytes l ≡ true) from-here
-        (all-bytes-behind (take place journal) (drop place journal)
-        (subst (λ l. allBytes l ≡ true) (sym (take-append-drop place journal)) are)) in
         subst (λ t. AllSpelled (map (λ r. r .command) (t .commands)))
         (text-goes-on 0 (getD journal place 0) (drop (place + 1) journal) (sym reads))
-        (text-spelled bytes here)
+        (text-spelled (getD journal place 0 ∷ drop (place + 1) journal) (rw from-here at (all-bytes-from place journal are)))
         .0
-
-    -- what is read to its end here is read so behind it
-    whole-behind : textHere journal place .refusal ≡ none → textHere journal behind .refusal ≡ none
-    unfolding followedBy
-    whole-behind e = sym (ap (λ t. t .refusal) (text-at-command journal place at-byte c width (sym reads))) ∙ e
 
     module _ (by : Counts) where
       abbrev here : List ℕ
@@ -114,7 +73,7 @@ module _ (journal : List ℕ) (place : ℕ) (at-byte : place < length journal) w
             record {
               further = omega arith;
               in-journal = stands-whole;
-              whole-there = whole-behind (can .whole-here);
+              whole-there = whole-behind journal place at-byte c width (sym reads) (can .whole-here);
               leads =
                   sets-behind out (at + place) (at + behind) here (raisedFrom by journal behind) (omega (arith, as-many))
                   ∙ ap (sets out (at + place)) (sym goes-on);

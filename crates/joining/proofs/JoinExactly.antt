@@ -14,7 +14,7 @@ use Rattle.commands.specs.Join.{Seam, joinCapacities, isRefused, countsIn, good
 use Rattle.commands.proofs.Table.{given-exactly, none-exactly}
 use Rattle.commands.proofs.Causes.{not-is-true, not-is-false}
 use Rattle.commands.proofs.Returned.{number-exactly, zero-exactly}
-use Rattle.joining.proofs.BadSeams.{BadAmong, bad-among-exactly}
+use Rattle.joining.proofs.GoodSeams.{BadAmong, bad-among-exactly}
 
 -- the number is that of the refusal, if there is one
 pub number-of-joining : (o : Option Refusal) (result : List ℕ) → joiningUnless o result .number ≡ numberOf o

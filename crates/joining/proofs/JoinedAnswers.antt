@@ -2,7 +2,7 @@
 -- exactly if both networks with the seams fit.
 use mathlib.Core.Bool.{Bool, true, false, cond, _&&_, false≢true}
 use mathlib.Core.List.{List, [], _∷_, _++_, map, map-append, append-assoc}
-use mathlib.Core.Logic.{_⊎_, inl, inr, _≢_}
+use mathlib.Core.Logic.{_⊎_, inl, inr}
 use mathlib.Core.Option.{Option, none, some}
 use mathlib.Core.Path.{_≡_, refl, sym, _∙_, ap, ap₂, subst}
 use Prim.Native.Nat.{ℕ, _+_, _≤_}
@@ -25,7 +25,7 @@ use Rattle.commands.specs.Refusal.{Refusal, full, Capacities}
 use Rattle.commands.specs.Text.{Text, textOf, commandsIn, placeBehind, journalBytes}
 use Rattle.commands.specs.Run.{Accepted, runText, runWithin, commandsOf}
 use Rattle.commands.specs.Entry.{acceptedCommands, Buffers, entryUnder}
-use Rattle.commands.specs.Register.{registerRule, registerRoutes}
+use Rattle.commands.specs.Register.{registerRule, registerRoutes, ampleRun}
 use Rattle.commands.specs.Decode.{decodeFirst}
 use Rattle.commands.specs.Join.{Counts, countsOf, raiseCommand, Seam, seamCommand, joinCapacities, runAlone, isSome, isRefused, stateBehind, countsIn, goodSeam, joinedBytes, RaisedAnswer, RaisedAnswers, SeamAnswers, JoinedAnswers, fitTogether, AnsweredJoined}
 use Rattle.commands.proofs.StateAfter.{rule-after-commands}
@@ -42,7 +42,7 @@ use Rattle.commands.proofs.Room.{all-fit-whole}
 use Rattle.commands.proofs.Start.{ran-exactly}
 use Rattle.commands.proofs.Returned.{nought-exactly}
 use Rattle.commands.proofs.ReadBack.{accepted, read-back}
-use Rattle.joining.proofs.CommandsRun.{orElse, refusalIn, run-refusal, refusal-behind, none-in, accepted-all, answers-behind}
+use Rattle.joining.proofs.CommandsRun.{orElse, refusalIn, run-refusal, refusal-behind, none-refused, takes-all, answers-behind}
 use Rattle.joining.proofs.BesideStates.{BesideState, BesideSound, beside-first, beside-after}
 use Rattle.joining.proofs.RaisedRefusals.{vertices-are, edges-are}
 use Rattle.joining.proofs.RaisedAnswers.{told-raised}
@@ -68,7 +68,7 @@ pub record Alone (journal : List ℕ) : Type 0 where
 
 -- the refusal of a run alone is the same under every choice
 alone-refusal : (choice : Choice) (journal : List ℕ) → runAlone choice journal .refusal ≡ refusalIn caps start (commandsIn journal) (textOf journal .refusal)
-unfolding runAlone runText
+unfolding runAlone ampleRun runText
 alone-refusal choice journal = run-refusal caps choice start (textOf journal .commands) (textOf journal .refusal)
 
 -- Whether a journal is refused does not hang on the routes that are chosen.
@@ -80,45 +80,42 @@ unfolding isSome
 none-of none e = refl
 none-of (some r) e = absurd (false≢true (sym e))
 
--- a journal that is not refused is accepted alone
-pub accepted-alone : (journal : List ℕ) → isRefused journal ≡ false → Alone journal
-unfolding isRefused
-accepted-alone journal e =
-    let ends = none-of (runAlone registerRoutes journal .refusal) (or-neither-right (ltb 65536 (length journal)) _ e) in
-    let both = none-in caps start (commandsIn journal) (textOf journal .refusal) (sym (alone-refusal registerRoutes journal) ∙ ends) in
-    record { short = or-neither-left (ltb 65536 (length journal)) _ e; whole = both .1; none-refused = both .0 }
-
--- its run ends without a refusal, under every choice
+-- the run of a journal that is not refused ends without a refusal, under every choice
 pub alone-accepted : (choice : Choice) (journal : List ℕ) → isRefused journal ≡ false → runAlone choice journal .refusal ≡ none
 unfolding isRefused
 alone-accepted choice journal e =
     refused-for-any-choice choice registerRoutes journal
     ∙ none-of (runAlone registerRoutes journal .refusal) (or-neither-right (ltb 65536 (length journal)) _ e)
 
+-- so it is accepted alone
+pub accepted-alone : (journal : List ℕ) → isRefused journal ≡ false → Alone journal
+unfolding isRefused runAlone ampleRun
+accepted-alone journal e =
+    let both = none-refused caps registerRoutes start (textOf journal) (alone-accepted registerRoutes journal e) in
+    record { short = or-neither-left (ltb 65536 (length journal)) _ e; whole = both .1; none-refused = both .0 }
+
 -- the commands that it accepts are all
 alone-commands : (choice : Choice) (journal : List ℕ) → isRefused journal ≡ false
     → map (λ a. a .command) (runAlone choice journal .accepted) ≡ commandsIn journal
-unfolding runAlone runText
-alone-commands choice journal e =
-    accepted-all caps choice start (textOf journal .commands) (textOf journal .refusal) (accepted-alone journal e .none-refused)
+unfolding runAlone ampleRun commandsOf
+alone-commands choice journal e = takes-all caps choice start (textOf journal) (alone-accepted choice journal e)
 
 -- each of them was answered as the definition has it
 alone-answered : (choice : Choice) (journal : List ℕ) → Answered choice caps start (runAlone choice journal .accepted)
-unfolding runAlone
+unfolding runAlone ampleRun
 alone-answered choice journal = steps-answered choice caps (whole-run-steps choice caps start journal)
 
 -- Where the entry returns 0, it has accepted all of the journal's commands.
 pub all-accepted : (choice : Choice) (journal : List ℕ) (lent : Buffers) → entryUnder registerRule choice caps journal lent .returned ≡ 0
     → accepted registerRule choice caps journal lent ≡ commandsIn journal
-unfolding acceptedCommands commandsOf runText runWithin
+unfolding acceptedCommands runWithin
 all-accepted choice journal lent e =
     let n = nought-exactly registerRule choice caps journal lent .0 e in
     let runs = ran-exactly registerRule choice caps journal (length (lent .work)) (length (lent .answers)) (length (lent .report)) .1 (n .0) in
     let t = textOf journal in
-    let refused = run-refusal caps choice start (t .commands) (t .refusal) in
     ap acceptedCommands runs
     ∙ ap commandsOf (all-fit-whole (length (lent .answers)) (runText choice caps start t .accepted) (runText choice caps start t .refusal) (n .1 .0))
-    ∙ accepted-all caps choice start (t .commands) (t .refusal) (none-in caps start (commandsIn journal) (t .refusal) (sym refused ∙ n .1 .1) .0)
+    ∙ takes-all caps choice start t (n .1 .1)
 
 -- commands that are spelled, one list after another
 spelled-both : (cs ds : List Command) → AllSpelled cs → AllSpelled ds → AllSpelled (cs ++ ds)

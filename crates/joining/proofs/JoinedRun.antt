@@ -7,11 +7,11 @@ use mathlib.Core.Option.{none, some}
 use mathlib.Core.Path.{_≡_, refl, sym, _∙_, ap}
 use Prim.Native.Nat.{ℕ, suc, _+_, _<_, _≤_}
 use native.Mathlib.Omega.{arith}
-use lib.Dec.{eqb, leb, ltb}
+use lib.Dec.{eqb, leb}
 use lib.ListN.{length}
 use Rattle.graph.specs.Lists.{allIn}
 use Rattle.graph.specs.Network.{edgeInDuct, edgeCount, addVertex, addEdge}
-use Rattle.graph.proofs.Truth.{true-or-false, and-left, and-right, and-both, or-right, not-of-false, not-both, ne-eqb, false-of-not-true, ltb-lt, lt-ltb, leb-le, le-leb}
+use Rattle.graph.proofs.Truth.{true-or-false, and-left, and-right, and-both, and-not, or-right, not-of-false, not-both, ne-eqb, lt-ltb, leb-le, le-leb}
 use Rattle.graph.proofs.Joined.{edge-count-more}
 use Rattle.naming.specs.Book.{Addition, vertex, edge, neither, enterVertex, enterEdge, feed}
 use Rattle.naming.specs.State.{State, afterAddition, afterRecording}
@@ -23,19 +23,17 @@ use Rattle.commands.specs.Join.{Counts, countsOf, raiseCommand, Seam, seamComma
 use Rattle.commands.proofs.Cases.{leb-gt, gt-leb}
 use Rattle.commands.proofs.Causes.{full-exactly, not-refused-exactly}
 use Rattle.commands.proofs.StateAfter.{rule-after}
-use Rattle.commands.proofs.RunBooks.{NoneRefused, sound-after}
-use Rattle.joining.proofs.CommandsRun.{refusalIn, refusal-goes-on, refusal-at-once, vertices-grow-all, edges-grow-all}
+use Rattle.commands.proofs.Report.{cabinets-after, spans-after}
+use Rattle.commands.proofs.RunBooks.{NoneRefused, kept-by-all, sound-after}
+use Rattle.joining.proofs.CommandsRun.{refusalIn, refusal-goes-on, refusal-at-once}
 use Rattle.joining.proofs.Raised.{raised-addition}
+use Rattle.joining.proofs.GoodSeams.{good-seam}
 use Rattle.joining.proofs.BesideStates.{BesideState, BesideSound, beside-after}
 use Rattle.joining.proofs.RaisedRefusals.{vertices-are, edges-are, accepted-raised, full-raised}
 
 -- a network of so many cabinets and spans fits
 unfoldable pub within : Capacities → ℕ → ℕ → Bool
 within caps cabinets spans = leb cabinets (caps .cabinets) && leb spans (caps .spans)
-
-and-not : (a : Bool) {b : Bool} → b ≡ false → (a && b) ≡ false
-and-not true e = e
-and-not false e = refl
 
 -- the second's state after a command, beside the first's
 pub sound-beside-after : (caps : Capacities) {one s : State} → BesideSound caps one s → (c : Command) → refusalOf caps s c ≡ none
@@ -51,9 +49,7 @@ sound-beside-after caps {one} {s} w c e =
 -- and after all
 pub sound-beside-all : (caps : Capacities) {one s : State} → BesideSound caps one s → (cs : List Command) → NoneRefused caps s cs
     → BesideSound caps one (stateAfter s cs)
-unfolding stateAfter
-sound-beside-all caps w [] n = w
-sound-beside-all caps w (c ∷ cs) n = sound-beside-all caps (sound-beside-after caps w c (n .0)) cs (n .1)
+sound-beside-all caps {one} {s} = kept-by-all caps (BesideSound caps one) (λ s c w e. sound-beside-after caps w c e) s
 
 pub beside-all : (caps : Capacities) {one s s′ : State} → BesideSound caps one s → BesideState one s s′
     → (cs : List Command) → NoneRefused caps s cs
@@ -136,7 +132,7 @@ module _ (caps : Capacities) (one : State) where
           → goal
       go (inl f) ih =
           refusal-at-once caps s′ (raiseCommand by x) (map (raiseCommand by) cs) none full (full-raised w q x (n .0) f)
-          ∙ sym (ap (λ b. cond b none (some full)) (a .no-room (is-full true f) _ _ (vertices-grow-all (after s x) cs) (edges-grow-all (after s x) cs)))
+          ∙ sym (ap (λ b. cond b none (some full)) (a .no-room (is-full true f) _ _ (omega (arith, cabinets-after (after s x) cs)) (omega (arith, spans-after (after s x) cs))))
       go (inr f) ih =
           let fits = a .room (is-full false f) c e in
           refusal-goes-on caps s′ (raiseCommand by x) (map (raiseCommand by) cs) none (accepted-raised w q x (n .0) f) ∙ ih (fits .0) (fits .1)
@@ -198,16 +194,13 @@ module _ (caps : Capacities) (by : Counts) (others : ℕ) where
   -- a good seam is such a span where all cabinets of both are known
   good-span : (t : State) → t .book .network .vertices ≡ by .cabinets + others → (x : Seam) → goodSeam (by .cabinets) others x ≡ true
       → GoodSpan t (x .first) (by .cabinets + x .second) (x .duct)
-  unfolding goodSeam
   good-span t v x e =
-      let both = and-left (ltb (x .first) (by .cabinets) && ltb (x .second) others) _ e in
-      let one-known = ltb-lt (x .first) (by .cabinets) (and-left (ltb (x .first) (by .cabinets)) _ both) in
-      let other-known = ltb-lt (x .second) others (and-right (ltb (x .first) (by .cabinets)) _ both) in
+      let good = good-seam (by .cabinets) others x e in
       record {
-        first-known = omega (arith, v, one-known);
-        second-known = omega (arith, v, other-known);
-        different = ne-eqb (x .first) (by .cabinets + x .second) (λ q. absurd (omega (arith, q, one-known)));
-        some-duct = false-of-not-true (eqb (x .duct) 0) (and-right (ltb (x .first) (by .cabinets) && ltb (x .second) others) _ e);
+        first-known = omega (arith, v, good .first-known);
+        second-known = omega (arith, v, good .second-known);
+        different = ne-eqb (x .first) (by .cabinets + x .second) (λ q. absurd (omega (arith, q, good .first-known)));
+        some-duct = good .some-duct;
       }
 
   -- The seams' commands behind both networks.

@@ -1,18 +1,17 @@
 -- What the entry of a run returns for a journal and for a result (request 9): with room that is forecast, by the run with ample room.
 use mathlib.Core.Bool.{cond, false}
-use mathlib.Core.List.{List, map}
-use mathlib.Core.Logic.{_≢_}
+use mathlib.Core.List.{List}
 use mathlib.Core.Option.{none, some}
-use mathlib.Core.Path.{_≡_, sym, _∙_, ap}
+use mathlib.Core.Path.{_≡_, _∙_, ap}
 use Prim.Native.Nat.{ℕ, _≤_}
 use lib.ListN.{length}
 use Rattle.graph.specs.Route.{Choice, Serves}
 use Rattle.naming.specs.State.{emptyState}
 use Rattle.commands.specs.Refusal.{noRoom, full, refusalNumber}
 use Rattle.commands.specs.Text.{textOf, commandsIn}
-use Rattle.commands.specs.Run.{Run, runText, runWithin}
+use Rattle.commands.specs.Run.{Run}
 use Rattle.commands.specs.Entry.{numberOf, Buffers, entryUnder}
-use Rattle.commands.specs.Register.{registerRule}
+use Rattle.commands.specs.Register.{registerRule, ampleRun}
 use Rattle.commands.specs.Forecast.{sufficient}
 use Rattle.commands.specs.Join.{Seam, joinCapacities, runAlone, isRefused, joinedBytes, fitTogether}
 use Rattle.commands.proofs.Returned.{WellStarted, returned-by-run, number-exactly}
@@ -26,7 +25,7 @@ module _ (choice : Choice) (serves : Serves registerRule choice) (journal : List
     (room : sufficient (commandsIn journal) ≤ length (lent .answers)) where
   -- It returns how the run with ample room ends.
   pub returned-alone : entryUnder registerRule choice joinCapacities journal lent .returned ≡ numberOf (runAlone choice journal .refusal)
-  unfolding runAlone refusalNumber
+  unfolding runAlone ampleRun refusalNumber
   returned-alone =
       let returned = returned-by-run registerRule choice joinCapacities journal lent started in
       let never = never-without-room registerRule register-mates choice serves joinCapacities journal lent room in

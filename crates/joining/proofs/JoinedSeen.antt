@@ -8,7 +8,7 @@ use Rattle.naming.specs.State.{State}
 use Rattle.commands.specs.Answer.{Answer}
 use Rattle.commands.specs.Facts.{stateAfter}
 use Rattle.commands.specs.Run.{Accepted}
-use Rattle.commands.specs.Join.{Seam, RaisedAnswer, RaisedAnswers, SeamAnswer, SeamAnswers}
+use Rattle.commands.specs.Join.{Seam, RaisedAnswer, RaisedAnswers, SeamAnswers}
 
 -- there are as many answers as commands
 pub as-many-raised : (one s : State) (l : List Accepted) (answers : List Answer) → RaisedAnswers one s l answers → length answers ≡ length l

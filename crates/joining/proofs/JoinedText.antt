@@ -1,15 +1,16 @@
 -- The bytes of a result (request 9): how many they are, that they are bytes, and that its commands are read back from them.
-use mathlib.Core.Bool.{Bool, true, false, _&&_, false≢true}
+use mathlib.Core.Bool.{Bool, true, false, false≢true}
 use mathlib.Core.List.{List, [], _∷_, _++_, map, append-assoc}
 use mathlib.Core.Option.{Option, none}
 use mathlib.Core.Path.{_≡_, refl, sym, _∙_, ap, ap₂, subst}
-use Prim.Native.Nat.{ℕ, suc, _+_, _*_, _/_, _%_, _<_, _≤_}
+use Prim.Native.Nat.{ℕ, _+_, _*_, _/_, _%_, _<_, _≤_}
 use native.Mathlib.Omega.{arith}
 use lib.Dec.{ltb}
 use lib.ListN.{length, length-append}
 use Rattle.graph.specs.Lists.{allIn}
 use Rattle.graph.specs.Network.{Network, edgeInDuct, edgeCount}
 use Rattle.graph.proofs.Truth.{and-left, and-right, and-both, ltb-lt, lt-ltb}
+use Rattle.graph.proofs.Members.{all-in-append}
 use Rattle.naming.specs.State.{State}
 use Rattle.commands.specs.Bytes.{twoBytes, allBytes}
 use Rattle.commands.specs.Field.{Field, cabinet, span, name, number, byte, fieldBytes, fieldsBytes}
@@ -25,7 +26,8 @@ use Rattle.commands.proofs.SpelledBack.{length-of-read}
 use Rattle.commands.proofs.TextSteps.{Spells, no-more, unreadable, one-more, text-steps}
 use Rattle.commands.proofs.TextPlaces.{text-read-whole}
 use Rattle.commands.proofs.RunBooks.{NoneRefused, Sound, sound-after}
-use Rattle.joining.proofs.Raised.{raised-operands}
+use Rattle.joining.proofs.Raised.{raised-operands, raised-as-long}
+use Rattle.joining.proofs.GoodSeams.{good-seam}
 
 -- the field is a cabinet, a span or another number of two bytes
 unfoldable twoByteField : Field → Bool
@@ -56,10 +58,8 @@ command-is exchangeShare = (omega arith, refl)
 
 -- bytes behind bytes are bytes
 pub all-bytes-both : (xs ys : List ℕ) → allBytes xs ≡ true → allBytes ys ≡ true → allBytes (xs ++ ys) ≡ true
-unfolding allBytes allIn
-all-bytes-both [] ys p q = q
-all-bytes-both (x ∷ xs) ys p q =
-    and-both (and-left (ltb x 256) (allBytes xs) p) (all-bytes-both xs ys (and-right (ltb x 256) (allBytes xs) p) q)
+unfolding allBytes
+all-bytes-both = all-in-append (λ b. ltb b 256)
 
 two-bytes-are : (n : ℕ) → allBytes (twoBytes n) ≡ true
 unfolding allBytes allIn twoBytes
@@ -92,35 +92,29 @@ journal-bytes-behind [] ds = refl
 journal-bytes-behind (c ∷ cs) ds =
     ap (λ l. commandBytes c ++ l) (journal-bytes-behind cs ds) ∙ sym (append-assoc (commandBytes c) (journalBytes cs) (journalBytes ds))
 
--- raised fields have as many bytes
-fields-length-raised : (by : Counts) (fs : List Field) → length (fieldsBytes (raiseFields by fs)) ≡ length (fieldsBytes fs)
-unfolding fieldsBytes fieldBytes raiseFields raiseField twoBytes
-fields-length-raised by [] = refl
-fields-length-raised by (cabinet n ∷ fs) = ap (λ k. suc (suc k)) (fields-length-raised by fs)
-fields-length-raised by (span n ∷ fs) = ap (λ k. suc (suc k)) (fields-length-raised by fs)
-fields-length-raised by (name kind n ∷ fs) = ap (λ k. suc (suc k)) (fields-length-raised by fs)
-fields-length-raised by (number n ∷ fs) = ap (λ k. suc (suc k)) (fields-length-raised by fs)
-fields-length-raised by (byte n ∷ fs) = ap suc (fields-length-raised by fs)
-
--- so a raised command has
-pub command-length-raised : (by : Counts) (c : Command) → length (commandBytes (raiseCommand by c)) ≡ length (commandBytes c)
-unfolding commandBytes fieldsBytes fieldBytes
-command-length-raised by c =
-    ap (λ (fs : List Field). suc (length (fieldsBytes fs))) (raised-operands by c) ∙ ap suc (fields-length-raised by (operandsOf (facts c)))
-
--- and many
+-- commands, raised, have as many bytes
 pub journal-length-raised : (by : Counts) (cs : List Command) → length (journalBytes (map (raiseCommand by) cs)) ≡ length (journalBytes cs)
 unfolding journalBytes
 journal-length-raised by [] = refl
 journal-length-raised by (c ∷ cs) =
-    length-append (commandBytes (raiseCommand by c)) _ ∙ ap₂ _+_ (command-length-raised by c) (journal-length-raised by cs)
+    length-append (commandBytes (raiseCommand by c)) _ ∙ ap₂ _+_ (raised-as-long by c) (journal-length-raised by cs)
     ∙ sym (length-append (commandBytes c) (journalBytes cs))
 
--- seven for each seam
-pub seams-length : (by : Counts) (xs : List Seam) → length (journalBytes (map (seamCommand by) xs)) ≡ length xs * 7
-unfolding journalBytes seamCommand commandBytes fieldsBytes fieldBytes twoBytes operandsOf facts edgeInDuct
+-- the command for a seam has seven, and so for each
+pub seam-length : (by : Counts) (x : Seam) → length (commandBytes (seamCommand by x)) ≡ 7
+unfolding seamCommand commandBytes fieldsBytes fieldBytes twoBytes operandsOf facts edgeInDuct
+seam-length by x = refl
+
+seams-length : (by : Counts) (xs : List Seam) → length (journalBytes (map (seamCommand by) xs)) ≡ length xs * 7
+unfolding journalBytes
 seams-length by [] = refl
-seams-length by (x ∷ xs) = omega (arith, seams-length by xs)
+seams-length by (x ∷ xs) =
+    omega (
+      arith,
+      length-append (commandBytes (seamCommand by x)) (journalBytes (map (seamCommand by) xs)),
+      seam-length by x,
+      seams-length by xs,
+    )
 
 -- What is asked of what the first network has, so that raised numbers are spelled by two bytes.
 pub record FewCounts (by : Counts) : Type 0 where
@@ -160,15 +154,14 @@ raised-spelled caps c e by few s sound (x ∷ cs) n fit =
 -- and good seams whose ducts are numbers of two bytes
 pub seams-spelled : (by : Counts) → FewCounts by → (others : ℕ) → others ≤ 4096 → (xs : List Seam)
     → allIn (goodSeam (by .cabinets) others) xs ≡ true → allIn (λ x. ltb (x .duct) 65536) xs ≡ true → AllSpelled (map (seamCommand by) xs)
-unfolding allIn goodSeam seamCommand operandsOf facts edgeInDuct
+unfolding allIn seamCommand operandsOf facts edgeInDuct
 seams-spelled by few others o [] good fit = tt
 seams-spelled by few others o (x ∷ xs) good fit =
-    let this = and-left (goodSeam (by .cabinets) others x) _ good in
-    let both = and-left (ltb (x .first) (by .cabinets) && ltb (x .second) others) _ this in (
+    let this = good-seam (by .cabinets) others x (and-left (goodSeam (by .cabinets) others x) _ good) in (
       (
-        omega (arith, ltb-lt (x .first) (by .cabinets) (and-left (ltb (x .first) (by .cabinets)) _ both), few .few-cabinets),
+        omega (arith, this .first-known, few .few-cabinets),
         (
-          omega (arith, ltb-lt (x .second) others (and-right (ltb (x .first) (by .cabinets)) _ both), few .few-cabinets, o),
+          omega (arith, this .second-known, few .few-cabinets, o),
           (ltb-lt (x .duct) 65536 (and-left (ltb (x .duct) 65536) _ fit), tt),
         ),
       ),

@@ -1,5 +1,6 @@
 pub mod CommandsRun
 pub mod Raised
+pub mod GoodSeams
 pub mod BesideStates
 pub mod RaisedRefusals
 pub mod RaisedAnswers
@@ -8,7 +9,6 @@ pub mod JoinedText
 pub mod JoinedAnswers
 pub mod JoinedSeen
 pub mod JoinedRuns
-pub mod BadSeams
 pub mod JoinExactly
 pub mod SeamSteps
 pub mod SeamPromise

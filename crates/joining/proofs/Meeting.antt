@@ -1,14 +1,15 @@
 -- What is done with a seam, by what is tested of it and of the buffer.
-use mathlib.Core.Bool.{Bool, true, false, not, _&&_}
+use mathlib.Core.Bool.{true, false, not}
 use mathlib.Core.List.{List}
-use mathlib.Core.Path.{_≡_, refl, ap₂}
+use mathlib.Core.Logic.{inl, inr}
+use mathlib.Core.Path.{_≡_, refl, sym, ap₂}
 use Prim.Native.Nat.{ℕ, _+_, _≤_, _<_}
-use lib.Dec.{eqb, leb, ltb}
+use lib.Dec.{eqb, leb}
 use lib.ListN.{length}
 use lib.Seq.{sets}
 use borrow.Author.Tests.{lt-leb}
 use Rattle.graph.specs.Network.{edgeInDuct}
-use Rattle.graph.proofs.Truth.{lt-ltb, ge-ltb, le-leb}
+use Rattle.graph.proofs.Truth.{and-not, lt-ltb, le-leb}
 use Rattle.commands.specs.Bytes.{twoBytes}
 use Rattle.commands.specs.Field.{fieldBytes, fieldsBytes}
 use Rattle.commands.specs.Facts.{facts, operandsOf, commandBytes}
@@ -23,21 +24,17 @@ use Rattle.joining.specs.declared.seams.Seam.{Seam}
 use Rattle.joining.specs.declared.seams.Joining.{Joining}
 use Rattle.joining.specs.declared.seams.Joining.the-variants as J
 use Rattle.joining.specs.Inside.Seams.{seamOf, oneOf, Stage, storeSeam, lookAt, meetAs, meet}
-
--- a test behind another that fails makes both fail
-second-fails : (a : Bool) → (a && false) ≡ false
-second-fails true = refl
-second-fails false = refl
+use Rattle.joining.proofs.GoodSeams.{bad-fails}
 
 module _ (cabinets others : ℕ) (x : Seam) where
   -- a seam that names no cabinet of the first network, or none of the second, is not good
   pub bad-first : cabinets ≤ x .first → false ≡ goodSeam cabinets others (seamOf x)
-  unfolding goodSeam seamOf
-  bad-first h = rw (ge-ltb (x .first) cabinets h) refl
+  unfolding seamOf
+  bad-first h = sym (bad-fails cabinets others (seamOf x) (inl h))
 
   pub bad-second : others ≤ x .second → false ≡ goodSeam cabinets others (seamOf x)
-  unfolding goodSeam seamOf
-  bad-second h = rw (ge-ltb (x .second) others h) (rw (second-fails (ltb (x .first) cabinets)) refl)
+  unfolding seamOf
+  bad-second h = sym (bad-fails cabinets others (seamOf x) (inr (inl h)))
 
   -- and of any other its duct decides
   pub duct-decides : x .first < cabinets → x .second < others → {number : ℕ} → number ≡ 0
@@ -64,7 +61,7 @@ module _ (c : Counts) (at : ℕ) (x : Seam) (out : List ℕ) where
 
   pub no-buffer-room : length out < at + 7 → record { joining = J.Stored c at; out = out } ≡ storeSeam c at x out
   unfolding storeSeam
-  no-buffer-room h = rw (lt-leb (at + 7) (length out) h, second-fails (leb (at + 7) 65536)) refl
+  no-buffer-room h = rw (and-not (leb (at + 7) 65536) (lt-leb (at + 7) (length out) h)) refl
 
   -- and any other is stored
   pub stored-behind : at + 7 ≤ 65536 → at + 7 ≤ length out

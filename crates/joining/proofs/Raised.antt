@@ -1,14 +1,17 @@
 -- Commands, raised (request 9): the same byte, and everything else that is known of them raised with their operands.
-use mathlib.Core.List.{map}
-use mathlib.Core.Path.{_≡_, refl}
-use Prim.Native.Nat.{ℕ, _+_}
+use mathlib.Core.List.{List, [], _∷_, map}
+use mathlib.Core.Path.{_≡_, refl, _∙_, ap}
+use Prim.Native.Nat.{ℕ, suc, _+_}
+use lib.ListN.{length}
 use Rattle.naming.specs.Survey.{Survey}
 use Rattle.naming.specs.State.{Recording, recordsNothing, recordsMark, recordsSurvey}
 use Rattle.naming.proofs.SideBySideBooks.{raiseAddition}
 use Rattle.graph.specs.Network.{edgeBetween, edgeInDuct}
 use Rattle.graph.proofs.SideBySide.{raiseEdge}
+use Rattle.commands.specs.Bytes.{twoBytes}
+use Rattle.commands.specs.Field.{Field, cabinet, span, name, number, byte, fieldBytes, fieldsBytes}
 use Rattle.commands.specs.Command.{Command, addCabinet, addSpan, districtName, ringName, sharedMesh, soleSpans, cutCabinets, isSole, markExchange, holdsExchange, addDuctSpan, routesBetween, recordLength, spanLength, exchangeShare, forms, form, commandByte}
-use Rattle.commands.specs.Facts.{Demand, differ, noExchange, someDuct, shareDistrict, shareRing, facts, asks, operandsOf, demandsOf, additionOf, addition, recordingOf, recording}
+use Rattle.commands.specs.Facts.{Demand, differ, noExchange, someDuct, shareDistrict, shareRing, facts, asks, operandsOf, demandsOf, additionOf, addition, recordingOf, recording, commandBytes}
 use Rattle.commands.specs.Surveys.{numberIn}
 use Rattle.commands.specs.Join.{Counts, raiseField, raiseFields, withOperands, raiseCommand}
 
@@ -75,3 +78,19 @@ module _ (by : Counts) (c : Command) where
 
   pub raised-recording : recording (raiseCommand by c) ≡ raiseRecording by (recording c)
   raised-recording = raised by c .4
+
+-- raised fields have as many bytes
+fields-length-raised : (by : Counts) (fs : List Field) → length (fieldsBytes (raiseFields by fs)) ≡ length (fieldsBytes fs)
+unfolding fieldsBytes fieldBytes raiseFields raiseField twoBytes
+fields-length-raised by [] = refl
+fields-length-raised by (cabinet n ∷ fs) = ap (λ k. suc (suc k)) (fields-length-raised by fs)
+fields-length-raised by (span n ∷ fs) = ap (λ k. suc (suc k)) (fields-length-raised by fs)
+fields-length-raised by (name kind n ∷ fs) = ap (λ k. suc (suc k)) (fields-length-raised by fs)
+fields-length-raised by (number n ∷ fs) = ap (λ k. suc (suc k)) (fields-length-raised by fs)
+fields-length-raised by (byte n ∷ fs) = ap suc (fields-length-raised by fs)
+
+-- A raised command has as many bytes.
+pub raised-as-long : (by : Counts) (c : Command) → length (commandBytes (raiseCommand by c)) ≡ length (commandBytes c)
+unfolding commandBytes fieldsBytes fieldBytes
+raised-as-long by c =
+    ap (λ (fs : List Field). suc (length (fieldsBytes fs))) (raised-operands by c) ∙ ap suc (fields-length-raised by (operandsOf (facts c)))

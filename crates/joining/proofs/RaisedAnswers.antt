@@ -3,7 +3,7 @@
 use mathlib.Core.Bool.{Bool, true, false, cond, _&&_}
 use mathlib.Core.List.{List, [], _∷_, _++_, map, map-append, map-map}
 use mathlib.Core.Logic.{_≢_}
-use mathlib.Core.Option.{Option, none, some}
+use mathlib.Core.Option.{Option, none, some, Option·map}
 use mathlib.Core.Path.{_≡_, refl, sym, _∙_, ap, ap₂, subst}
 use Prim.Native.Nat.{ℕ, suc, _+_, _<_, _≤_}
 use native.Mathlib.Omega.{arith}
@@ -19,7 +19,7 @@ use Rattle.graph.specs.Route.{Routes, Choice, Serves}
 use Rattle.graph.proofs.Truth.{and-left, ltb-lt}
 use Rattle.graph.proofs.Below.{any-below-same, count-same}
 use Rattle.graph.proofs.Joined.{edge-count-more}
-use Rattle.graph.proofs.BelowSum.{raised, any-front, any-behind, count-sum}
+use Rattle.graph.proofs.BelowSum.{any-front, any-behind, count-sum}
 use Rattle.graph.proofs.BridgeBlock.{bridge-block-swap}
 use Rattle.graph.proofs.SharedBlock.{shared-block-some}
 use Rattle.graph.proofs.SideBySide.{raiseEdge, beside, Beside, eqb-raised, count-beside, bridge-block-apart, bridge-block-of-first, bridge-block-of-second, beside-proper}
@@ -196,14 +196,14 @@ module _ {caps : Capacities} {one s s′ : State} (w : BesideSound caps one s) (
   -- the mesh that is shared
   mesh-raised : (a b : ℕ) → answerFields (plain (meshAnswer (s′ .book) (sharedBlock (s′ .book .network) (m + a) (m + b))))
       ≡ raiseFields by (answerFields (plain (meshAnswer (s .book) (sharedBlock g a b))))
-  unfolding meshAnswer raised answerFields plainFields raiseFields raiseField raiseItem besideBook countsOf
+  unfolding meshAnswer answerFields plainFields raiseFields raiseField raiseItem besideBook countsOf
   mesh-raised a b =
       ap₂ (λ (c : Book) (o : Option ℕ). answerFields (plain (meshAnswer c o))) (q .book-is)
       (ap (λ (h : Network). sharedBlock h (m + a) (m + b)) (network-is w q) ∙ shared-block-of-second two rule a b)
       ∙ go (sharedBlock g a b) refl
     where
       go : (o : Option ℕ) → sharedBlock g a b ≡ o
-          → answerFields (plain (meshAnswer (besideBook (one .book) (s .book)) (raised k o)))
+          → answerFields (plain (meshAnswer (besideBook (one .book) (s .book)) (Option·map (λ x. k + x) o)))
           ≡ raiseFields by (answerFields (plain (meshAnswer (s .book) o)))
       go none e = refl
       go (some t) e =

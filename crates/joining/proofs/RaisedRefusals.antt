@@ -1,17 +1,16 @@
--- How a command is refused and answered behind another journal (request 9), where it is raised: as it is alone, but that there may be no more
--- room for what it adds; the answer raised, but for 0F, which is over both networks, and 0C, which is answered by any routes that serve.
+-- How a command that is accepted alone fares behind another journal (request 9), where it is raised: it is accepted where there is room for
+-- what it adds, and else meets 9.
 use mathlib.Core.Bool.{Bool, true, false, not, _&&_, _||_}
-use mathlib.Core.List.{List, [], _∷_, map}
+use mathlib.Core.List.{List, [], _∷_}
 use mathlib.Core.Option.{none, some}
 use mathlib.Core.Path.{_≡_, refl, _∙_, ap, ap₂}
 use Prim.Native.Nat.{ℕ, _+_}
-use native.Mathlib.Omega.{arith}
 use lib.Dec.{eqb, ltb}
 use Rattle.graph.specs.Lists.{allIn}
 use Rattle.graph.specs.Network.{Network, MateRule, edgeCount}
 use Rattle.graph.specs.Groups.{component, bridgeBlock}
-use Rattle.graph.proofs.Truth.{bool-ext, ltb-lt, lt-ltb}
-use Rattle.graph.proofs.SideBySide.{beside, Beside, eqb-raised, count-beside, component-of-second, bridge-block-of-second}
+use Rattle.graph.proofs.MappedLists.{all-in-mapped}
+use Rattle.graph.proofs.SideBySide.{beside, Beside, eqb-raised, ltb-raised, count-beside, component-of-second, bridge-block-of-second}
 use Rattle.naming.specs.Book.{Book}
 use Rattle.naming.specs.State.{State}
 use Rattle.naming.proofs.SideBySideBooks.{besideBook, networks}
@@ -24,22 +23,11 @@ use Rattle.commands.proofs.Causes.{full-exactly, not-refused-exactly}
 use Rattle.joining.proofs.Raised.{raiseDemand, raised-operands, raised-demands}
 use Rattle.joining.proofs.BesideStates.{BesideState, BesideSound, books-beside}
 
--- a test of a mapped list is one of the list
-all-in-map : {A : Type 0} (k : A → A) (test : A → Bool) (l : List A) → allIn test (map k l) ≡ allIn (λ x. test (k x)) l
-unfolding allIn
-all-in-map k test [] = refl
-all-in-map k test (x ∷ l) = ap (λ rest. test (k x) && rest) (all-in-map k test l)
-
 -- tests that agree agree of a list
 all-in-same : {A : Type 0} (test test′ : A → Bool) (l : List A) → ((x : A) → test x ≡ test′ x) → allIn test l ≡ allIn test′ l
 unfolding allIn
 all-in-same test test′ [] same = refl
 all-in-same test test′ (x ∷ l) same = ap₂ _&&_ (same x) (all-in-same test test′ l same)
-
-ltb-raised : (m x y : ℕ) → ltb (m + x) (m + y) ≡ ltb x y
-ltb-raised m x y =
-    bool-ext (ltb (m + x) (m + y)) (ltb x y)
-    (λ e. lt-ltb x y (omega (arith, ltb-lt (m + x) (m + y) e))) (λ e. lt-ltb (m + x) (m + y) (omega (arith, ltb-lt x y e)))
 
 module _ {caps : Capacities} {one s s′ : State} (w : BesideSound caps one s) (q : BesideState one s s′) where
   abbrev by : Counts
@@ -110,7 +98,7 @@ module _ {caps : Capacities} {one s s′ : State} (w : BesideSound caps one s) (
   unfolding meets countsOf
   meets-raised r c =
       ap (allIn (λ d. not (eqb (refusalNumber (cause d)) (refusalNumber r)) || met s′ d)) (raised-demands by c)
-      ∙ all-in-map (raiseDemand m) _ (demandsOf (facts c))
+      ∙ all-in-mapped (raiseDemand m) _ (demandsOf (facts c))
       ∙ all-in-same _ _ (demandsOf (facts c)) (λ d.
       ap₂ (λ (p : Refusal) b. not (eqb (refusalNumber p) (refusalNumber r)) || b) (cause-raised d) (met-raised d))
 
@@ -118,13 +106,13 @@ module _ {caps : Capacities} {one s s′ : State} (w : BesideSound caps one s) (
   unfolding cabinetsKnown raiseFields
   cabinets-known-raised c =
       ap (allIn (cabinetKnown (s′ .book .network))) (raised-operands by c)
-      ∙ all-in-map (raiseField by) _ (operandsOf (facts c)) ∙ all-in-same _ _ (operandsOf (facts c)) cabinet-known-raised
+      ∙ all-in-mapped (raiseField by) _ (operandsOf (facts c)) ∙ all-in-same _ _ (operandsOf (facts c)) cabinet-known-raised
 
   spans-known-raised : (c : Command) → spansKnown s′ (raiseCommand by c) ≡ spansKnown s c
   unfolding spansKnown raiseFields
   spans-known-raised c =
       ap (allIn (spanKnown (s′ .book .network))) (raised-operands by c)
-      ∙ all-in-map (raiseField by) _ (operandsOf (facts c)) ∙ all-in-same _ _ (operandsOf (facts c)) span-known-raised
+      ∙ all-in-mapped (raiseField by) _ (operandsOf (facts c)) ∙ all-in-same _ _ (operandsOf (facts c)) span-known-raised
 
   -- A command that is not refused alone is not refused where there is room for what it adds,
   pub accepted-raised : (c : Command) → refusalOf caps s c ≡ none → isFull caps s′ (raiseCommand by c) ≡ false

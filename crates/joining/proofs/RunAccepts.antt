@@ -11,23 +11,14 @@ use Rattle.commands.specs.Text.{Text}
 use Rattle.commands.specs.Run.{runText, commandsOf}
 use Rattle.commands.specs.Entry.{bookAfter}
 use Rattle.commands.proofs.StateAfter.{book-after-commands}
-use Rattle.commands.proofs.RunBooks.{NoneRefused, Sound, empty-sound, sound-after-all}
-use Rattle.joining.proofs.CommandsRun.{run-refusal, none-in, accepted-all}
+use Rattle.commands.proofs.RunBooks.{Sound, empty-sound, sound-after-all}
+use Rattle.joining.proofs.CommandsRun.{none-refused, takes-all}
 
 module _ (rule : Rule) (choice : Choice) (caps : Capacities) (t : Text) (whole : runText choice caps (emptyState rule) t .refusal ≡ none) where
-  -- none of its commands is refused
-  none-refused : NoneRefused caps (emptyState rule) (map (λ r. r .command) (t .commands))
-  unfolding runText
-  none-refused =
-      none-in caps (emptyState rule) (map (λ r. r .command) (t .commands)) (t .refusal)
-      (sym (run-refusal caps choice (emptyState rule) (t .commands) (t .refusal)) ∙ whole) .0
-
   pub accepted-book : bookAfter rule (commandsOf (runText choice caps (emptyState rule) t))
       ≡ stateAfter (emptyState rule) (map (λ r. r .command) (t .commands)) .book
-  unfolding commandsOf runText
   accepted-book =
-      ap (bookAfter rule) (accepted-all caps choice (emptyState rule) (t .commands) (t .refusal) none-refused)
-      ∙ sym (book-after-commands rule (map (λ r. r .command) (t .commands)))
+      ap (bookAfter rule) (takes-all caps choice (emptyState rule) t whole) ∙ sym (book-after-commands rule (map (λ r. r .command) (t .commands)))
 
   pub accepted-sound : MateRule rule → Sound caps (stateAfter (emptyState rule) (map (λ r. r .command) (t .commands)))
-  accepted-sound mates = sound-after-all caps (emptyState rule) _ (empty-sound caps rule mates) none-refused
+  accepted-sound mates = sound-after-all caps (emptyState rule) _ (empty-sound caps rule mates) (none-refused caps choice (emptyState rule) t whole .0)

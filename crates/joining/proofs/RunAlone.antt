@@ -14,14 +14,14 @@ use Rattle.commands.specs.Bytes.{allBytes}
 use Rattle.commands.specs.Refusal.{Refusal}
 use Rattle.commands.specs.Text.{textOf}
 use Rattle.commands.specs.Entry.{workNeeded, numberOf}
-use Rattle.commands.specs.Register.{registerRule, registerRoutes}
+use Rattle.commands.specs.Register.{registerRule, registerRoutes, ampleRun}
 use Rattle.commands.specs.Join.{joinCapacities, runAlone, isSome, isRefused, stateBehind, countsOf, countsIn, joinedWork}
 use Rattle.commands.proofs.Returned.{zero-exactly}
 use Rattle.commands.proofs.WholeRun.{register-mates}
 use Rattle.numbers.specs.declared.Limits.{Limits}
 use Rattle.forest.specs.Promise.{wordsNeeded, SameBeyond, same-beyond-trans}
 use Rattle.run.specs.declared.Progress.{Progress}
-use Rattle.run.specs.Promise.{capacitiesOf, unansweredOf, UnansweredPromise}
+use Rattle.run.specs.Promise.{capacitiesOf, UnansweredPromise}
 use Rattle.run.proofs.Needed.{work-is-words, cleared-over}
 use Rattle.joining.specs.declared.alone.Alone.{Alone}
 use Rattle.joining.specs.declared.alone.Alone.the-variants as A
@@ -74,10 +74,10 @@ module _ (journal : List ℕ) where
 
   -- The run of it without answers.
   module _ {limits : Limits} (is : limits ≡ greatest) {p : Progress} {old new : List ℕ}
-      (promise : UnansweredPromise limits (unansweredOf (capacitiesOf limits) journal) p old new) where
+      (promise : UnansweredPromise limits (ampleRun registerRoutes (capacitiesOf limits) journal) p old new) where
     ends-as-told : UnansweredPromise greatest (runAlone registerRoutes journal) p old new
     unfolding greatest capacitiesOf joinCapacities runAlone
-    ends-as-told = subst (λ l. UnansweredPromise l (unansweredOf (capacitiesOf l) journal) p old new) is promise
+    ends-as-told = subst (λ l. UnansweredPromise l (ampleRun registerRoutes (capacitiesOf l) journal) p old new) is promise
 
     -- the words beyond the table's are as before
     pub beyond-alone : SameBeyond greatest old new
@@ -96,23 +96,23 @@ module _ (journal : List ℕ) where
       ends-well = zero-exactly (runAlone registerRoutes journal .refusal) .0 (sym (ends-as-told .refusal-is) ∙ none-told)
 
       cabinets-are : p .shape .vertices ≡ countsIn journal .cabinets
-      unfolding countsIn countsOf stateBehind runAlone
+      unfolding countsIn countsOf stateBehind runAlone ampleRun
       cabinets-are =
           ends-as-told .vertices-are ∙ ap (λ b. b .network .vertices) (accepted-book registerRule registerRoutes joinCapacities (textOf journal) ends-well)
 
       spans-are : p .shape .edges ≡ countsIn journal .spans
-      unfolding countsIn countsOf stateBehind runAlone
+      unfolding countsIn countsOf stateBehind runAlone ampleRun
       spans-are =
           ends-as-told .edges-are ∙ ap (λ b. edgeCount (b .network)) (accepted-book registerRule registerRoutes joinCapacities (textOf journal) ends-well)
 
       -- which is within the greatest capacities
       pub few-cabinets : p .shape .vertices ≤ 4096
-      unfolding countsIn countsOf stateBehind runAlone joinCapacities
+      unfolding countsIn countsOf stateBehind runAlone ampleRun joinCapacities
       few-cabinets =
           omega (arith, cabinets-are, accepted-sound registerRule registerRoutes joinCapacities (textOf journal) ends-well register-mates .fits .cabinets-fit)
 
       pub few-spans : p .shape .edges ≤ 8192
-      unfolding countsIn countsOf stateBehind runAlone joinCapacities
+      unfolding countsIn countsOf stateBehind runAlone ampleRun joinCapacities
       few-spans =
           omega (arith, spans-are, accepted-sound registerRule registerRoutes joinCapacities (textOf journal) ends-well register-mates .fits .spans-fit)
 

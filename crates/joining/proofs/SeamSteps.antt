@@ -6,10 +6,11 @@
 use mathlib.Core.Bool.{true}
 use mathlib.Core.Logic.{⊎-elim}
 use mathlib.Core.Path.{_≡_, refl, sym, _∙_, ap}
-use Prim.Native.Nat.{ℕ, zero, suc, _+_, _≤_, _<_}
+use Prim.Native.Nat.{ℕ, suc, _+_, _≤_, _<_}
 use native.Mathlib.Omega.{arith}
 use mathlib.Core.List.{List, [], _∷_}
-use lib.ListN.{length, getD, drop, drop-of-length-le}
+use lib.ListN.{length, drop, drop-of-length-le}
+use lib.Seq.{drop-cons}
 use Rattle.graph.specs.Lists.{allIn}
 use Rattle.graph.proofs.Truth.{and-both, lt-ltb}
 use Rattle.graph.proofs.Below.{below-or-last}
@@ -23,17 +24,12 @@ pub record Gone (seams : List Seam) (start : Stage) (i : ℕ) (now : Stage) : Ty
   pub ducts : (k : ℕ) → k < i → seamAt seams k .duct < 65536
 
 -- from place i on there is seam i, and then what is there from the next place on
-from-here : (seams : List Seam) (i : ℕ) (none : Seam) → i < length seams → drop i seams ≡ getD seams i none ∷ drop (suc i) seams
-from-here [] i none h = absurd (omega (arith, h))
-from-here (seam ∷ later) zero none h = refl
-from-here (seam ∷ later) (suc i) none h = from-here later i none (omega (arith, h))
-
 step-of : (seams : List Seam) (i : ℕ) (now : Stage) → i < length seams
     → meetAll now (drop i seams) ≡ meetAll (meet now (seamAt seams i)) (drop (i + 1) seams)
 unfolding meetAll seamAt
 step-of seams i now h =
     let next : suc i ≡ i + 1 = omega arith in
-    ap (meetAll now) (from-here seams i _ h) ∙ ap (λ (k : ℕ). meetAll (meet now (seamAt seams i)) (drop k seams)) next
+    ap (meetAll now) (drop-cons seams i _ h) ∙ ap (λ (k : ℕ). meetAll (meet now (seamAt seams i)) (drop k seams)) next
 
 pub begins : (seams : List Seam) (start : Stage) → Gone seams start 0 start
 begins seams start = record { within = omega arith; as-long = refl; left = refl; ducts = λ k h. absurd (omega (arith, h)) }

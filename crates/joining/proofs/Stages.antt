@@ -12,10 +12,7 @@ use lib.ListN.{length, length-append, length-map}
 use lib.Seq.{sets, length-sets}
 use Rattle.graph.specs.Lists.{allIn}
 use Rattle.graph.proofs.Truth.{true-or-false, not-of-true, not-of-false, and-both, or-neither, or-neither-left, or-neither-right, le-leb, ltb-ge}
-use Rattle.graph.specs.Network.{edgeInDuct}
-use Rattle.commands.specs.Bytes.{twoBytes}
-use Rattle.commands.specs.Field.{fieldBytes, fieldsBytes}
-use Rattle.commands.specs.Facts.{facts, operandsOf, commandBytes}
+use Rattle.commands.specs.Facts.{commandBytes}
 use Rattle.commands.specs.Refusal.{Refusal, shortBuffer, refusedJournal, badSeam, longJoin, refusalNumber, Line, firstThatApplies}
 use Rattle.commands.specs.Text.{textOf, commandsIn, journalBytes}
 use Rattle.commands.specs.Entry.{workNeeded, over}
@@ -23,7 +20,7 @@ use Rattle.commands.specs.Join as Join
 use Rattle.commands.specs.Join.{raiseCommand, seamCommand, joinCapacities, isRefused, countsIn, goodSeam, joinedBytes, joinLines, Joining, joiningUnless, join}
 use Rattle.commands.proofs.Table.{given-exactly, none-exactly}
 use Rattle.joining.proofs.JoinedAnswers.{accepted-alone}
-use Rattle.joining.proofs.JoinedText.{journal-length-raised, length-of-commands, length-of-joined}
+use Rattle.joining.proofs.JoinedText.{seam-length, journal-length-raised, length-of-commands, length-of-joined}
 use Rattle.storing.proofs.Sets.{sets-behind, sets-front}
 use Rattle.joining.specs.declared.alone.Alone.the-variants as A
 use Rattle.joining.specs.declared.seams.Counts.{Counts}
@@ -66,11 +63,6 @@ met-counted c out (x ∷ xs) = go (goodSeam (c .cabinets) (c .others) (seamOf x)
 abbrev seamBytes : Counts → List Seam → List ℕ
 seamBytes c xs = journalBytes (map (seamCommand (oneOf c)) (map seamOf xs))
 
--- a seam's command has seven
-seam-bytes : (by : Join.Counts) (x : Join.Seam) → length (commandBytes (seamCommand by x)) ≡ 7
-unfolding seamCommand commandBytes fieldsBytes fieldBytes twoBytes operandsOf facts edgeInDuct
-seam-bytes by x = refl
-
 -- both journals stored: each seam behind them, where there is room for all
 met-stored : (c : Counts) (at : ℕ) (out : List ℕ) (xs : List Seam) → at + length xs * 7 ≤ 65536 → at + length xs * 7 ≤ length out
     → meetAll (record { joining = J.Stored c at; out = out }) xs
@@ -90,7 +82,7 @@ met-stored c at out (x ∷ xs) few room =
     further = omega arith
 
     seven : length (commandBytes (seamCommand (oneOf c) (seamOf x))) ≡ 7
-    seven = seam-bytes (oneOf c) (seamOf x)
+    seven = seam-length (oneOf c) (seamOf x)
 
     behind : sets next (at + 7) (seamBytes c xs) ≡ sets out at (seamBytes c (x ∷ xs))
     behind = unfold journalBytes in sets-behind out at (at + 7) (commandBytes (seamCommand (oneOf c) (seamOf x))) (seamBytes c xs) (omega (arith, seven))

@@ -1,12 +1,13 @@
--- The entry that joins: what the five functions that it calls leave is the joining, whose result is answered as is promised.
+-- The entry that joins: what its five calls leave is the joining, whose result is answered as is promised.
 use mathlib.Core.Bool.{true}
-use mathlib.Core.List.{List, [], _∷_, map}
-use mathlib.Core.Path.{_≡_, refl, sym, _∙_, ap, subst}
+use mathlib.Core.List.{List, map}
+use mathlib.Core.Path.{_≡_, sym, _∙_, ap, subst}
 use Prim.Native.Nat.{ℕ}
 use lib.Dec.{ltb}
 use lib.ListN.{length, take}
 use Rattle.graph.specs.Lists.{allIn}
-use Rattle.graph.proofs.Truth.{and-left, and-right, and-both, or-neither-left, or-neither-right, ltb-ge}
+use Rattle.graph.proofs.Truth.{or-neither-left, or-neither-right, ltb-ge}
+use Rattle.graph.proofs.MappedLists.{all-in-mapped}
 use Rattle.commands.specs.Entry.{workNeeded, over}
 use Rattle.commands.specs.Join as Join
 use Rattle.commands.specs.Join.{joinCapacities, isRefused, joinedBytes, join, AnsweredJoined}
@@ -24,9 +25,8 @@ use Rattle.journal.proofs.RewriteLaws.{front-of-over}
 
 -- the ducts in the paper's words
 ducts-of : (xs : List Seam) → ductsFit xs ≡ true → allIn (λ x. ltb (x .duct) 65536) (map seamOf xs) ≡ true
-unfolding ductsFit allIn seamOf
-ducts-of [] e = refl
-ducts-of (x ∷ xs) e = and-both (and-left (ltb (x .duct) 65536) _ e) (ducts-of xs (and-right (ltb (x .duct) 65536) (ductsFit xs) e))
+unfolding ductsFit seamOf
+ducts-of xs e = all-in-mapped seamOf (λ x. ltb (x .duct) 65536) xs ∙ e
 
 -- Seams that were met, from a stage on.
 abbrev pub Met : List Seam → Stage → Stage → Type 0

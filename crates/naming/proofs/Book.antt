@@ -1,7 +1,7 @@
 -- The naming book names the components, bridge-blocks and blocks of its network, whatever is added.
 use mathlib.Core.List.{List, [], _∷_, _++_}
 use mathlib.Core.Path.{_≡_, refl, sym, _∙_}
-use Prim.Native.Nat.{ℕ, suc, _≤_}
+use Prim.Native.Nat.{ℕ, suc}
 use native.Mathlib.Nat.{le-refl, not-suc-le-zero}
 use native.Mathlib.Omega.{arith}
 use lib.Dec.{eqb}
@@ -16,7 +16,7 @@ use Rattle.graph.proofs.VertexMore.{component-vertex-more, bridge-block-vertex-
 use Rattle.graph.proofs.Block.{block-equivalence}
 use Rattle.graph.proofs.Grows.{block-next, component-grows, bridge-block-grows, block-grows}
 use Rattle.naming.specs.Rename.{Grouping, rename}
-use Rattle.naming.specs.Book.{Book, Addition, vertex, edge, neither, emptyBook, enterVertex, enterEdge, feed}
+use Rattle.naming.specs.Book.{Book, emptyBook, enterVertex, enterEdge}
 use Rattle.naming.proofs.Equivalent.{Equivalent, Finer, equivalent-of}
 use Rattle.naming.proofs.Naming.{Naming, naming-none}
 use Rattle.naming.proofs.Advance.{Advance, advance-same, advance-new-item, advance-rename, advance-trans}
@@ -201,16 +201,3 @@ module _ (b : Book) (laws : BookLaws b) where
             (edge-count-more (b .network) e)
             (advance-trans item (groups-joined block-laws (b .network) e (laws .mate-rule) (item .named)));
       }
-
--- What is added takes no vertex and no edge away.
-pub vertices-grow : (b : Book) (a : Addition) → b .network .vertices ≤ feed b a .network .vertices
-unfolding feed
-vertices-grow b vertex = unfold enterVertex addVertex in omega arith
-vertices-grow b (edge e) = unfold enterEdge addEdge in omega arith
-vertices-grow b neither = omega arith
-
-pub edges-grow : (b : Book) (a : Addition) → edgeCount (b .network) ≤ edgeCount (feed b a .network)
-unfolding feed
-edges-grow b vertex = unfold enterVertex addVertex edgeCount in omega arith
-edges-grow b (edge e) = unfold enterEdge in omega (arith, edge-count-more (b .network) e)
-edges-grow b neither = omega arith

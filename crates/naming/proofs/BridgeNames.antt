@@ -8,14 +8,13 @@ use Prim.Native.Nat.{ℕ, suc, _≤_, _<_}
 use native.Mathlib.Nat.{not-suc-le-zero}
 use native.Mathlib.Omega.{arith}
 use lib.Dec.{eqb}
-use Rattle.graph.specs.Below.{anyBelow}
 use Rattle.graph.specs.Network.{Network, Edge, Rule, Proper, edge, edgeCount, addVertex, addEdge, mates, lossOf, joined}
 use Rattle.graph.specs.Groups.{bridge}
 use Rattle.graph.specs.Block.{block}
 use Rattle.graph.specs.Between.{leastMate}
 use Rattle.graph.specs.Travel.{firstMate}
 use Rattle.graph.proofs.Truth.{true-or-false, not-both, false-of-not, not-of-false, eqb-eq, ne-eqb, eqb-ne}
-use Rattle.graph.proofs.Below.{below-or-last, some-below}
+use Rattle.graph.proofs.Below.{below-or-last, any-none}
 use Rattle.graph.proofs.Joined.{old-or-new}
 use Rattle.graph.proofs.Mates.{mates-sym}
 use Rattle.graph.proofs.MateLoss.{mates-old}
@@ -162,8 +161,7 @@ bridge-named-by-least b laws named s h k = go (true-or-false (eqb n (firstMate g
             ∙ sym (laws .blocks-named .one-name s n h n-known (laws .blocks-named .name-within s h))
 
     least : leastMate g n ≡ true
-    least = not-of-false (false-of-not (anyBelow n (λ t. mates g t n)) (λ e.
-        let w = some-below n (λ t. mates g t n) e in no-lesser (w .at) (w .below) (w .passes)))
+    least = not-of-false (any-none n _ (λ t l. false-of-not (mates g t n) (no-lesser t l)))
 
     go : (eqb n (firstMate g s) ≡ true) ⊎ (eqb n (firstMate g s) ≡ false) → n ≡ firstMate g s
     go (inl e) = eqb-eq n (firstMate g s) e

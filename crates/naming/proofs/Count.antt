@@ -1,14 +1,14 @@
 -- Laws of counting the numbers below n that pass a test, and of sums over them.
 use mathlib.Core.Bool.{Bool, true, false, cond, _&&_, _||_, and-false}
 use mathlib.Core.Logic.{_⊎_, inl, inr}
-use mathlib.Core.Path.{_≡_, refl, sym, _∙_, ap, ap₂}
+use mathlib.Core.Path.{_≡_, refl, sym, ap, ap₂}
 use Prim.Native.Nat.{ℕ, zero, suc, _+_, _*_, _≤_, _<_}
 use native.Mathlib.Nat.{not-suc-le-zero, le-refl}
 use native.Mathlib.Omega.{arith}
 use lib.Dec.{eqb, ltb}
 use Rattle.graph.specs.Below.{anyBelow, count}
-use Rattle.graph.proofs.Truth.{true-or-false, false-of-not, not-both, bool-ext, and-both, or-left, eqb-eq, eqb-same, ne-eqb, ltb-lt, lt-ltb}
-use Rattle.graph.proofs.Below.{below-or-last, any-below, some-below, count-same}
+use Rattle.graph.proofs.Truth.{true-or-false, not-both, bool-ext, and-both, or-left, eqb-eq, eqb-same, ne-eqb, ltb-lt, lt-ltb}
+use Rattle.graph.proofs.Below.{below-or-last, none-below, some-below, count-same, count-none}
 use Rattle.naming.specs.Total.{total}
 
 -- at most n numbers below n pass
@@ -90,10 +90,6 @@ count-more k (suc n) p h = go (count-more k n p) (below-or-last (suc n) k (omega
     go f (inl l) = step (p n) (f (omega arith))
     go f (inr d) = rw d (le-refl _)
 
-count-zero : (p : ℕ → Bool) → count 0 p ≡ 0
-unfolding count
-count-zero p = refl
-
 -- a number that does not pass adds nothing
 pub count-last-out : (n : ℕ) (p : ℕ → Bool) → p n ≡ false → count (suc n) p ≡ count n p
 unfolding count
@@ -103,11 +99,6 @@ count-last-out n p e = rw e
 pub count-last-in : (n : ℕ) (p : ℕ → Bool) → p n ≡ true → count (suc n) p ≡ suc (count n p)
 unfolding count
 count-last-in n p e = rw e
-
--- if no number below n passes, the count is 0
-pub count-none : (n : ℕ) (p : ℕ → Bool) → ((i : ℕ) → i < n → p i ≡ false) → count n p ≡ 0
-count-none zero p f = count-zero p
-count-none (suc n) p f = count-last-out n p (f n (omega arith)) ∙ count-none n p (λ i h. f i (omega arith))
 
 -- where a test passes the numbers of another and one more, it counts one more
 count-one-more : (n : ℕ) (p q : ℕ → Bool) (i : ℕ) → i < n → p i ≡ false → q i ≡ true
@@ -157,12 +148,9 @@ some-counted n p =
     (λ e. let b = some-below n p e in lt-ltb 0 (count n p) (count-positive n p (b .at) (b .below) (b .passes)))
     (λ e. go (true-or-false (anyBelow n p)) (ltb-lt 0 (count n p) e))
   where
-    none-passes : anyBelow n p ≡ false → (i : ℕ) → i < n → p i ≡ false
-    none-passes e i h = false-of-not (p i) (λ d. not-both (any-below n p i h d) e)
-
     go : (anyBelow n p ≡ true) ⊎ (anyBelow n p ≡ false) → 0 < count n p → anyBelow n p ≡ true
     go (inl e) h = e
-    go (inr e) h = absurd (omega (arith, count-none n p (none-passes e)))
+    go (inr e) h = absurd (omega (arith, count-none n p (none-below n p e)))
 
 -- where a number passes a test exactly if it passes one of two others, which never both pass, their counts add up to its count
 pub count-parts : (n : ℕ) (p q r : ℕ → Bool)

@@ -4,9 +4,9 @@ use mathlib.Core.Logic.{Equivalence}
 use mathlib.Core.Path.{_≡_, _∙_, ap}
 use Prim.Native.Nat.{ℕ, suc, _+_, _≤_, _<_}
 use Rattle.graph.proofs.Truth.{not-both, bool-ext}
-use Rattle.graph.proofs.Below.{count-same}
+use Rattle.graph.proofs.Below.{count-same, count-none}
 use Rattle.naming.specs.Rename.{Grouping, size}
-use Rattle.naming.proofs.Count.{count-at-most, count-positive, count-monotone, count-disjoint, count-more, count-last-out, count-last-in, count-none}
+use Rattle.naming.proofs.Count.{count-at-most, count-positive, count-monotone, count-disjoint, count-more, count-last-out, count-last-in}
 
 -- The groups are those of an equivalence.
 pub record Equivalent (groups : Grouping) : Type 0 where

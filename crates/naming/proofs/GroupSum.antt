@@ -7,10 +7,10 @@ use Prim.Native.Nat.{ℕ, zero, suc, _+_, _<_}
 use native.Mathlib.Omega.{arith}
 use Rattle.graph.specs.Below.{anyBelow, count}
 use Rattle.graph.proofs.Truth.{true-or-false, false-of-not, not-both, bool-ext, and-left, and-right, and-both, or-left, or-right, or-cases}
-use Rattle.graph.proofs.Below.{any-below, some-below, count-same}
+use Rattle.graph.proofs.Below.{any-below, some-below, count-same, count-none}
 use Rattle.naming.specs.Rename.{Grouping, size}
 use Rattle.naming.specs.Total.{total, isFirst, overGroups}
-use Rattle.naming.proofs.Count.{count-none, count-parts, total-same}
+use Rattle.naming.proofs.Count.{count-parts, total-same}
 use Rattle.naming.proofs.Equivalent.{Equivalent, Finer}
 
 module _ (n : ℕ) (groups : Grouping) (e : Equivalent groups) (test : ℕ → Bool) where

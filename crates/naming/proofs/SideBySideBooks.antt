@@ -1,19 +1,16 @@
 -- Two books beside each other: what is fed to the second, raised, is fed to both, and leaves the first's names as they are.
 use mathlib.Core.List.{List, [], _∷_, _++_, map, map-append, append-assoc}
-use mathlib.Core.Logic.{⊎-elim}
-use mathlib.Core.Path.{_≡_, refl, sym, _∙_, ap, ap₂}
+use mathlib.Core.Path.{_≡_, refl, sym, _∙_, ap}
 use Prim.Native.Nat.{ℕ, _+_}
-use native.Mathlib.Omega.{arith}
 use lib.ListN.{length}
 use Rattle.graph.specs.Network.{Network, Edge, MateRule, Proper, edgeCount, addEdge}
 use Rattle.graph.specs.Groups.{component, bridgeBlock}
 use Rattle.graph.specs.Block.{block}
-use Rattle.graph.proofs.Truth.{bool-ext}
 use Rattle.graph.proofs.Mates.{component-swap}
 use Rattle.graph.proofs.BridgeBlock.{bridge-block-swap}
-use Rattle.graph.proofs.Block.{block-refl, block-swap, block-below}
+use Rattle.graph.proofs.Block.{block-swap}
 use Rattle.graph.proofs.SideBySide.{raiseEdge, beside, Raises, Beside, count-beside, vertex-beside, edge-beside, component-apart, bridge-block-apart, block-apart, component-of-first, bridge-block-of-first, block-of-first, component-of-second, bridge-block-of-second, block-of-second}
-use Rattle.naming.specs.Rename.{rename}
+use Rattle.naming.specs.Rename.{Grouping, rename}
 use Rattle.naming.specs.Book.{Book, Addition, vertex, edge, neither, enterVertex, enterEdge, feed}
 use Rattle.naming.proofs.SideBySideNames.{namesBehind, BesideGroups, rename-beside}
 use Rattle.naming.proofs.Book.{BookLaws}
@@ -61,22 +58,6 @@ module _ {b g : Network} (w : Beside b g) (rule : MateRule (b .rule)) where
         of-second = λ x y h k. bridge-block-of-second w rule x y;
       }
 
-  -- numbers behind the first's edges share a block exactly if they do in the second, whether there are such edges or not
-  blocks-of-second : (s t : ℕ) → block (beside b g) (edgeCount b + s) (edgeCount b + t) ≡ block g s t
-  blocks-of-second s t =
-      bool-ext (block (beside b g) (k + s) (k + t)) (block g s t)
-      (λ e. ⊎-elim (λ q. rw (one q) (block-refl g t))
-      (λ h.
-      sym (block-of-second w rule s t (omega (arith, h .0, count-beside b g)) (omega (arith, h .1, count-beside b g))) ∙ e)
-      (block-below (beside b g) (k + s) (k + t) e))
-      (λ e. ⊎-elim (λ q. rw q (block-refl (beside b g) (k + t))) (λ h. block-of-second w rule s t (h .0) (h .1) ∙ e) (block-below g s t e))
-    where
-      k : ℕ
-      k = edgeCount b
-
-      one : k + s ≡ k + t → s ≡ t
-      one q = omega (arith, q)
-
   -- the blocks, and behind them as many numbers of edges as may come
   pub blocks-beside : (n : ℕ) → BesideGroups (edgeCount b) n (block b) (block g) (block (beside b g))
   blocks-beside n =
@@ -84,7 +65,7 @@ module _ {b g : Network} (w : Beside b g) (rule : MateRule (b .rule)) where
         of-first = block-of-first w rule;
         apart = λ s t h k. block-apart w s t h;
         apart-back = λ s t h k. block-swap (beside b g) (edgeCount b + s) t ∙ block-apart w t s k;
-        of-second = λ s t h k. blocks-of-second s t;
+        of-second = λ s t h k. block-of-second w rule s t;
       }
 
 -- What is asked of two books: they keep the laws of naming, and their networks can stand beside each other.
@@ -126,8 +107,12 @@ module _ {one b : Book} (w : BesideBooks one b) where
   unfolding enterEdge besideBook
   feed-edge-beside e proper = λ i. record {
     network = after-is i;
-    components = components-are i;
-    bridgeBlocks = bridge-blocks-are i;
+    components =
+        of-kind component (one .components) (b .components) (w .first-laws .components-named .sized) (w .second-laws .components-named .sized)
+        (components-beside networks rule) (unfold addEdge in components-beside after rule) i;
+    bridgeBlocks =
+        of-kind bridgeBlock (one .bridgeBlocks) (b .bridgeBlocks) (w .first-laws .bridge-blocks-named .sized) (w .second-laws .bridge-blocks-named .sized)
+        (bridge-blocks-beside networks rule) (unfold addEdge in bridge-blocks-beside after rule) i;
     blocks = blocks-are i;
   }
     where
@@ -149,33 +134,34 @@ module _ {one b : Book} (w : BesideBooks one b) where
             second-proper = proper;
           }
 
-      after-is : addEdge (beside (one .network) g) (raiseEdge m e) ≡ beside (one .network) g′
+      both : Network
+      both = beside (one .network) g
+
+      both′ : Network
+      both′ = addEdge both (raiseEdge m e)
+
+      after-is : both′ ≡ beside (one .network) g′
       after-is = edge-beside (one .network) g e
 
-      components-are : rename (component (beside (one .network) g)) (component (addEdge (beside (one .network) g) (raiseEdge m e))) (namesBehind m (one .components) (b .components))
-          ≡ namesBehind m (one .components) (rename (component g) (component g′) (b .components))
-      components-are =
-          ap (λ (h : Network). rename (component (beside (one .network) g)) (component h) (namesBehind m (one .components) (b .components))) after-is
-          ∙ rename-beside (one .components) (b .components) (w .first-laws .components-named .sized) (w .second-laws .components-named .sized)
-          (components-beside networks rule) (unfold addEdge in components-beside after rule)
-
-      bridge-blocks-are : rename (bridgeBlock (beside (one .network) g)) (bridgeBlock (addEdge (beside (one .network) g) (raiseEdge m e))) (namesBehind m (one .bridgeBlocks) (b .bridgeBlocks))
-          ≡ namesBehind m (one .bridgeBlocks) (rename (bridgeBlock g) (bridgeBlock g′) (b .bridgeBlocks))
-      bridge-blocks-are =
-          ap (λ (h : Network). rename (bridgeBlock (beside (one .network) g)) (bridgeBlock h) (namesBehind m (one .bridgeBlocks) (b .bridgeBlocks))) after-is
-          ∙ rename-beside (one .bridgeBlocks) (b .bridgeBlocks) (w .first-laws .bridge-blocks-named .sized) (w .second-laws .bridge-blocks-named .sized)
-          (bridge-blocks-beside networks rule) (unfold addEdge in bridge-blocks-beside after rule)
+      -- the names of one kind of groups
+      of-kind : (groups : Network → Grouping) {j n : ℕ} (old names : List ℕ) → length old ≡ j → length names ≡ n
+          → BesideGroups j n (groups (one .network)) (groups g) (groups both)
+          → BesideGroups j n (groups (one .network)) (groups g′) (groups (beside (one .network) g′))
+          → rename (groups both) (groups both′) (namesBehind j old names) ≡ namesBehind j old (rename (groups g) (groups g′) names)
+      of-kind groups {j} old names as-old as-new before now =
+          ap (λ (h : Network). rename (groups both) (groups h) (namesBehind j old names)) after-is
+          ∙ rename-beside old names as-old as-new before now
 
       names : List ℕ
       names = b .blocks ++ edgeCount g ∷ []
 
-      blocks-are : rename (block (beside (one .network) g)) (block (addEdge (beside (one .network) g) (raiseEdge m e))) (namesBehind k (one .blocks) (b .blocks) ++ edgeCount (beside (one .network) g) ∷ [])
+      blocks-are : rename (block both) (block both′) (namesBehind k (one .blocks) (b .blocks) ++ edgeCount both ∷ [])
           ≡ namesBehind k (one .blocks) (rename (block g) (block g′) names)
       blocks-are =
-          ap₂ (λ (h : Network) (l : List ℕ). rename (block (beside (one .network) g)) (block h) l) after-is
+          ap (rename (block both) (block both′))
           (ap (λ (n : ℕ). namesBehind k (one .blocks) (b .blocks) ++ n ∷ []) (count-beside (one .network) g)
           ∙ one-name-more k (edgeCount g) (one .blocks) (b .blocks))
-          ∙ rename-beside (one .blocks) names (w .first-laws .blocks-named .sized) refl
+          ∙ of-kind block (one .blocks) names (w .first-laws .blocks-named .sized) refl
           (blocks-beside networks rule (length names)) (blocks-beside after rule (length names))
 
   -- whatever is added

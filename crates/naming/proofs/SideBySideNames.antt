@@ -1,19 +1,19 @@
 -- Names of items of two lots, those of the second lot with their numbers and their names raised: what becomes of them, which of them change,
 -- and how they are looked up, where nothing of one lot shares a group with anything of the other.
-use mathlib.Core.Bool.{Bool, true, false, not, cond, _&&_, _||_}
+use mathlib.Core.Bool.{Bool, true, false, not, cond, _&&_, _||_, and-not-self}
 use mathlib.Core.List.{List, [], _∷_, _++_, map, map-map, List·Memᴰ, List·Memᴰ·head, List·Memᴰ·tail}
-use mathlib.Core.Logic.{⊎-elim}
 use mathlib.Core.Path.{_≡_, refl, sym, _∙_, ap, ap₂}
-use Prim.Native.Nat.{ℕ, _+_, _-_, _<_, _≤_}
+use Prim.Native.Nat.{ℕ, _+_, _<_, _≤_}
 use native.Mathlib.Omega.{arith}
 use lib.Dec.{eqb, leb, ltb}
 use lib.ListN.{length, length-append, length-map, List·getD-append}
 use lib.Seq.{getD-append-add, ext-getD}
 use Rattle.graph.specs.Below.{anyBelow, listed, tabulate, length-tabulate}
-use Rattle.graph.proofs.Truth.{true-or-false, bool-ext, not-of-true, eqb-same, ltb-lt, ltb-ge, leb-le, le-leb}
-use Rattle.graph.proofs.Below.{any-below-same, count-same, listed-same}
-use Rattle.graph.proofs.BelowSum.{any-none, any-behind, count-behind, listed-behind, tabulate-sum}
-use Rattle.graph.proofs.MappedLists.{eqb-mapped, entry-mapped}
+use Rattle.graph.proofs.Truth.{not-of-true, eqb-same}
+use Rattle.graph.proofs.Below.{any-below-same, count-same, listed-same, any-none}
+use Rattle.graph.proofs.BelowSum.{below-sum, any-behind, count-behind, listed-behind, tabulate-sum}
+use Rattle.graph.proofs.MappedLists.{entry-mapped}
+use Rattle.graph.proofs.SideBySide.{eqb-raised, leb-raised}
 use Rattle.naming.specs.Rename.{Grouping, size, nameOf, changedItems, Change, changesBetween, Candidate, better, bestOf, candidate, holdsSeveral, bestName, rename}
 use Rattle.naming.specs.Lookup.{Group, groupOf}
 use Rattle.naming.proofs.Listed.{listed-passes, getD-tabulate, tabulate-same, map-tabulate, map-listed-same}
@@ -29,23 +29,9 @@ pub record BesideGroups (m n : ℕ) (first groups both : Grouping) : Type 0 wher
   pub apart-back : (x y : ℕ) → x < n → y < m → both (m + x) y ≡ false
   pub of-second : (x y : ℕ) → x < n → y < n → both (m + x) (m + y) ≡ groups x y
 
--- what holds of the numbers below m and of those behind them holds of all below the sum
-pub below-sum : (P : ℕ → Type 0) (m n : ℕ) → ((x : ℕ) → x < m → P x) → ((x : ℕ) → x < n → P (m + x)) → (y : ℕ) → y < m + n → P y
-below-sum P m n low high y h =
-    ⊎-elim (λ e. low y (ltb-lt y m e))
-    (λ e. let k = ltb-ge y m e in rw (behind k) (high (y - m) (omega (arith, h, k)))) (true-or-false (ltb y m))
-  where
-    behind : m ≤ y → y ≡ m + (y - m)
-    behind k = omega (arith, k)
-
 -- a candidate whose name is raised
 unfoldable raiseCandidate : ℕ → Candidate → Candidate
 raiseCandidate m c = record { size = c .size; name = m + c .name }
-
-leb-raised : (m x y : ℕ) → leb (m + x) (m + y) ≡ leb x y
-leb-raised m x y =
-    bool-ext (leb (m + x) (m + y)) (leb x y)
-    (λ e. le-leb x y (omega (arith, leb-le (m + x) (m + y) e))) (λ e. le-leb (m + x) (m + y) (omega (arith, leb-le x y e)))
 
 -- the better of two, raised, is the better, raised
 better-raised : (m : ℕ) (c d : Candidate) → better (raiseCandidate m c) (raiseCandidate m d) ≡ raiseCandidate m (better c d)
@@ -111,12 +97,8 @@ module _ {m n : ℕ} (old names : List ℕ) (as-old : length old ≡ m) (as-new 
       several-of-first x h =
           any-none (length all) _ (λ y k.
           below-sum (λ y. (both′ x y && not (both x y)) ≡ false) m n
-          (λ y l. ap₂ (λ a b. a && not b) (w′ .of-first x y h l) (w .of-first x y h l) ∙ neither (first x y))
+          (λ y l. ap₂ (λ a b. a && not b) (w′ .of-first x y h l) (w .of-first x y h l) ∙ and-not-self (first x y))
           (λ y l. ap (λ a. a && not (both x (m + y))) (w′ .apart x y h l)) y (rw length-behind at k))
-        where
-          neither : (b : Bool) → (b && not b) ≡ false
-          neither true = refl
-          neither false = refl
 
       -- one of the second lot is exactly if it is there
       several-of-second : (x : ℕ) → x < n → holdsSeveral both both′ all (m + x) ≡ holdsSeveral before after names x
@@ -204,7 +186,7 @@ changes-beside m old names names′ as-old as-many =
         → eqb (nameOf (namesBehind m old names) (m + x)) (nameOf (namesBehind m old names′) (m + x)) ≡ eqb (nameOf names x) (nameOf names′ x)
     same-test x h =
         ap₂ eqb (name-of-second old names as-old refl x h) (name-of-second old names′ as-old refl x (omega (arith, h, as-many)))
-        ∙ eqb-mapped (λ y. m + y) (nameOf names x) (nameOf names′ x) (λ e. omega (arith, e))
+        ∙ eqb-raised m (nameOf names x) (nameOf names′ x)
 
     those : listed (length (namesBehind m old names)) changed ≡ map (λ x. m + x) (listed n (λ x. changed (m + x)))
     those =

@@ -17,7 +17,7 @@ use Rattle.commands.proofs.RewriteExactly.{TooLong, rewrite-as-forecast, rewrit
 use Rattle.storing.proofs.Sets.{sets-front}
 use Rattle.rewriting.specs.declared.Rewriting.{Rewriting}
 use Rattle.rewriting.specs.Promise.{Rewrote}
-use Rattle.rewriting.specs.Inside.Measures.{Readable}
+use Rattle.reading.specs.Inside.Places.{Readable}
 use Rattle.rewriting.specs.Inside.Writes.{resultStored, Result}
 
 -- a journal that the forecast accepts is read to its end, and the other way round

@@ -2,13 +2,13 @@
 use mathlib.Core.Bool.{Bool, true, false, not, cond}
 use mathlib.Core.List.{List, _∷_, _++_}
 use mathlib.Core.Logic.{_⊎_, inl, inr, _≢_}
-use mathlib.Core.Option.{none, some}
-use mathlib.Core.Path.{_≡_, refl, sym, _∙_, ap, subst}
+use mathlib.Core.Option.{some}
+use mathlib.Core.Path.{_≡_, refl, sym, _∙_, ap}
 use Prim.Native.Nat.{ℕ, suc, _+_, _≤_, _<_}
 use native.Mathlib.Numerals.{add-one}
 use native.Mathlib.Omega.{arith}
 use lib.Dec.{eqb}
-use lib.ListN.{length, getD, take, drop, length-append, take-append-drop}
+use lib.ListN.{length, getD, take, drop, length-append}
 use lib.Seq.{sets, slice, slice-cons, length-slice}
 use Rattle.graph.specs.Network.{edgeBetween, edgeInDuct}
 use Rattle.graph.proofs.Truth.{true-or-false, eq-eqb, ne-eqb}
@@ -16,19 +16,18 @@ use Rattle.commands.specs.Bytes.{twoBytes, allBytes}
 use Rattle.commands.specs.Field.{fieldBytes, fieldsBytes}
 use Rattle.commands.specs.Command.{Command, addSpan, addDuctSpan, commandByte}
 use Rattle.commands.specs.Facts.{facts, additionOf, addition, operandsOf, commandBytes}
-use Rattle.commands.specs.Text.{endsWith, followedBy, journalBytes}
+use Rattle.commands.specs.Text.{followedBy, journalBytes}
 use Rattle.commands.specs.Forecast.{isSpan}
 use Rattle.commands.specs.Rewrite.{rewriteCommand, rewriteFrom, firstDuctTold}
-use Rattle.commands.proofs.Cases.{impossible}
-use Rattle.commands.proofs.Bytes.{all-bytes-behind}
+use Rattle.commands.proofs.Bytes.{all-bytes-from}
 use Rattle.commands.proofs.ReadFront.{behind-of-front}
 use Rattle.commands.proofs.SpelledBack.{command-spelled}
 use Rattle.commands.proofs.EachRewritten.{Is02, Unchanged, each-rewritten}
 use Rattle.commands.proofs.RewrittenText.{span-rewritten}
-use Rattle.commands.proofs.TextAt.{textHere}
-use Rattle.reading.specs.Inside.Reads.{noCommand, cutShort, whole}
-use Rattle.reading.proofs.PassedAt.{passingHere, text-at-no-command, text-at-cut-short, command-here, its-own-byte, operands-here, text-goes-on-behind}
-use Rattle.rewriting.specs.Inside.Measures.{readsAt, commandsAt, sizeOf}
+use Rattle.reading.specs.Inside.Reads.{whole}
+use Rattle.reading.proofs.PassedAt.{passingHere, command-here, its-own-byte, operands-here, text-goes-on-behind}
+use Rattle.reading.specs.Inside.Places.{readsAt, commandsAt}
+use Rattle.rewriting.specs.Inside.Measures.{sizeOf}
 use Rattle.rewriting.specs.Inside.Writes.{spansBehind, rewrittenAt}
 
 -- a 02 adds a span
@@ -87,11 +86,6 @@ module _ (journal : List ℕ) (are : allBytes journal ≡ true) (place : ℕ) (a
   unfolding followedBy
   reads-here = ap (λ t. t .commands) (text-goes-on-behind journal place at-byte byte width passed)
 
-  -- what is read to its end here is read so behind it
-  pub whole-behind : textHere journal place .refusal ≡ none → textHere journal behind .refusal ≡ none
-  unfolding followedBy
-  whole-behind e = sym (ap (λ t. t .refusal) (text-goes-on-behind journal place at-byte byte width passed)) ∙ e
-
   -- a 0B is the first one
   pub told-here : byte ≡ 11 → firstDuctTold (readsAt journal place) ≡ some place
   unfolding firstDuctTold
@@ -110,8 +104,7 @@ module _ (journal : List ℕ) (are : allBytes journal ≡ true) (place : ℕ) (a
   bytes-spelled =
       rw operands
       (command-spelled (getD journal place 0) (drop (place + 1) journal) this width
-      (all-bytes-behind (take (place + 1) journal) (drop (place + 1) journal)
-      (subst (λ l. allBytes l ≡ true) (sym (take-append-drop (place + 1) journal)) are))
+      (all-bytes-from (place + 1) journal are)
       (command-here journal place at-byte byte width passed .is-read))
 
   -- the command's bytes stand there
@@ -183,13 +176,3 @@ module _ (journal : List ℕ) (are : allBytes journal ≡ true) (place : ℕ) (a
             length-slice (place + 1) behind journal in-journal,
           ))
       go (inr e) = rw e (omega (arith, length-slice place behind journal in-journal))
-
--- From where a journal is read to its end, a command stands.
-module _ (journal : List ℕ) (place : ℕ) (at-byte : place < length journal) (read-on : textHere journal place .refusal ≡ none) where
-  pub not-unknown : noCommand ≡ passingHere journal place at-byte → ⊥
-  unfolding endsWith
-  not-unknown e = impossible (cc (ap (λ t. t .refusal) (text-at-no-command journal place at-byte e), read-on))
-
-  pub not-cut-short : cutShort ≡ passingHere journal place at-byte → ⊥
-  unfolding endsWith
-  not-cut-short e = impossible (cc (ap (λ t. t .refusal) (text-at-cut-short journal place at-byte e), read-on))

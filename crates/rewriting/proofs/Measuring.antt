@@ -11,11 +11,12 @@ use Rattle.commands.specs.Text.{endsWith, textOf, journalBytes}
 use Rattle.commands.specs.Rewrite.{rewriteFrom, rewriteCommands, firstDuctTold}
 use Rattle.commands.proofs.TextAt.{text-at-end}
 use Rattle.reading.specs.Inside.Reads.{whole}
-use Rattle.reading.proofs.PassedAt.{passingHere, operands-here}
+use Rattle.reading.specs.Inside.Places.{readsAt, commandsAt, Readable}
+use Rattle.reading.proofs.PassedAt.{passingHere, operands-here, whole-behind-passed}
 use Rattle.rewriting.specs.declared.Measured.the-variants as M
-use Rattle.rewriting.specs.Inside.Measures.{readsAt, commandsAt, Readable, sizeOf, Measures, MeasuredTo}
+use Rattle.rewriting.specs.Inside.Measures.{sizeOf, Measures, MeasuredTo}
 use Rattle.rewriting.specs.Inside.Writes.{spansBehind, rewrittenAt}
-use Rattle.rewriting.proofs.Going.{whole-behind, told-here, not-told-here, bytes-go-on, size-stands, size-at-most}
+use Rattle.rewriting.proofs.Going.{told-here, not-told-here, bytes-go-on, size-stands, size-at-most}
 
 -- a journal that is read to its end is measured up to its start
 pub measured-at-start : (journal : List ℕ) → Readable journal → MeasuredTo journal 0 0
@@ -56,7 +57,7 @@ module _ {journal : List ℕ} {so-far place : ℕ} (m : MeasuredTo journal so-fa
         record {
           spans = spansBehind byte spans;
           in-journal = operands-here journal place at-byte byte width passed;
-          whole-here = whole-behind journal are place at-byte byte width passed (m .whole-here);
+          whole-here = whole-behind-passed journal place at-byte byte width passed (m .whole-here);
           same-told = sym (not-told-here journal are place at-byte byte width passed other) ∙ m .same-told;
           same-length =
               omega (

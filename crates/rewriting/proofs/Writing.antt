@@ -13,11 +13,12 @@ use Rattle.commands.specs.Rewrite.{rewriteFrom, rewriteCommands}
 use Rattle.commands.proofs.Cases.{impossible}
 use Rattle.commands.proofs.TextAt.{text-at-end}
 use Rattle.reading.specs.Inside.Reads.{whole}
-use Rattle.reading.proofs.PassedAt.{passingHere, operands-here}
+use Rattle.reading.proofs.PassedAt.{passingHere, operands-here, whole-behind-passed}
 use Rattle.storing.proofs.Sets.{sets-behind}
-use Rattle.rewriting.specs.Inside.Measures.{readsAt, commandsAt, sizeOf}
+use Rattle.reading.specs.Inside.Places.{readsAt, commandsAt}
+use Rattle.rewriting.specs.Inside.Measures.{sizeOf}
 use Rattle.rewriting.specs.Inside.Writes.{spansBehind, rewrittenAt, resultStored, Writable, WrittenTo}
-use Rattle.rewriting.proofs.Going.{whole-behind, told-here, not-told-here, bytes-go-on, size-stands, spans-at-most}
+use Rattle.rewriting.proofs.Going.{told-here, not-told-here, bytes-go-on, size-stands, spans-at-most}
 
 -- with room for its result, a journal is written up to its start
 pub written-at-start : (journal lent : List ℕ) → Writable journal lent → WrittenTo journal lent lent 0 0 0
@@ -70,7 +71,7 @@ module _ {journal lent out : List ℕ} {spans at place : ℕ} (w : WrittenTo jou
     written-behind =
         record {
           in-journal = operands-here journal place at-byte byte width passed;
-          whole-here = whole-behind journal are place at-byte byte width passed (w .whole-here);
+          whole-here = whole-behind-passed journal place at-byte byte width passed (w .whole-here);
           none-told-here = sym (not-told-here journal are place at-byte byte width passed other) ∙ w .none-told-here;
           leads =
               sets-behind out at (at + sizeOf byte width) here behind (omega (arith, size-stands journal are place at-byte byte width passed spans))

@@ -1,23 +1,25 @@
--- What a run leaves behind is the same before and after each of its commands.
+-- What a run comes to, with answers and without, is the same before and after each of its commands, and once it has ended.
 use mathlib.Core.List.{List, [], _++_, append-assoc, append-nil}
-use mathlib.Core.Option.{Option}
-use mathlib.Core.Path.{_≡_}
-use Prim.Native.Nat.{ℕ, suc, _+_, _-_, _≤_}
+use mathlib.Core.Option.{Option, none, some}
+use mathlib.Core.Path.{_≡_, refl}
+use Prim.Native.Nat.{ℕ, suc, _+_, _-_, _≤_, _<_}
 use native.Mathlib.Nat.{add-zero, le-refl}
 use native.Mathlib.Omega.{arith}
 use lib.ListN.{length, take, drop, length-append, length-drop, take-append-drop, drop-of-length-le}
 use lib.Seq.{drop-drop, take-all, length-take-le, take-append-seam, drop-append-seam}
 use Rattle.naming.specs.Book.{feedAll}
 use Rattle.naming.specs.State.{State, Agree, afterAddition, afterRecording}
-use Rattle.commands.specs.Refusal.{Refusal}
+use Rattle.commands.specs.Refusal.{Refusal, refusalNumber}
 use Rattle.commands.specs.Answer.{answerBytes}
 use Rattle.commands.specs.Facts.{after}
-use Rattle.commands.specs.Run.{Accepted, Run, andThen, commandsOf, bytesOfAnswers, placeAfter}
+use Rattle.commands.specs.Run.{Accepted, Run, stop, andThen, commandsOf, bytesOfAnswers, placeAfter}
 use Rattle.commands.specs.Entry.{over, numberOf}
 use Rattle.forest.specs.Promise.{stateOf, vertices-held, edges-held}
 use Rattle.run.specs.declared.Progress.{Progress}
 use Rattle.run.specs.Promise.{sixNumbers}
-use Rattle.run.specs.Inside.Runs.{writtenBehind, networkAfter, leaves, leavesAfter}
+use Rattle.run.specs.Inside.Runs.{refusedProgress, writtenBehind, leftOf, networkAfter, leaves, leavesAfter, willLeave, Account, withAnswers}
+use Rattle.run.specs.Inside.Unanswered.{endsHere, endsAfter, withoutAnswers}
+use Rattle.run.proofs.Left.{RefusedHere, all-at-end, all-refused, left-at-end, left-refused}
 
 -- nothing written behind leaves the buffer as it is
 nothing-behind : (written : ℕ) (answers : List ℕ) → writtenBehind written [] answers ≡ answers
@@ -55,13 +57,13 @@ behind-both written bytes more answers h =
     )
 
 -- the network after a command and those behind it is that after those behind it, from a state that agrees with the one after the command
-pub network-further : (s s′ : State) (a : Accepted) (rest : Run) → Agree s′ (after s (a .command))
+network-further : (s s′ : State) (a : Accepted) (rest : Run) → Agree s′ (after s (a .command))
     → networkAfter s′ rest ≡ networkAfter s (andThen a rest)
 unfolding andThen commandsOf feedAll after afterAddition afterRecording
 network-further s s′ a rest agrees = rw (agrees .same-book)
 
 -- a run of which nothing is left leaves behind what it has come to
-pub ends-here : (p : Progress) (t answers : List ℕ) (end : Option Refusal) → p .refusal ≡ numberOf end
+ends-here : (p : Progress) (t answers : List ℕ) (end : Option Refusal) → p .refusal ≡ numberOf end
     → leaves p answers ≡ leavesAfter p t answers (record { accepted = []; refusal = end })
 unfolding leaves leavesAfter sixNumbers placeAfter bytesOfAnswers commandsOf feedAll
 ends-here p t answers end e =
@@ -74,6 +76,12 @@ ends-here p t answers end e =
       add-zero (p .commands),
       add-zero (p .written),
     )
+
+-- where nothing is left but a refusal, a run that is refused here leaves behind what it was to leave behind
+pub stops-here : (p : Progress) (journal t answers : List ℕ) (r : Refusal) → leftOf p journal (length answers) t ≡ stop r
+    → leaves (refusedProgress p (refusalNumber r)) answers ≡ willLeave p journal t answers
+unfolding stop numberOf refusedProgress leavesAfter
+stops-here p journal t answers r left = rw left (ends-here (refusedProgress p (refusalNumber r)) t answers (some r) refl)
 
 -- an accepted command and what is left behind it leave behind what is left from one command further on
 pub goes-further : (p p′ : Progress) (old new answers : List ℕ) (a : Accepted) (rest : Run)
@@ -90,3 +98,39 @@ goes-further p p′ old new answers a rest place commands written agrees fits =
     let written-is : p′ .written + length more ≡ p .written + length (bytes ++ more) = omega (arith, written, length-append bytes more) in
     let network = network-further (stateOf (p .shape) old) (stateOf (p′ .shape) new) a rest agrees in
     rw (place-is, commands-are, written-is, written, network, behind-both (p .written) bytes more answers fits)
+
+-- The same without answers: a run of which nothing is left comes to what it has come to
+nothing-left : (p : Progress) (t : List ℕ) (end : Option Refusal) → p .refusal ≡ numberOf end
+    → endsHere p ≡ endsAfter (stateOf (p .shape) t) (record { accepted = []; refusal = end })
+unfolding endsHere endsAfter commandsOf feedAll
+nothing-left p t end e = rw (e, edges-held (p .shape) t, vertices-held (p .shape) t)
+
+-- an accepted command and those behind it come to what those behind it come to, from a state that agrees with the one after the command
+pub ends-further : (s s′ : State) (a : Accepted) (rest : Run) → Agree s′ (after s (a .command)) → endsAfter s′ rest ≡ endsAfter s (andThen a rest)
+unfolding endsAfter andThen
+ends-further s s′ a rest agrees = rw (network-further s s′ a rest agrees)
+
+-- An account that holds where a run ends: at the journal's end, and where it is refused, a run comes to what it was to come to.
+pub record AtEnds {E : Type 0} (account : Account E) : Type 0 where
+  pub at-end : (p : Progress) (journal t answers : List ℕ) → p .refusal ≡ 0 → length journal ≤ p .place
+      → account .here p answers ≡ account .later p journal t answers
+  pub at-refusal : (p : Progress) (journal t answers : List ℕ) (r : Refusal) → p .place < length journal → RefusedHere p journal t r
+      → account .here (refusedProgress p (refusalNumber r)) answers ≡ account .later p journal t answers
+
+-- Both accounts do so.
+pub ends-with-answers : AtEnds withAnswers
+unfolding numberOf
+ends-with-answers =
+    record {
+      at-end = λ p journal t answers z past. rw (left-at-end p journal (length answers) t past) (ends-here p t answers none z);
+      at-refusal = λ p journal t answers r more f. stops-here p journal t answers r (left-refused p journal (length answers) t more f);
+    }
+
+pub ends-without-answers : AtEnds withoutAnswers
+unfolding numberOf stop refusedProgress
+ends-without-answers =
+    record {
+      at-end = λ p journal t answers z past. rw (all-at-end p journal t past) (nothing-left p t none z);
+      at-refusal = λ p journal t answers r more f.
+          rw (all-refused p journal t more f) (nothing-left (refusedProgress p (refusalNumber r)) t (some r) refl);
+    }

@@ -1,6 +1,9 @@
-pub mod Course
 pub mod Left
+pub mod Course
 pub mod Further
+pub mod FurtherAnswered
+pub mod FurtherUnanswered
 pub mod Whole
-pub mod WithoutAnswers
+pub mod WholeAnswered
+pub mod WholeUnanswered
 pub mod Needed

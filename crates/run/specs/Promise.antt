@@ -7,7 +7,7 @@ use Rattle.graph.specs.Network.{edgeCount}
 use Rattle.naming.specs.State.{emptyState}
 use Rattle.commands.specs.Refusal.{Capacities}
 use Rattle.commands.specs.Text.{textOf}
-use Rattle.commands.specs.Run.{Run, runText, runWithin, commandsOf, bytesOfAnswers}
+use Rattle.commands.specs.Run.{Run, runWithin, commandsOf, bytesOfAnswers}
 use Rattle.commands.specs.Entry.{reportOf, over, bookAfter, numberOf}
 use Rattle.commands.specs.Register.{registerRule, registerRoutes}
 use Rattle.numbers.specs.declared.Limits.{Limits}
@@ -30,10 +30,6 @@ pub record RunPromise (limits : Limits) (run : Run) (p : Progress) (old new oldA
   pub same-beyond : SameBeyond limits old new
   pub place-fits : p .place < 4294967296
   pub written-fits : p .written < 4294967296
-
--- The definition's run of a journal from an empty network, with ample room.
-abbrev pub unansweredOf : Capacities → List ℕ → Run
-unansweredOf caps journal = runText registerRoutes caps (emptyState registerRule) (textOf journal)
 
 -- What the code has come to without answers is how the definition's run ends, and the size of its network; the words beyond the table's are as
 -- before.

@@ -2,8 +2,9 @@
 ghost use mathlib.Core.List.{[]};
 ghost use Prim.Native.Nat.{_≤_};
 ghost use lib.ListN.{length};
+ghost use Rattle.commands.specs.Register.{registerRoutes, ampleRun};
 ghost use Rattle.forest.specs.Promise.{wordsNeeded};
-ghost use Rattle.run.specs.Promise.{capacitiesOf, unansweredOf, UnansweredPromise};
+ghost use Rattle.run.specs.Promise.{capacitiesOf, UnansweredPromise};
 ghost use Rattle.run.specs.Inside.Runs.{Underway, Ready};
 ghost use Rattle.run.specs.Inside.Unanswered.{WentOn};
 use crate::Progress;
@@ -65,7 +66,7 @@ fn run_one_unanswered(journal: &[u8], work: &mut [u32], p: Progress) -> Progress
 // The whole run.
 pub fn run_unanswered(journal: &[u8], work: &mut [u32], limits: Limits) -> Progress
     requires { ⌜ (limits .vertices ≤ 4096) × (limits .edges ≤ 8192) × (wordsNeeded limits ≤ length (now work)) × (length (now journal) ≤ 65536) ⌝ }
-    ensures { λ r. ⌜ UnansweredPromise limits (unansweredOf (capacitiesOf limits) (now (journal .entry))) r (now (work .entry)) (now (work .exit)) ⌝ }
+    ensures { λ r. ⌜ UnansweredPromise limits (ampleRun registerRoutes (capacitiesOf limits) (now (journal .entry))) r (now (work .entry)) (now (work .exit)) ⌝ }
 {
     let empty = begin(work, limits);
     let mut p = Progress {

@@ -14,8 +14,8 @@ use Rattle.graph.specs.Network.{Network, Loss, MateRule, edge, edgeCount, touch
 use Rattle.graph.specs.Cycle.{joins}
 use Rattle.graph.proofs.Truth.{true-or-false, false-of-not, not-both, bool-ext, not-of-false, false-of-not-true, true-of-not-false}
 use Rattle.graph.proofs.Truth.{and-left, and-right, and-both, or-cases, or-right, or-neither-left, eqb-eq, eqb-ne, eq-eqb, lt-ltb}
-use Rattle.graph.proofs.Below.{Below, any-below, some-below, count-same}
-use Rattle.graph.proofs.Members.{is-in-cases, is-in-listed, listed-none}
+use Rattle.graph.proofs.Below.{Below, any-below, some-below, count-same, count-none}
+use Rattle.graph.proofs.Members.{is-in-cases, is-in-listed}
 use Rattle.graph.proofs.Places.{length-listed-count}
 use Rattle.graph.proofs.Joined.{joined-refl, joined-trans, joined-least}
 use Rattle.graph.proofs.Mates.{mates-sym, mates-trans}
@@ -26,10 +26,6 @@ use Rattle.graph.proofs.MateEdges.{mates-joins}
 use Rattle.ways.specs.Used.{Used, isUsed, mateUsed, oneMore, Usable}
 use Rattle.ways.specs.Balance.{Set, usedFrom, usedTo, leaves, enters, leaving, entering, Balanced, lossOfAll}
 use Rattle.ways.proofs.Balance.{count-change, used-from-is}
-
--- where no number passes the count is 0
-count-never : (n : ℕ) (p : ℕ → Bool) → ((i : ℕ) → p i ≡ false) → count n p ≡ 0
-count-never n p w = sym (length-listed-count n p) ∙ ap length (listed-none n p w)
 
 -- three tests that all hold
 all-three : (a b c : Bool) → (a && b && c) ≡ true → (a ≡ true) × (b ≡ true) × (c ≡ true)
@@ -66,7 +62,7 @@ module _ (g : Network) (u : Used) (a b : ℕ) where
   used-leads-on k bal set p shut = ⊎-elim (λ q. q) (λ q. absurd (omega (arith, bal set p q, none))) (true-or-false (set b))
     where
       none : leaving g u set ≡ 0
-      none = count-never (edgeCount g) (leaves g u set) (λ s. false-of-not (leaves g u set s) (λ e.
+      none = count-none (edgeCount g) (leaves g u set) (λ s h. false-of-not (leaves g u set s) (λ e.
           let l = leaving-facts g u set s e in not-both (shut s (l .0) (l .1)) (l .2)))
 
 -- an edge is lost with any edge of a list that it is a mate of
@@ -174,7 +170,7 @@ module _ (g : Network) (rule : MateRule (g .rule)) (u : Used) (w : Usable g u) (
   no-way-more-parts a b k bal p q = record {
     edges = listed (edgeCount g) (leaves g u set);
     many = length-listed-count (edgeCount g) (leaves g u set)
-        ∙ omega (arith, bal set p q, count-never (edgeCount g) (enters g u set) none-enters);
+        ∙ omega (arith, bal set p q, count-none (edgeCount g) (enters g u set) (λ s h. none-enters s));
     used = λ s i. leaving-facts g u set s
         (and-right (ltb s (edgeCount g)) (leaves g u set s) (sym (is-in-listed (edgeCount g) (leaves g u set) s) ∙ i)) .0;
     parted = leaving-parts a b p q;
@@ -212,7 +208,7 @@ module _ (g : Network) (rule : MateRule (g .rule)) (n : ℕ) where
   -- so no more of them are lost with the edges of a list than it has
   few-lost : (ss : List ℕ) (p : ℕ → Bool) → Alone g p → ((t : ℕ) → p t ≡ true → lossOfAll g ss t ≡ true) → count n p ≤ length ss
   unfolding lossOfAll nothing
-  few-lost [] p alone lost = omega (arith, count-never n p (λ t. false-of-not (p t) (λ e. false≢true (lost t e))))
+  few-lost [] p alone lost = omega (arith, count-none n p (λ t h. false-of-not (p t) (λ e. false≢true (lost t e))))
   few-lost (s ∷ ss) p alone lost = omega (
     arith,
     but-one s p alone,

@@ -7,11 +7,11 @@ use lib.ListN.{length}
 use lib.Seq.{sets}
 use Rattle.commands.specs.Text.{commandsIn, journalBytes}
 use Rattle.commands.specs.Join.{raiseCommand}
+use Rattle.reading.specs.Inside.Places.{Readable}
 use Rattle.joining.specs.declared.seams.Counts.{Counts}
 use Rattle.joining.specs.declared.seams.Joining.{Joining}
 use Rattle.joining.specs.declared.seams.Joining.the-variants as J
 use Rattle.joining.specs.Inside.Seams.{oneOf, Stage}
-use Rattle.joining.specs.Inside.Raising.{Readable}
 
 -- Journals that can be stored: no longer than a journal may be, and the second is read to its end.
 pub record Puttable (first second : List ℕ) : Type 0 where

@@ -5,10 +5,11 @@ use mathlib.Core.Path.{_≡_}
 use Prim.Native.Nat.{ℕ, _+_, _≤_, _<_}
 use lib.ListN.{length, drop}
 use lib.Seq.{sets}
-use Rattle.commands.specs.Text.{textFrom, textOf, journalBytes}
+use Rattle.commands.specs.Text.{textFrom, journalBytes}
 use Rattle.commands.specs.Join.{Counts, raiseCommand}
 use Rattle.reading.specs.declared.read.Order.{Order}
 use Rattle.reading.specs.declared.read.Order.the-variants as O
+use Rattle.reading.specs.Inside.Places.{commandsAt}
 
 -- The numbers of cabinets and of spans that an order names fit into two bytes.
 abbrev pub Fits : Order → Type 0
@@ -27,14 +28,9 @@ Fits (O.RecordLength s measure) = s .0 < 65536
 Fits (O.SpanLength s) = s .0 < 65536
 Fits O.ExchangeShare = Unit
 
--- A journal of at most 65,536 bytes that is read to its end.
-pub record Readable (journal : List ℕ) : Type 0 where
-  pub short : length journal ≤ 65536
-  pub whole : textOf journal .refusal ≡ none
-
 -- The bytes of the commands from a place of a journal on, raised.
 abbrev pub raisedFrom : Counts → List ℕ → ℕ → List ℕ
-raisedFrom by journal place = journalBytes (map (raiseCommand by) (map (λ r. r .command) (textFrom place 0 (drop place journal) .commands)))
+raisedFrom by journal place = journalBytes (map (raiseCommand by) (commandsAt journal place))
 
 -- A journal that is read to its end from a place on, and a buffer that has room for it behind a place of its own.
 pub record RaisableAt (journal : List ℕ) (place : ℕ) (out : List ℕ) (at : ℕ) : Type 0 where

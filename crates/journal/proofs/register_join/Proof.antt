@@ -1,4 +1,4 @@
--- `register_join` joins two journals, which is what the five functions that it calls promise together: a walk of its MIR, by hand.
+-- `register_join` joins two journals, which is what its five calls promise together: a walk of its MIR, by hand.
 use mathlib.Core.Path.{refl, _∙_}
 use mathlib.Core.List.{[], _∷_}
 use lib.ListN.{length}

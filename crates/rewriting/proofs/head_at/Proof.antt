@@ -2,7 +2,7 @@
 use mathlib.Core.Path.{sym, _∙_, ap}
 use borrow.Author.Needs.{needs}
 use Rattle.reading.specs.Inside.Reads.{passingOf}
-use Rattle.rewriting.proofs.Going.{not-unknown, not-cut-short}
+use Rattle.reading.proofs.PassedAt.{no-unknown-passed, no-cut-passed}
 use Rattle.rewriting.proofs.head_at.Statement.{statement}
 use Rattle.rewriting.proofs.head_at.Tie as tie
 
@@ -24,7 +24,7 @@ returns c =
     let at-passed-at = c .before .before in
     let s = at-passed-at .before .before in
     absurd
-    (not-unknown
+    (no-unknown-passed
     (s .args .journal .now)
     (s .args .place)
     (s .pre .0)
@@ -37,7 +37,7 @@ returns-2 c =
     let at-passed-at = c .before .before in
     let s = at-passed-at .before .before in
     absurd
-    (not-cut-short
+    (no-cut-passed
     (s .args .journal .now)
     (s .args .place)
     (s .pre .0)

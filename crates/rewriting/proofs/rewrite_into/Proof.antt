@@ -4,7 +4,8 @@ use native.Mathlib.Omega.{arith}
 use borrow.Author.Needs.{needs}
 use Rattle.forecast.specs.Promise.{foretold}
 use Rattle.rewriting.specs.declared.Measured.the-variants as M
-use Rattle.rewriting.specs.Inside.Measures.{Readable, Measures}
+use Rattle.reading.specs.Inside.Places.{Readable}
+use Rattle.rewriting.specs.Inside.Measures.{Measures}
 use Rattle.rewriting.proofs.Ends.{readable, refused-as-foretold, refused-as-told}
 use Rattle.rewriting.proofs.rewrite_into.Statement.{statement}
 use Rattle.rewriting.proofs.rewrite_into.Tie as tie

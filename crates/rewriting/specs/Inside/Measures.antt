@@ -1,28 +1,16 @@
 -- The length of a result, command by command.
 use mathlib.Core.Bool.{cond}
-use mathlib.Core.List.{List, map}
+use mathlib.Core.List.{List}
 use mathlib.Core.Option.{none, some}
 use mathlib.Core.Path.{_≡_}
 use Prim.Native.Nat.{ℕ, _+_, _*_, _≤_}
 use lib.Dec.{eqb}
 use lib.ListN.{length, drop}
-use Rattle.commands.specs.Command.{Command}
-use Rattle.commands.specs.Text.{Read, textFrom, textOf, journalBytes}
+use Rattle.commands.specs.Text.{textFrom, textOf, journalBytes}
 use Rattle.commands.specs.Rewrite.{rewriteFrom, rewrittenBytes, firstDuctTold}
+use Rattle.reading.specs.Inside.Places.{readsAt, commandsAt}
 use Rattle.rewriting.specs.declared.Measured.{Measured}
 use Rattle.rewriting.specs.declared.Measured.the-variants as M
-
--- The commands of a journal from a place on.
-abbrev pub readsAt : List ℕ → ℕ → List Read
-readsAt journal place = textFrom place 0 (drop place journal) .commands
-
-abbrev pub commandsAt : List ℕ → ℕ → List Command
-commandsAt journal place = map (λ r. r .command) (readsAt journal place)
-
--- A journal of at most 65,536 bytes that is read to its end.
-pub record Readable (journal : List ℕ) : Type 0 where
-  pub short : length journal ≤ 65536
-  pub whole : textOf journal .refusal ≡ none
 
 -- The bytes that a command with this byte and so many bytes of operands has once it is rewritten: 0B takes two more than 02.
 unfoldable pub sizeOf : ℕ → ℕ → ℕ

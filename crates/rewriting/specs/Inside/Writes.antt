@@ -10,7 +10,7 @@ use lib.Seq.{sets, slice}
 use Rattle.commands.specs.Bytes.{twoBytes}
 use Rattle.commands.specs.Text.{textFrom, textOf, journalBytes}
 use Rattle.commands.specs.Rewrite.{rewriteFrom, rewrittenBytes, firstDuctTold}
-use Rattle.rewriting.specs.Inside.Measures.{readsAt, commandsAt, Readable}
+use Rattle.reading.specs.Inside.Places.{readsAt, commandsAt, Readable}
 
 -- The spans before the command that follows one with this byte.
 unfoldable pub spansBehind : ℕ → ℕ → ℕ

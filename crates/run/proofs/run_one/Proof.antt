@@ -1,6 +1,7 @@
 -- `run_one` takes what stands at the run's place: it is refused as unread, or handed on.
 use mathlib.Core.Path.{sym, _∙_, ap}
 use Rattle.reading.specs.Inside.Reads.{readingOf}
+use Rattle.run.proofs.Course.{ends-with-answers}
 use Rattle.run.proofs.Further.{unknown-on, cut-off-on}
 use borrow.Author.Needs.{needs}
 use Rattle.run.proofs.run_one.Statement.{statement}
@@ -40,12 +41,8 @@ returns c =
     let at-taken-at = c .before .before .before in
     let s = at-taken-at .before .before .before .before in
     unknown-on
-    (s .args .p)
-    (s .args .journal .now)
-    (s .args .work .now)
-    (s .args .answers .now)
     (s .pre)
-    (c .refuse .result)
+    ends-with-answers
     (sym (at-taken-at .taken-at .ensures) ∙ ap readingOf (c .before .enum-told .given .1))
     (c .refuse .ensures)
 
@@ -55,12 +52,8 @@ returns-2 c =
     let at-taken-at = c .before .before .before in
     let s = at-taken-at .before .before .before .before in
     cut-off-on
-    (s .args .p)
-    (s .args .journal .now)
-    (s .args .work .now)
-    (s .args .answers .now)
     (s .pre)
-    (c .refuse2 .result)
+    ends-with-answers
     (sym (at-taken-at .taken-at .ensures) ∙ ap readingOf (c .before .enum-told2 .given .1))
     (c .refuse2 .ensures)
 

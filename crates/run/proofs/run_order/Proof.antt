@@ -3,7 +3,9 @@ use native.Mathlib.Omega.{arith}
 use Rattle.commands.proofs.TextAt.{operands-stand}
 use Rattle.forest.specs.Promise.{few-vertices, few-edges}
 use Rattle.reading.specs.Inside.Reads.{meaning}
-use Rattle.run.proofs.Further.{was-done, step-refused-on, answered-on}
+use Rattle.run.proofs.Course.{ends-with-answers}
+use Rattle.run.proofs.Further.{was-done, step-refused-on}
+use Rattle.run.proofs.FurtherAnswered.{answered-on}
 use borrow.Author.Needs.{needs}
 use Rattle.run.proofs.run_order.Statement.{statement}
 use Rattle.run.proofs.run_order.Tie as tie
@@ -64,15 +66,10 @@ returns c =
     let at-step = at-stepped .before .before .before .before in
     let s = at-step .before .before .before .before .before .before .before in
     step-refused-on
-    (s .args .p)
-    (s .args .journal .now)
-    (s .args .work .now)
-    (s .args .answers .now)
     (s .pre .underway)
+    ends-with-answers
     (meaning (s .args .order))
-    (s .args .width)
     (s .pre .reads)
-    (c .refuse .result)
     (at-step .step .last .0)
     (g .0 .0)
     (rw (g .1) at (at-step .step .ensures))
@@ -93,16 +90,8 @@ returns-2 c =
     let at-place-after = at-step .before .before in
     let s = at-place-after .before .before .before .before .before in
     answered-on
-    (s .args .p)
-    (s .args .journal .now)
-    (s .args .work .now)
-    (s .args .answers .now)
     (s .pre .underway)
-    (meaning (s .args .order))
-    (s .args .width)
     (s .pre .reads)
-    (at-step .step .last .0)
-    (g .0 .0)
     (was-done
     (s .args .p .shape)
     (meaning (s .args .order))
@@ -110,8 +99,6 @@ returns-2 c =
     (at-step .step .last .0)
     (g .0 .0)
     (rw (g .1) at (at-step .step .ensures)))
-    (at-answer .answer .result)
-    (at-answer .answer .last .1 .0)
     (rw (at-place-after .place-after .ensures) at (at-answer .answer .ensures))
     (at-answer .answer .kept .1 .0)
 

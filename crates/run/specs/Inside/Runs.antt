@@ -1,4 +1,4 @@
--- The run in code: how far it has come, what it will leave behind, and what each command does to it.
+-- The run in code: how far it has come, what it will come to, and what each command does to it. With answers it comes to what it leaves behind.
 use mathlib.Core.Bool.{Bool, cond, _&&_}
 use mathlib.Core.List.{List, [], _∷_, _++_, map}
 use mathlib.Core.Path.{_≡_}
@@ -81,6 +81,16 @@ leavesAfter p t answers rest =
 abbrev pub willLeave : Progress → List ℕ → List ℕ → List ℕ → Behind
 willLeave p journal t answers = leavesAfter p t answers (leftOf p journal (length answers) t)
 
+-- An account of what a run comes to: one that ends here, with this answer buffer; and one that takes the course that the definition gives it,
+-- over this journal, from this table and this answer buffer.
+pub record Account (E : Type 0) : Type 0 where
+  pub here : Progress → List ℕ → E
+  pub later : Progress → List ℕ → List ℕ → List ℕ → E
+
+-- That of the run with answers is what it leaves behind.
+abbrev pub withAnswers : Account Behind
+withAnswers = record { here = leaves; later = willLeave }
+
 -- A run that can go on: it is not refused, and the table holds its network; the answers written so far stand in the buffer, and no more
 -- commands are counted than bytes were read.
 pub record Going (p : Progress) (t answers : List ℕ) : Type 0 where
@@ -120,17 +130,18 @@ pub data Answered (p p′ : Progress) (t : List ℕ) (next : Shape) (place : ℕ
       → new ≡ writtenBehind (p .written) (answerBytes (replyAnswer next t reply)) old
       → Answered p p′ t next place reply old new
 
--- A run that is to leave this behind can go on and will, or is refused and does.
-pub data Leads (end : Behind) (p : Progress) (journal t answers : List ℕ) : Type 0 where
-  goes-on : Going p t answers → willLeave p journal t answers ≡ end → Leads end p journal t answers
-  is-refused : (p .refusal ≡ 0 → ⊥) → leaves p answers ≡ end → Leads end p journal t answers
+-- A run that is to come to this end can go on and will, or is refused and has.
+pub data Leads {E : Type 0} (account : Account E) (end : E) (p : Progress) (journal t answers : List ℕ) : Type 0 where
+  goes-on : Going p t answers → account .later p journal t answers ≡ end → Leads account end p journal t answers
+  is-refused : (p .refusal ≡ 0 → ⊥) → account .here p answers ≡ end → Leads account end p journal t answers
 
--- From a table and an answer buffer the run has come so far, and is to leave this behind.
-pub record SoFar (limits : Limits) (end : Behind) (p : Progress) (journal old new oldAnswers newAnswers : List ℕ) : Type 0 where
+-- From a table and an answer buffer the run has come so far, and is to come to this end.
+pub record SoFar
+    {E : Type 0} (account : Account E) (limits : Limits) (end : E) (p : Progress) (journal old new oldAnswers newAnswers : List ℕ) : Type 0 where
   pub same-limits : p .shape .limits ≡ limits
   pub same-beyond : SameBeyond limits old new
   pub as-long : length newAnswers ≡ length oldAnswers
-  pub leads : Leads end p journal new newAnswers
+  pub leads : Leads account end p journal new newAnswers
 
 -- The run is not refused, and there is more of a journal that ends there.
 abbrev pub goesOn : Progress → ℕ → Bool
@@ -140,7 +151,11 @@ goesOn p end = eqb (p .refusal) 0 && ltb (p .place) end
 unfoldable pub stepsLeft : ℕ → Progress → ℕ
 stepsLeft end p = cond (eqb (p .refusal) 0) (suc (end - p .place)) 0
 
--- The run is a command further, and is to leave behind what it was to leave behind before.
-pub record RunOn (p p′ : Progress) (journal old new oldAnswers newAnswers : List ℕ) : Type 0 where
-  pub so-far : SoFar (p .shape .limits) (willLeave p journal old oldAnswers) p′ journal old new oldAnswers newAnswers
+-- The run is a command further, and is to come to what it was to come to before.
+pub record OneOn {E : Type 0} (account : Account E) (p p′ : Progress) (journal old new oldAnswers newAnswers : List ℕ) : Type 0 where
+  pub so-far : SoFar account (p .shape .limits) (account .later p journal old oldAnswers) p′ journal old new oldAnswers newAnswers
   pub fewer : stepsLeft (length journal) p′ < stepsLeft (length journal) p
+
+-- So is the run with answers.
+abbrev pub RunOn : Progress → Progress → List ℕ → List ℕ → List ℕ → List ℕ → List ℕ → Type 0
+RunOn = OneOn withAnswers

@@ -1,20 +1,17 @@
--- The run without answers in code: what it will come to, and what each command does to it. No answer buffer is lent: what is said of a run that
--- goes on is said with an empty one.
+-- The run without answers in code: what it will come to. No answer buffer is lent: what is said of a run that goes on is said with an empty one.
 use mathlib.Core.List.{List, []}
-use mathlib.Core.Path.{_≡_}
-use Prim.Native.Nat.{ℕ, _<_}
-use lib.ListN.{length, drop}
+use Prim.Native.Nat.{ℕ}
+use lib.ListN.{drop}
 use Rattle.graph.specs.Network.{edgeCount}
 use Rattle.naming.specs.State.{State}
 use Rattle.commands.specs.Text.{textFrom}
 use Rattle.commands.specs.Run.{Run, runText}
 use Rattle.commands.specs.Entry.{numberOf}
 use Rattle.commands.specs.Register.{registerRoutes}
-use Rattle.numbers.specs.declared.Limits.{Limits}
-use Rattle.forest.specs.Promise.{stateOf, SameBeyond}
+use Rattle.forest.specs.Promise.{stateOf}
 use Rattle.step.specs.Promise.{capacitiesOf}
 use Rattle.run.specs.declared.Progress.{Progress}
-use Rattle.run.specs.Inside.Runs.{networkAfter, Going, stepsLeft}
+use Rattle.run.specs.Inside.Runs.{networkAfter, Account, OneOn}
 
 -- What is left of a run, as if there were always room: the run of the rest of the journal, from the state that the table holds.
 unfoldable pub allLeft : Progress → List ℕ → List ℕ → Run
@@ -44,18 +41,10 @@ endsAfter s run =
 abbrev pub willEnd : Progress → List ℕ → List ℕ → Ending
 willEnd p journal t = endsAfter (stateOf (p .shape) t) (allLeft p journal t)
 
--- A run that is to come to this end can go on and will, or is refused and has.
-pub data ComesTo (end : Ending) (p : Progress) (journal t : List ℕ) : Type 0 where
-  can-go-on : Going p t [] → willEnd p journal t ≡ end → ComesTo end p journal t
-  has-ended : (p .refusal ≡ 0 → ⊥) → endsHere p ≡ end → ComesTo end p journal t
+-- The account of the run without answers is its end, whatever the answer buffer.
+abbrev pub withoutAnswers : Account Ending
+withoutAnswers = record { here = λ p answers. endsHere p; later = λ p journal t answers. willEnd p journal t }
 
--- From a table the run has come so far, and is to come to this end.
-pub record Came (limits : Limits) (end : Ending) (p : Progress) (journal old new : List ℕ) : Type 0 where
-  pub same-limits : p .shape .limits ≡ limits
-  pub same-beyond : SameBeyond limits old new
-  pub comes-to : ComesTo end p journal new
-
--- The run is a command further, and is to come to the end that it was to come to before.
-pub record WentOn (p p′ : Progress) (journal old new : List ℕ) : Type 0 where
-  pub so-far : Came (p .shape .limits) (willEnd p journal old) p′ journal old new
-  pub fewer : stepsLeft (length journal) p′ < stepsLeft (length journal) p
+-- The run without answers is a command further, and is to come to the end that it was to come to before.
+abbrev pub WentOn : Progress → Progress → List ℕ → List ℕ → List ℕ → Type 0
+WentOn p p′ journal old new = OneOn withoutAnswers p p′ journal old new [] []

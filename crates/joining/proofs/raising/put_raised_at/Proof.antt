@@ -4,10 +4,10 @@ use native.Mathlib.Omega.{arith}
 use borrow.Author.Needs.{needs}
 use Rattle.commands.specs.Command.{command}
 use Rattle.commands.proofs.Bytes.{bytes-by-place}
-use Rattle.commands.proofs.TextAt.{readingHere}
+use Rattle.commands.proofs.TextAt.{readingHere, not-unknown, not-cut-off}
 use Rattle.reading.specs.Inside.Reads.{meaning, readingOf}
 use Rattle.joining.proofs.Orders.{order-fits}
-use Rattle.joining.proofs.Going.{not-unknown, not-cut-off, stands-whole, read-fits, room-raised, raised-on}
+use Rattle.joining.proofs.Going.{stands-whole, read-fits, room-raised, raised-on}
 use Rattle.joining.proofs.raising.put_raised_at.Statement.{statement}
 use Rattle.joining.proofs.raising.put_raised_at.Tie as tie
 
@@ -67,7 +67,7 @@ returns c =
     (s .args .place)
     (s .pre .in-journal)
     (s .pre .whole-here)
-    (sym (ap readingOf (c .enum-told .given .1)) ∙ at-taken-at .taken-at .ensures))
+    (sym (at-taken-at .taken-at .ensures) ∙ ap readingOf (c .enum-told .given .1)))
 
 returns-2 : tie.Need-returns-2
 unfolding readingOf
@@ -80,7 +80,7 @@ returns-2 c =
     (s .args .place)
     (s .pre .in-journal)
     (s .pre .whole-here)
-    (sym (ap readingOf (c .enum-told2 .given .1)) ∙ at-taken-at .taken-at .ensures))
+    (sym (at-taken-at .taken-at .ensures) ∙ ap readingOf (c .enum-told2 .given .1)))
 
 same-length : tie.Need-same-length
 same-length c = search needs

@@ -1,7 +1,8 @@
 -- `unanswered::run_one_unanswered` takes what stands at the run's place: it is refused as unread, or handed on.
 use mathlib.Core.Path.{sym, _∙_, ap}
 use Rattle.reading.specs.Inside.Reads.{readingOf}
-use Rattle.run.proofs.WithoutAnswers.{unknown-ends, cut-off-ends}
+use Rattle.run.proofs.Course.{ends-without-answers}
+use Rattle.run.proofs.Further.{unknown-on, cut-off-on}
 use borrow.Author.Needs.{needs}
 use Rattle.run.proofs.unanswered.run_one_unanswered.Statement.{statement}
 use Rattle.run.proofs.unanswered.run_one_unanswered.Tie as tie
@@ -39,12 +40,9 @@ unfolding readingOf
 returns c =
     let at-taken-at = c .before .before .before in
     let s = at-taken-at .before .before .before in
-    unknown-ends
-    (s .args .p)
-    (s .args .journal .now)
-    (s .args .work .now)
+    unknown-on
     (s .pre)
-    (c .refuse .result)
+    ends-without-answers
     (sym (at-taken-at .taken-at .ensures) ∙ ap readingOf (c .before .enum-told .given .1))
     (c .refuse .ensures)
 
@@ -53,12 +51,9 @@ unfolding readingOf
 returns-2 c =
     let at-taken-at = c .before .before .before in
     let s = at-taken-at .before .before .before in
-    cut-off-ends
-    (s .args .p)
-    (s .args .journal .now)
-    (s .args .work .now)
+    cut-off-on
     (s .pre)
-    (c .refuse2 .result)
+    ends-without-answers
     (sym (at-taken-at .taken-at .ensures) ∙ ap readingOf (c .before .enum-told2 .given .1))
     (c .refuse2 .ensures)
 

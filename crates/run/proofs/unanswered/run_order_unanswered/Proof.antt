@@ -3,8 +3,9 @@ use native.Mathlib.Omega.{arith}
 use Rattle.commands.proofs.TextAt.{operands-stand}
 use Rattle.forest.specs.Promise.{few-vertices, few-edges}
 use Rattle.reading.specs.Inside.Reads.{meaning}
-use Rattle.run.proofs.Further.{was-done}
-use Rattle.run.proofs.WithoutAnswers.{step-refused-ends, carried-on}
+use Rattle.run.proofs.Course.{ends-without-answers}
+use Rattle.run.proofs.Further.{was-done, step-refused-on}
+use Rattle.run.proofs.FurtherUnanswered.{carried-on}
 use borrow.Author.Needs.{needs}
 use Rattle.run.proofs.unanswered.run_order_unanswered.Statement.{statement}
 use Rattle.run.proofs.unanswered.run_order_unanswered.Tie as tie
@@ -51,16 +52,12 @@ returns c =
     let g = at-stepped .stepped .given in
     let at-step = at-stepped .before .before .before .before in
     let s = at-step .before .before .before .before .before .before in
-    step-refused-ends
-    (s .args .p)
-    (s .args .journal .now)
-    (s .args .work .now)
+    step-refused-on
     (s .pre .underway)
+    ends-without-answers
     (meaning (s .args .order))
-    (s .args .width)
     (s .pre .reads)
     (at-step .step .last .0)
-    (c .refuse .result)
     (g .0 .0)
     (rw (g .1) at (at-step .step .ensures))
     (c .refuse .ensures)
@@ -77,16 +74,8 @@ returns-2 c =
     let at-place-after = at-step .before .before in
     let s = at-place-after .before .before .before .before in
     carried-on
-    (s .args .p)
-    (s .args .journal .now)
-    (s .args .work .now)
     (s .pre .underway)
-    (meaning (s .args .order))
-    (s .args .width)
     (s .pre .reads)
-    (at-step .step .last .0)
-    _
-    (g .0 .0)
     (was-done
     (s .args .p .shape)
     (meaning (s .args .order))

@@ -1,20 +1,22 @@
 -- `unanswered::run_unanswered` takes one command after another. The loop's invariant: what is left of the run comes to what the definition's
 -- run comes to. The measure is what is left of the journal.
+use mathlib.Core.List.{[]}
 use mathlib.Core.Path.{sym, _∙_, subst}
 use borrow.Author.Needs.{needs}
 use lib.ListN.{length}
-use Rattle.run.specs.Promise.{capacitiesOf, unansweredOf, UnansweredPromise}
-use Rattle.run.specs.Inside.Runs.{stepsLeft}
-use Rattle.run.specs.Inside.Unanswered.{Came}
-use Rattle.run.proofs.Whole.{atStart, begun-limits, begun-own}
-use Rattle.run.proofs.WithoutAnswers.{wholeEnds, starts-unanswered, underway-unanswered, step-on-unanswered, unanswered-promised}
+use Rattle.commands.specs.Register.{registerRoutes, ampleRun}
+use Rattle.run.specs.Promise.{capacitiesOf, UnansweredPromise}
+use Rattle.run.specs.Inside.Runs.{SoFar, stepsLeft}
+use Rattle.run.specs.Inside.Unanswered.{withoutAnswers}
+use Rattle.run.proofs.Whole.{atStart, begun-limits, begun-own, underway, step-on}
+use Rattle.run.proofs.WholeUnanswered.{wholeEnds, starts-unanswered, unanswered-promised}
 use Rattle.run.proofs.unanswered.run_unanswered.Statement.{statement}
 use Rattle.run.proofs.unanswered.run_unanswered.Tie as tie
 
 abbrev Inv-loop : tie.InvT-loop
 Inv-loop journal work₀ p₀ work p =
     let limits = p₀ .shape .limits in
-    Came limits (wholeEnds limits journal) p journal work₀ work
+    SoFar withoutAnswers limits (wholeEnds limits journal) p journal work₀ work [] []
 
 abbrev μ-loop : tie.MeasureT-loop
 μ-loop journal work₀ p₀ work p = stepsLeft (length journal) p
@@ -24,9 +26,7 @@ begin-requires c κs = search needs
 
 loop-holds : tie.Need-loop-holds Inv-loop μ-loop
 unfolding atStart
-loop-holds c =
-    let s = c .before .before .before .before in
-    starts-unanswered (c .begin .result .limits) (s .args .journal .now) (s .args .work .now) (c .begin .result) (begun-own (c .begin .ensures))
+loop-holds c = starts-unanswered (begun-own (c .begin .ensures))
 
 goes-on-requires : tie.Need-goes-on-requires Inv-loop μ-loop
 goes-on-requires c κs = search needs
@@ -36,19 +36,8 @@ run-one-unanswered-requires c κs =
     let at-if1 = c .before in
     let at-goes-on = at-if1 .before in
     let at-loop = at-goes-on .before in
-    let at-begin = at-loop .before in
-    let s = at-begin .before .before .before .before in
-    let l = at-loop .loop in
-    underway-unanswered
-    (at-begin .begin .result .limits)
-    (s .args .journal .now)
-    (s .args .work .now)
-    (wholeEnds (at-begin .begin .result .limits) (s .args .journal .now))
-    (l .p)
-    (l .work)
-    (l .inv)
-    (s .pre .3)
-    (sym (at-goes-on .goes-on .ensures) ∙ at-if1 .if1 .taken)
+    let s = at-loop .before .before .before .before .before in
+    underway (at-loop .loop .inv) (s .pre .3) (sym (at-goes-on .goes-on .ensures) ∙ at-if1 .if1 .taken)
 
 loop-less : tie.Need-loop-less Inv-loop μ-loop
 loop-less c = c .before .before .run-one-unanswered .ensures .fewer
@@ -58,22 +47,7 @@ loop-again c =
     let at-one = c .before .before in
     let at-if1 = at-one .before .before in
     let at-goes-on = at-if1 .before in
-    let at-loop = at-goes-on .before in
-    let at-begin = at-loop .before in
-    let s = at-begin .before .before .before .before in
-    let l = at-loop .loop in
-    step-on-unanswered
-    (at-begin .begin .result .limits)
-    (s .args .journal .now)
-    (s .args .work .now)
-    (wholeEnds (at-begin .begin .result .limits) (s .args .journal .now))
-    (l .p)
-    (l .work)
-    (l .inv)
-    (sym (at-goes-on .goes-on .ensures) ∙ at-if1 .if1 .taken)
-    (at-one .run-one-unanswered .result)
-    (at-one .run-one-unanswered .last .1 .0)
-    (at-one .run-one-unanswered .ensures)
+    step-on (at-goes-on .before .loop .inv) (sym (at-goes-on .goes-on .ensures) ∙ at-if1 .if1 .taken) (at-one .run-one-unanswered .ensures)
 
 same-length : tie.Need-same-length Inv-loop μ-loop
 same-length c = c .before .before .loop .inv .same-beyond .as-long
@@ -84,17 +58,9 @@ returns c =
     let at-loop = at-goes-on .before in
     let at-begin = at-loop .before in
     let s = at-begin .before .before .before .before in
-    let l = at-loop .loop in
     let same = begun-limits (at-begin .begin .ensures) in
-    subst (λ l. UnansweredPromise l (unansweredOf (capacitiesOf l) (s .args .journal .now)) (at-loop .loop .p) (s .args .work .now) (at-loop .loop .work)) same
-    (unanswered-promised
-    (at-begin .begin .result .limits)
-    (s .args .journal .now)
-    (s .args .work .now)
-    (l .p)
-    (l .work)
-    (l .inv)
-    (sym (at-goes-on .goes-on .ensures) ∙ c .if1 .left))
+    subst (λ l. UnansweredPromise l (ampleRun registerRoutes (capacitiesOf l) (s .args .journal .now)) (at-loop .loop .p) (s .args .work .now) (at-loop .loop .work)) same
+    (unanswered-promised (at-loop .loop .inv) (sym (at-goes-on .goes-on .ensures) ∙ c .if1 .left))
 
 pub run-unanswered-spec : {M : Type 1} → statement M
 run-unanswered-spec =
