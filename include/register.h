@@ -98,6 +98,21 @@ enum {
  */
 
 /*
+ * Exchanges. Command 09 a, with an operand of two bytes, marks cabinet a as an exchange. It is answered
+ * by 89 alone. Command 0A a asks whether the ring of cabinet a holds an exchange. It is answered by 8A
+ * and one byte, 1 exactly if it does, else 0. A cabinet that is not there is refused with
+ * REGISTER_UNKNOWN_CABINET by both, one that is already an exchange with REGISTER_ALREADY_EXCHANGE by
+ * 09.
+ *
+ * Command 0F, without operands, asks for the share of all cabinets whose ring holds an exchange. It is
+ * answered by 8F and a number of thousandths in two bytes, from 0 to 1000: the one nearest to the share,
+ * and of two equally near the even one. 1 of 16 gives 62, 3 of 16 give 188, 5 of 16 give 312. An empty
+ * network gives 0. Because of the rounding 1000 does not say that every cabinet's ring holds an
+ * exchange, nor 0 that none does: 4,095 of 4,096 give 1000, and 1 of 2,000 gives 0. 0A tells it for each
+ * cabinet.
+ */
+
+/*
  * Two routes. Command 0C a b, with operands of two bytes each, asks for a working route and a standby
  * route from a to b, which must share a ring. It is answered by 8C, a count and the spans of one
  * route, a second count and the spans of the other; each count and each span has two bytes.

@@ -221,23 +221,30 @@ static void write_late_sheets(size_t first)
 
 /* Villages of three cabinets, each closed to a ring, every other one with an exchange; then the
    villages one after the other in a great loop. Each link of it is two spans that are mates, which
-   protect nothing; the last makes all the rings one: a join of equal sizes. The last two cabinets stay
-   by themselves, so that a share can need rounding. The first question is about an empty network. Two
-   routes are asked for in each village once it is a ring, and between all of the villages in the end.
+   protect nothing; the last makes all the rings one: a join of equal sizes. The first question is about
+   an empty network. Two routes are asked for in each village once it is a ring, and between all of the
+   villages in the end.
+
+   The last two cabinets stay by themselves, and the very last is entered behind the villages. So with five
+   villages there are 16 cabinets at first, of which one is 62.5 thousandths and three are 187.5, two exact
+   halves: the one goes down to 62, the other up to 188. Of 17 six are 352.9, up to 353, and 15 are 882.4,
+   down to 882.
 
    The spans of a village are measured when it is closed, on day 0; but for the last village entered, so
    that some spans have no length. The first span of a link is measured before the second is laid, and
    again with it, a day after. In the end come the late sheets. */
 static void write_journal(unsigned villages)
 {
-    unsigned cabinets = 3 * villages + 2;
+    unsigned cabinets = 3 * villages + 1;
     ask_share();
     for (unsigned cabinet = 0; cabinet < cabinets; cabinet++)
         add_cabinet();
     for (unsigned village = villages; village-- > 0;) {
         unsigned first = 3 * village;
-        if (village % 2 == 1)
+        if (village % 2 == 1) {
             mark_exchange(first + 2);
+            ask_all(cabinets);
+        }
         add_span(first, first + 1);
         add_span(first + 1, first + 2);
         add_span(first + 2, first);
@@ -246,6 +253,8 @@ static void write_journal(unsigned villages)
         ask_all(cabinets);
         ask_all_routes(first, 3);
     }
+    add_cabinet();
+    cabinets++;
     write_pair(3 * villages, cabinets);
     size_t first_link = spans_entered;
     for (unsigned village = 0; village < villages; village++) {
@@ -576,15 +585,27 @@ static void read_length(void)
     answered_at += 4;
 }
 
-/* The share in thousandths, rounded down; 0 for an empty network. */
+/* So many of so many in thousandths, rounded to the nearest, an exact half to the even one; 0 of none. It
+   goes up from 0 as long as the share lies beyond the middle between a thousandth and the next; just in
+   the middle an odd one goes up, an even one stays. */
+static unsigned thousandths(size_t part, size_t whole)
+{
+    unsigned share = 0;
+    for (; whole > 0; share++) {
+        size_t middle = (2 * (size_t)share + 1) * whole;
+        if (2000 * part < middle || (2000 * part == middle && share % 2 == 0))
+            break;
+    }
+    return share;
+}
+
 static void read_share(void)
 {
     size_t fed = 0;
     for (size_t item = 0; item < cabinets_known; item++)
         fed += (size_t)holds_exchange(ring[item]);
     asked_share = two_bytes(answers + answered_at + 1);
-    hold("share of cabinets", cabinets_known, asked_share,
-         cabinets_known == 0 ? 0 : (unsigned)(1000 * fed / cabinets_known));
+    hold("share of cabinets", cabinets_known, asked_share, thousandths(fed, cabinets_known));
     asked_at += 1;
     answered_at += 3;
 }

@@ -41,6 +41,8 @@ pub struct Tally {
     pub added_up: usize,
     /// How often 0E was answered without a length, and how often with one.
     pub lengths: [usize; 2],
+    /// How often a share was an exact half that went down, and how often one that went up.
+    pub halves: [usize; 2],
     /// How often each number from 0 to 5 was returned by a forecast.
     pub forecast: [usize; 6],
     /// Runs with exactly the room that was forecast, by the number that the journal's forecast
@@ -65,6 +67,7 @@ impl Tally {
         for i in 0..2 {
             self.sizes[i] += read.sizes[i];
             self.lengths[i] += read.lengths[i];
+            self.halves[i] += read.halves[i];
         }
     }
 }

@@ -1,6 +1,6 @@
 //! What every implementation of the register offers: the run of document 01, with the commands of
-//! document 02's requests 2, 3, 5 and 6, the mates of its seventh and the sizes of its eighth, the forecast
-//! of its first, the rewriting of its seventh and the joining of its ninth.
+//! document 02's requests 2, 3, 5 and 6, the mates of its seventh, the sizes of its eighth and the rounding of
+//! its tenth, the forecast of its first, the rewriting of its seventh and the joining of its ninth.
 
 pub mod join;
 

@@ -1,11 +1,11 @@
 //! Histories with exchanges. Their answers are worked out by hand from document 02's second
 //! request, and are document 01's where its spans are entered.
 //!
-//! A share is a whole number of thousandths, rounded down. In hexadecimal 1000 is 03E8, 750 is
-//! 02EE, 666 is 029A, 500 is 01F4, 333 is 014D, 250 is 00FA and 142 is 008E.
+//! A share is a whole number of thousandths, by its tenth request the nearest one, for an exact half the
+//! even one. In hexadecimal 1000 is 03E8, 750 is 02EE, 667 is 029B, 500 is 01F4, 333 is 014D, 250 is 00FA
+//! and 143 is 008F.
 
 use crate::cases::{unhex, Case};
-use crate::engine::MOST_CABINETS;
 use crate::histories::{worked_out, Known, Line, TRIANGLE, TRIANGLE_ANSWERS};
 use crate::journals::Writer;
 use crate::spans::Span;
@@ -50,7 +50,7 @@ const KNOWN: [Known; 19] = [
         ],
         [0, 12, 6, 14, 1, 0],
     ),
-    // Each cabinet is a ring. 0 of 3; 1 of 3 is 333.3, down to 333; 2 of 3 is 666.7, down to 666;
+    // Each cabinet is a ring. 0 of 3; 1 of 3 is 333.3, down to 333; 2 of 3 is 666.7, up to 667;
     // 3 of 3 is 1000.
     (
         "three cabinets, marked one after the other",
@@ -58,17 +58,17 @@ const KNOWN: [Known; 19] = [
             THREE_CABINETS,
             ("0F", "8F 0000"),
             ("09 0000 0F", "89 8F 014D"),
-            ("09 0002 0F", "89 8F 029A"),
+            ("09 0002 0F", "89 8F 029B"),
             ("09 0001 0F", "89 8F 03E8"),
         ],
         [0, 16, 10, 24, 3, 0],
     ),
-    // 1 of 7 is 142.9, down to 142.
+    // 1 of 7 is 142.9, up to 143.
     (
         "one of seven cabinets",
         &[
             ("01 01 01 01 01 01 01", "81 0000 81 0001 81 0002 81 0003 81 0004 81 0005 81 0006"),
-            ("09 0006 0F", "89 8F 008E"),
+            ("09 0006 0F", "89 8F 008F"),
         ],
         [0, 11, 9, 25, 7, 0],
     ),
@@ -219,15 +219,86 @@ const KNOWN: [Known; 19] = [
     ("09 without cabinets", &[("09 0000", "")], [6, 0, 0, 0, 0, 0]),
 ];
 
-/// So many exchanges among 4,096 cabinets, and the share: 0.2 and 0.98 down to 0, 1.2 down to 1,
-/// 500, 999.8 down to 999, and 1000.
-const OF_4096: [(usize, u16); 6] = [(1, 0), (4, 0), (5, 1), (2048, 500), (4095, 999), (4096, 1000)];
+/// So many exchanges, and the share.
+type Share = (usize, u16);
+
+/// Among 16 cabinets each is 62.5, so that every odd number is an exact half. It goes down to the even one
+/// from 62.5, 312.5, 562.5 and 812.5, and up to it from 187.5, 437.5, 687.5 and 937.5.
+const OF_16: [Share; 17] = [
+    (0, 0),
+    (1, 62),
+    (2, 125),
+    (3, 188),
+    (4, 250),
+    (5, 312),
+    (6, 375),
+    (7, 438),
+    (8, 500),
+    (9, 562),
+    (10, 625),
+    (11, 688),
+    (12, 750),
+    (13, 812),
+    (14, 875),
+    (15, 938),
+    (16, 1000),
+];
+
+/// Among 48 cabinets: 41.7 up to 42, 62.5 down to 62, 83.3 down to 83; 166.7 up to 167, 187.5 up to 188, 208.3
+/// down to 208; and 1000.
+const OF_48: [Share; 7] = [(2, 42), (3, 62), (4, 83), (8, 167), (9, 188), (10, 208), (48, 1000)];
+
+/// Among 2,000 cabinets each is 0.5: 0.5 down to 0, 1, 1.5 up to 2, 2, 2.5 down to 2, 3.5 up to 4; 498.5 down
+/// to 498, 499.5 up to 500, 500, 500.5 down to 500, 501.5 up to 502; 998.5 down to 998, 999, 999.5 up to
+/// 1000, and 1000.
+const OF_2000: [Share; 15] = [
+    (1, 0),
+    (2, 1),
+    (3, 2),
+    (4, 2),
+    (5, 2),
+    (7, 4),
+    (997, 498),
+    (999, 500),
+    (1000, 500),
+    (1001, 500),
+    (1003, 502),
+    (1997, 998),
+    (1998, 999),
+    (1999, 1000),
+    (2000, 1000),
+];
+
+/// Among 4,096 cabinets: 0.24 and 0.49 down to 0, 0.73 and 0.98 up to 1, 1.2 down to 1; 62.3 down to 62, 62.5
+/// down to 62, 62.7 up to 63; 187.3 down to 187, 187.5 up to 188, 187.7 up to 188; 500; 999.3 down to 999,
+/// 999.51 and 999.8 up to 1000, and 1000.
+const OF_4096: [Share; 16] = [
+    (1, 0),
+    (2, 0),
+    (3, 1),
+    (4, 1),
+    (5, 1),
+    (255, 62),
+    (256, 62),
+    (257, 63),
+    (767, 187),
+    (768, 188),
+    (769, 188),
+    (2048, 500),
+    (4093, 999),
+    (4094, 1000),
+    (4095, 1000),
+    (4096, 1000),
+];
 
 /// All of them, each with room to the byte and, where a byte is needed, with one byte less.
 pub fn known() -> Vec<Case> {
     let mut cases = worked_out(&KNOWN);
     cases.push(growing_ring());
-    cases.push(shares_of_4096());
+    cases.push(shares("shares of 16", 16, &OF_16));
+    cases.push(shares("shares of 48", 48, &OF_48));
+    cases.push(shares("shares of 2,000", 2000, &OF_2000));
+    cases.push(shares("shares of 4,096", 4096, &OF_4096));
     cases
 }
 
@@ -264,16 +335,16 @@ fn growing_ring() -> Case {
     case.leaves(answers, [0, 4 + 40 * 19, 2 + 40 * 5, 4 + 40 * 32, 41, 80])
 }
 
-/// As many cabinets as there can be, each a ring by itself, marked from the first on.
-fn shares_of_4096() -> Case {
+/// So many cabinets, each a ring by itself, marked from the first on to the last, with these shares between.
+fn shares(label: &str, cabinets: u16, shares: &[Share]) -> Case {
     let mut writer = Writer::new();
     let mut answers = Vec::new();
-    for cabinet in 0..MOST_CABINETS as u16 {
+    for cabinet in 0..cabinets {
         writer.cabinet();
         answers.extend(fields(0x81, &[cabinet]));
     }
     let mut marked = 0;
-    for (exchanges, share) in OF_4096 {
+    for &(exchanges, share) in shares {
         for cabinet in marked..exchanges {
             writer.command(0x09, &[cabinet]);
             answers.push(0x89);
@@ -282,8 +353,9 @@ fn shares_of_4096() -> Case {
         writer.command(0x0F, &[]);
         answers.extend(fields(0x8F, &[share]));
     }
-    // 4,096 of 01, 4,096 of 09 and six of 0F: 4,096 × (1 + 3) + 6 bytes, answered by
-    // 4,096 × (3 + 1) + 6 × 3.
-    let case = Case::with_room("shares of 4,096", MOST_CABINETS, 1, writer.bytes, 0);
-    case.leaves(answers, [0, 16_390, 8_198, 16_402, 4_096, 0])
+    // As many of 01 and of 09 as there are cabinets, of 1 + 3 bytes, answered by 3 + 1; each 0F of 1 byte,
+    // answered by 3.
+    let (each, asked) = (u32::from(cabinets), shares.len() as u32);
+    let case = Case::with_room(label, each, 1, writer.bytes, 0);
+    case.leaves(answers, [0, 4 * each + asked, 2 * each + asked, 4 * each + 3 * asked, each, 0])
 }

@@ -185,13 +185,17 @@ pub fn rewriters() -> Vec<Named> {
 
 /// Faults in the exchanges that a planner's own marks must find where the second implementation has
 /// them too, and what is said then.
-pub const IN_EXCHANGES: [(Misfeed, &str); 7] = [
+pub const IN_EXCHANGES: [(Misfeed, &str); 11] = [
     (Misfeed::LostInJoins, "answers 0, its ring holds"),
     (Misfeed::ByDistrict, "answers 1, its ring holds 0"),
     (Misfeed::ShareOfRings, "cabinets are fed"),
     (Misfeed::ShareOfExchanges, "cabinets are fed"),
     (Misfeed::ShareAmongExchanges, "cabinets are fed"),
     (Misfeed::RoundedUp, "cabinets are fed"),
+    (Misfeed::RoundedDown, "cabinets are fed"),
+    (Misfeed::HalvesUp, "cabinets are fed"),
+    (Misfeed::HalvesDown, "cabinets are fed"),
+    (Misfeed::HalvesToOdd, "cabinets are fed"),
     (Misfeed::MarkedTwice, "commands 09 accepted"),
 ];
 

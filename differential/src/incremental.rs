@@ -316,9 +316,17 @@ impl Run<'_> {
     }
 }
 
-/// So many of so many in thousandths, rounded down; 0 of 0 is 0.
-fn thousandths(part: u32, whole: u32) -> u32 {
-    1000 * part / whole.max(1)
+/// So many of so many in thousandths, rounded to the nearest, an exact half to the even one; 0 of 0 is 0.
+/// With half a thousandth added it is rounded down. If nothing is left over it was an exact half, which so
+/// goes up, and an odd number gives way to the even one below it.
+pub fn thousandths(part: u32, whole: u32) -> u32 {
+    let (sum, unit) = (2000 * part + whole, 2 * whole.max(1));
+    let half_up = sum / unit;
+    if sum.is_multiple_of(unit) {
+        half_up & !1
+    } else {
+        half_up
+    }
 }
 
 impl Engine for Incremental {

@@ -276,7 +276,8 @@ fn layout(random: &mut Random) -> (&'static str, Layout) {
     (name, layout)
 }
 
-/// A journal of one of the styles, with marks, records and questions between, and the style's name.
+/// A journal of one of the styles, with marks, records and questions between, and at the end of some more marks,
+/// each followed by 0F; and the style's name.
 pub fn styled(random: &mut Random) -> (&'static str, Writer) {
     let (name, layout) = layout(random);
     let late = random.chance(50);
@@ -307,6 +308,10 @@ pub fn styled(random: &mut Random) -> (&'static str, Writer) {
     }
     if layout.cabinets <= 8 && random.chance(50) {
         writer.sweep();
+    }
+    for _ in 0..*random.pick(&[0, 0, 1, 5]) {
+        writer.mark(random.below(writer.cabinets));
+        writer.command(0x0F, &[]);
     }
     (name, writer)
 }

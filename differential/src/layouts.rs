@@ -98,7 +98,7 @@ pub const DUCTS: [&[usize]; 6] =
 /// A style's name, and how a layout of it is made.
 pub type Style = (&'static str, fn(&mut Random) -> Layout);
 
-pub const STYLES: [Style; 14] = [
+pub const STYLES: [Style; 15] = [
     ("dense", dense),
     ("sparse", sparse),
     ("tree-like", tree_like),
@@ -113,6 +113,7 @@ pub const STYLES: [Style; 14] = [
     ("loops of mates", loops_of_mates),
     ("ladders", ladders),
     ("short cuts", short_cuts),
+    ("sixteens", sixteens),
 ];
 
 /// Some hundred cabinets: a chain then loops, random spans, or pairwise doubling.
@@ -412,6 +413,20 @@ fn short_cuts(random: &mut Random) -> Layout {
         layout.way(from, to, between);
     }
     layout.mixed(random, 80, 0, 1)
+}
+
+/// Small loops and cabinets by themselves, a multiple of 16 in all, so that a share of them can be an exact
+/// half: each is 62.5 thousandths of 16, and 12.5 of 80.
+fn sixteens(random: &mut Random) -> Layout {
+    let mut layout = Layout::of(*random.pick(&[16, 32, 48, 80]));
+    let mut first = 0;
+    for _ in 0..random.between(2, 5) {
+        let size = random.between(2, 3);
+        layout.chain(first, size);
+        layout.add(first + size - 1, first);
+        first += size;
+    }
+    layout.mixed(random, 50, 0, 4)
 }
 
 /// Every list of `count` of these.

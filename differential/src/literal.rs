@@ -139,15 +139,21 @@ pub fn is_fed(plant: Plant, exchanges: &[usize], cabinet: usize) -> bool {
     exchanges.iter().any(|&exchange| share_ring(plant, exchange, cabinet))
 }
 
-/// The most thousandths of all cabinets that are no more than the cabinets whose ring holds an
-/// exchange; 0 for an empty network.
+/// The share of all cabinets whose ring holds an exchange, in thousandths; 0 for an empty network.
 pub fn fed_share(plant: Plant, exchanges: &[usize]) -> usize {
     let cabinets = plant.network.cabinets;
-    if cabinets == 0 {
+    let fed = (0..cabinets).filter(|&cabinet| is_fed(plant, exchanges, cabinet)).count();
+    nearest_share(fed, cabinets)
+}
+
+/// Of 0 to 1000 thousandths the number that no other is nearer to so many of so many than, of two equally
+/// near the even one; 0 of none.
+pub fn nearest_share(part: usize, whole: usize) -> usize {
+    if whole == 0 {
         return 0;
     }
-    let fed = (0..cabinets).filter(|&cabinet| is_fed(plant, exchanges, cabinet)).count();
-    (0..=1000).rev().find(|thousandths| thousandths * cabinets <= 1000 * fed).unwrap_or(0)
+    let distance = |thousandths: usize| (thousandths * whole).abs_diff(1000 * part);
+    (0..=1000).min_by_key(|&one| (distance(one), one % 2)).unwrap_or(0)
 }
 
 /// One span, or mates, or some simple cycle that uses at most one of a set of mates holds both.

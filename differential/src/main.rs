@@ -232,21 +232,23 @@ impl Test {
     /// Every number that the table knows must have been returned by some run, every one that the
     /// forecast knows by some forecast, with runs in the room forecast unless it is 3, and every one that
     /// a rewriting knows by some rewriting. 03 and 04 must have been answered, and a district of several
-    /// rings and all of these measured; 0E must have been answered without a length and with one, and a
-    /// journal that is accepted and one that is refused held against what they are rewritten to.
+    /// rings and all of these measured; 0E must have been answered without a length and with one, 0F for an
+    /// exact half that goes down and for one that goes up, and a journal that is accepted and one that is
+    /// refused held against what they are rewritten to.
     fn every_number(&mut self) {
         let Tally { returned, forecast, exact, lengths, rewritten, held, .. } = &self.tally;
-        let Tally { sizes, added_up, .. } = &self.tally;
+        let Tally { sizes, added_up, halves, .. } = &self.tally;
         let runs = (0..=14).map(|number| ("run", number, returned[number]));
         let forecasts = [0, 3, 4, 5].map(|number| ("forecast", number, forecast[number]));
         let exact = [0, 4, 5].map(|number| ("run in the room forecast", number, exact[number]));
         let sizes = [0, 1].map(|kind| ("answer 83 or 84", kind, sizes[kind]));
         let sums = [("district whose rings add up", 0, *added_up)];
         let lengths = [0, 1].map(|flag| ("answer 8E", flag, lengths[flag]));
+        let halves = [0, 1].map(|up| ("exact half", up, halves[up]));
         let rewritten = REWRITING.map(|number| ("rewriting", number, rewritten[number]));
         let held = [0, 1].map(|refused| ("journal held against another", refused, held[refused]));
-        let in_runs = runs.chain(exact).chain(sizes).chain(sums).chain(lengths).chain(held);
-        let mut all = in_runs.chain(forecasts).chain(rewritten);
+        let in_runs = runs.chain(exact).chain(sizes).chain(sums).chain(lengths).chain(halves);
+        let mut all = in_runs.chain(held).chain(forecasts).chain(rewritten);
         if let Some((what, number, _)) = all.find(|&(_, _, count)| count == 0) {
             self.fault.get_or_insert(format!("no {what} for number {number}"));
         }
@@ -257,17 +259,17 @@ impl Test {
             return Err(fault.clone());
         }
         let Tally { journals, returned, commands, notices, pairs, lengths, .. } = self.tally;
-        let Tally { sizes, added_up, .. } = self.tally;
+        let Tally { sizes, added_up, halves, .. } = self.tally;
         let Tally { forecast, exact, rewritten, held, held_pairs, .. } = self.tally;
         Ok(format!(
             "{} equals second, every byte: {journals} journals ({} accepted to the end, refused by \
              1 to 14: {:?}), {commands} commands, {notices} notices; {pairs} pairs of routes, all \
              of which serve; {} sizes of districts and {} of rings told, {added_up} times all of a \
              district of several rings; {} lengths of spans told, and {} times that there is none; {} \
-             forecasts ({} accepted, refused by 3 to 5: {:?}), {} runs with exactly the room \
-             forecast, {} of them of damaged journals; {} rewritings ({} accepted, refused by 3, 4, \
-             5, 15 and 16: {:?}), {} journals that answer as they did once they are rewritten, {} \
-             of them refused, with {held_pairs} pairs of routes",
+             shares that are exact halves go down, and {} up; {} forecasts ({} accepted, refused by \
+             3 to 5: {:?}), {} runs with exactly the room forecast, {} of them of damaged journals; {} \
+             rewritings ({} accepted, refused by 3, 4, 5, 15 and 16: {:?}), {} journals that answer as \
+             they did once they are rewritten, {} of them refused, with {held_pairs} pairs of routes",
             self.engine.name(),
             returned[0],
             &returned[1..],
@@ -275,6 +277,8 @@ impl Test {
             sizes[1],
             lengths[1],
             lengths[0],
+            halves[0],
+            halves[1],
             forecast.iter().sum::<usize>(),
             forecast[0],
             &forecast[3..],

@@ -2,7 +2,7 @@
 //! run of the second implementation; the names and sizes that are told, the answers about exchanges, those
 //! about sole spans, the routes and the survey lengths, against what the planner knows.
 
-mod marks;
+pub mod marks;
 mod mates;
 mod sizes;
 mod surveys;
@@ -162,13 +162,15 @@ fn append(names: &mut Vec<usize>, number: usize, name: usize) -> Result<(), Stri
 }
 
 /// What a planner has read: commands answered, notices, answers 83 and 84, districts of several rings whose
-/// sizes add up, answers 8E without a length and with one, and bytes.
+/// sizes add up, answers 8E without a length and with one, shares that are exact halves and went down or up,
+/// and bytes.
 pub struct Read {
     pub commands: usize,
     pub notices: usize,
     pub sizes: [usize; 2],
     pub added_up: usize,
     pub lengths: [usize; 2],
+    pub halves: [usize; 2],
     pub bytes: usize,
 }
 
@@ -227,6 +229,7 @@ impl<'a> Planner<'a> {
             sizes: self.sizes.answers,
             added_up: self.sizes.added_up,
             lengths: self.lengths.told,
+            halves: self.marks.halves,
             bytes: self.read,
         })
     }

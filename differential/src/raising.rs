@@ -4,7 +4,7 @@
 
 use crate::engine::{MOST_CABINETS, MOST_SPANS};
 use crate::kinds::Kind;
-use crate::second::exchanges::thousandths;
+use crate::second::exchanges::{misrounded, thousandths, Misfeed};
 
 /// What a field of two bytes in an answer is; that which a notice is about, and the name that it tells,
 /// apart from others. `Routed` is a cabinet that a pair of routes leads from or to.
@@ -221,7 +221,7 @@ pub fn wrong() -> Vec<Misread> {
     wrong
 }
 
-const SHARES: [(&str, Share); 8] = [
+const SHARES: [(&str, Share); 12] = [
     ("0F over the second alone", |stand| of(stand.second)),
     ("0F over the first alone", |stand| of(stand.first)),
     ("0F as both shares added", |stand| of(stand.first) + of(stand.second)),
@@ -233,10 +233,17 @@ const SHARES: [(&str, Share); 8] = [
     ("0F with the exchanges of the second alone", |Stand { first, second, .. }| {
         thousandths(second.fed, first.cabinets + second.cabinets)
     }),
-    ("0F rounded to the nearest", |Stand { first, second, .. }| {
-        thousandths(2 * (first.fed + second.fed), first.cabinets + second.cabinets).div_ceil(2)
-    }),
+    ("0F rounded down", |stand| over_both_by(Misfeed::RoundedDown, stand)),
+    ("0F rounded up", |stand| over_both_by(Misfeed::RoundedUp, stand)),
+    ("0F with halves rounded down", |stand| over_both_by(Misfeed::HalvesDown, stand)),
+    ("0F with halves rounded up", |stand| over_both_by(Misfeed::HalvesUp, stand)),
+    ("0F with halves rounded to odd", |stand| over_both_by(Misfeed::HalvesToOdd, stand)),
 ];
+
+/// The share over both networks, rounded with a fault.
+fn over_both_by(fault: Misfeed, Stand { first, second, .. }: Stand) -> usize {
+    misrounded(fault, first.fed + second.fed, first.cabinets + second.cabinets)
+}
 
 fn of(fed: Fed) -> usize {
     thousandths(fed.fed, fed.cabinets)

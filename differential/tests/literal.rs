@@ -2,15 +2,18 @@
 //! against those of document 01 in the network in which each set of mates is one span; by the rule of
 //! mates and by the old one. Also the definitions by the old rule against those of the network in which
 //! each span lies in the duct of its number and 1, and the sizes of a district and its rings, which add up
-//! whatever the mates.
+//! whatever the mates. Also the rounding of shares, of all implementations.
 
+use differential::engine::MOST_CABINETS;
+use differential::incremental;
 use differential::layouts::{self, DUCTS};
 use differential::literal::{self, Plant};
+use differential::names::marks::is_share;
 use differential::pairs::{serve, Pair};
 use differential::random::Random;
 use differential::records::arrangements;
 use differential::second::book::Book;
-use differential::second::exchanges::{counts, Exchanges};
+use differential::second::exchanges::{counts, thousandths, Exchanges};
 use differential::second::groups::{
     cut_cabinets, groups, is_sole, route, shared_mesh, sole_spans, Network,
 };
@@ -481,6 +484,49 @@ fn random_records() {
             let is_first = |i: &usize| own[..*i].iter().all(|record| record.day != own[*i].day);
             let firsts: Vec<Record> = (0..own.len()).filter(is_first).map(|i| own[i]).collect();
             assert_eq!(literal::length(&firsts, span), literal::length(&own, span), "{records:?}");
+        }
+    }
+}
+
+/// Every part of so many cabinets, whose shares are exact halves often, seldom or never, the least number of
+/// cabinets and the greatest among them.
+fn every_part(each: &mut dyn FnMut(usize, usize)) {
+    let more = [125, 128, 160, 240, 400, 1000, 2000, 4000, 4095, 4096];
+    for whole in (0..=100).chain(more) {
+        (0..=whole).for_each(|part| each(part, whole));
+    }
+}
+
+/// The share that is computed is the nearest one by the definition.
+#[test]
+fn shares_are_nearest() {
+    every_part(&mut |part, whole| {
+        let share = literal::nearest_share(part, whole);
+        assert_eq!(thousandths(part, whole), share, "{part} of {whole}");
+    });
+}
+
+/// Of the numbers up to 2,000, and of the greatest that two bytes can hold, a planner accepts the nearest share
+/// alone.
+#[test]
+fn no_other_share_is_accepted() {
+    every_part(&mut |part, whole| {
+        let share = literal::nearest_share(part, whole);
+        for other in (0..=2000).chain([65_534, 65_535]) {
+            assert_eq!(is_share(other, part, whole), other == share, "{other}: {part} of {whole}");
+        }
+    });
+}
+
+/// Every part of every number of cabinets: both implementations tell one share, which a planner accepts.
+#[test]
+fn every_share_is_accepted() {
+    for whole in 0..=MOST_CABINETS as usize {
+        for part in 0..=whole {
+            let share = thousandths(part, whole);
+            assert!(is_share(share, part, whole), "{share}: {part} of {whole}");
+            let other = incremental::thousandths(part as u32, whole as u32);
+            assert_eq!(other as usize, share, "{part} of {whole}");
         }
     }
 }

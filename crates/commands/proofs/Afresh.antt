@@ -1,6 +1,6 @@
--- The marked histories, those with exchanges, with ducts, with routes, with survey lengths and with sizes, the calls of the run's entry, the
--- forecasts, the rewritings and the joins hold of the definitions: each table is computed afresh, at once. (By its name this file comes before
--- all laws, so that a wrong definition is refused here first.)
+-- The marked histories, those with exchanges, with ducts, with routes, with survey lengths and with sizes, the shares, the calls of the run's
+-- entry, the forecasts, the rewritings and the joins hold of the definitions: each table is computed afresh, at once. (By its name this file
+-- comes before all laws, so that a wrong definition is refused here first.)
 use mathlib.Core.List.{List, [], _∷_, _++_, map}
 use mathlib.Core.Logic.{_≢_}
 use mathlib.Core.Path.{_≡_, refl, ap}
@@ -11,12 +11,13 @@ use Rattle.graph.specs.Cycle
 use Rattle.graph.specs.Travel
 use Rattle.graph.specs.Route
 use Rattle.commands.specs.Answer.{answerBytes}
+use Rattle.commands.specs.Exchange.{thousandths}
 use Rattle.commands.specs.Register.{program, programReport}
 use Rattle.commands.specs.Forecast.{forecast}
 use Rattle.commands.specs.Histories.{History, EachShown, histories}
 use Rattle.commands.specs.Histories
 use Rattle.commands.specs.ExchangeHistories
-use Rattle.commands.specs.ExchangeHistories.{exchangeHistories}
+use Rattle.commands.specs.ExchangeHistories.{exchangeHistories, shares}
 use Rattle.commands.specs.DuctHistories
 use Rattle.commands.specs.DuctHistories.{ductHistories}
 use Rattle.commands.specs.RouteHistories
@@ -43,7 +44,7 @@ histories-made = refl
 
 -- and of the one with exchanges
 exchange-histories-made : map made exchangeHistories ≡ exchangeHistories
-unfolding computed Histories.output Histories.accepted Histories.refusedWith Histories.notice ExchangeHistories.exchangeInOneOfTwoRings ExchangeHistories.shareOfCabinets ExchangeHistories.sharesInThirds ExchangeHistories.markedTwice ExchangeHistories.markedNowhere ExchangeHistories.askedNowhere ExchangeHistories.exchangeHistories
+unfolding computed Histories.output Histories.accepted Histories.refusedWith Histories.notice ExchangeHistories.exchangeInOneOfTwoRings ExchangeHistories.shareOfCabinets ExchangeHistories.sharesInThirds ExchangeHistories.sharesInSixteenths ExchangeHistories.markedTwice ExchangeHistories.markedNowhere ExchangeHistories.askedNowhere ExchangeHistories.exchangeHistories
 exchange-histories-made = refl
 
 -- and of the one with ducts
@@ -96,6 +97,11 @@ survey-histories-shown = each-shown surveyHistories survey-histories-made
 -- and every history with sizes
 pub size-histories-shown : EachShown sizeHistories
 size-histories-shown = each-shown sizeHistories size-histories-made
+
+-- Each share is the one in the table.
+pub shares-shown : map (λ s. thousandths (s .part) (s .whole)) shares ≡ map (λ s. s .share) shares
+unfolding thousandths ExchangeHistories.shareOf ExchangeHistories.shares
+shares-shown = refl
 
 -- The pairs that are said to serve do, and the others do not.
 pub offers-judged : map judged offers ≡ map (λ o. o .serves) offers

@@ -28,7 +28,8 @@ use Rattle.commands.specs.Answer.{Plain, plain, districtIs, ringIs, mesh
 use Rattle.commands.specs.Exchange.{ringHoldsExchange, withExchange, thousandths, shareWithExchange}
 use Rattle.commands.specs.Facts.{asks, meshAnswer, routesAnswer, lengthAnswer, facts, answerTo, answer}
 use Rattle.commands.proofs.Cases.{impossible}
-use Rattle.commands.proofs.Exchange.{ExchangeWith, holds-exchange-exactly, rounded-down}
+use Rattle.commands.proofs.Exchange.{ExchangeWith, holds-exchange-exactly}
+use Rattle.commands.proofs.Thousandths.{Nearest, share-exactly, share-of-nothing}
 use Rattle.commands.proofs.Routes.{InOneRing, given-served}
 
 -- edge s is of a block that has an edge at each of the two vertices
@@ -92,9 +93,10 @@ pub record AnswersTell (choice : Choice) (s : State) : Type 0 where
       → (answer choice s (spanLength x) ≡ plain (lengthIs metres)) ↔ ((r : Survey) × Latest (surveysOf x (s .surveys)) r × (r .metres ≡ metres))
   -- it has byte 0 exactly while the span has no record
   pub no-length : (x : ℕ) → (answer choice s (spanLength x) ≡ plain noLength) ↔ (surveysOf x (s .surveys) ≡ [])
-  -- the 0F answer is the greatest number of thousandths of all cabinets that is within those whose ring holds an exchange
-  pub share : (m : ℕ) → 0 < s .book .network .vertices → answer choice s exchangeShare ≡ plain (shareIs m)
-      → (m * s .book .network .vertices ≤ 1000 * withExchange s) × (1000 * withExchange s < suc m * s .book .network .vertices)
+  -- the 0F answer is m exactly if no number of thousandths is nearer to the share of all cabinets whose ring holds an exchange and, where
+  -- another is as near, m is even
+  pub share : (m : ℕ) → 0 < s .book .network .vertices
+      → (answer choice s exchangeShare ≡ plain (shareIs m)) ↔ Nearest (withExchange s) (s .book .network .vertices) m
   -- and 0 where there is no cabinet
   pub share-of-none : s .book .network .vertices ≡ 0 → answer choice s exchangeShare ≡ plain (shareIs 0)
 
@@ -151,7 +153,7 @@ not-told-of records x (some r) e q = impossible (cc)
 
 -- so it is in every state whose book keeps the laws of naming, under every choice that serves
 pub answers-tell : (choice : Choice) (s : State) → BookLaws (s .book) → Serves (s .book .network .rule) choice → AnswersTell choice s
-unfolding answer answerTo facts asks componentOf bridgeBlockOf routesAnswer lengthAnswer told shareWithExchange thousandths
+unfolding answer answerTo facts asks componentOf bridgeBlockOf routesAnswer lengthAnswer told shareWithExchange
 answers-tell choice s laws serves =
     record {
       districts = λ x y h k.
@@ -208,8 +210,8 @@ answers-tell choice s laws serves =
         λ q. not-told-of (s .surveys) x (holding (s .surveys) x) refl (cc),
         λ none. ap (λ o. plain (lengthAnswer o)) (none-holding (s .surveys) x none),
       );
-      share = λ m some q.
-          let is : thousandths (withExchange s) (s .book .network .vertices) ≡ m = cc in
-          rw is at (rounded-down (withExchange s) (s .book .network .vertices) some);
-      share-of-none = λ none. rw none refl;
+      share = λ m some.
+          let exactly = share-exactly (withExchange s) (s .book .network .vertices) m some in
+          (λ q. exactly .0 (cc), λ near. ap (λ n. plain (shareIs n)) (exactly .1 near));
+      share-of-none = λ none. ap (λ n. plain (shareIs n)) (ap (thousandths (withExchange s)) none ∙ share-of-nothing (withExchange s));
     }

@@ -2,16 +2,15 @@
 use mathlib.Core.Bool.{true}
 use mathlib.Core.Logic.{_↔_}
 use mathlib.Core.Path.{_≡_}
-use Prim.Native.Nat.{ℕ, zero, suc, _*_, _≤_, _<_}
-use native.Mathlib.Nat.{div-le-of-le-mul, div-mul-le-self, lt-mul-div-succ}
-use native.Mathlib.Omega.{arith}
+use Prim.Native.Nat.{ℕ, _≤_, _<_}
 use lib.Dec.{ltb}
 use Rattle.graph.specs.Groups.{bridgeBlock}
 use Rattle.graph.proofs.Truth.{and-left, and-right, and-both}
 use Rattle.graph.proofs.Below.{any-below, some-below}
 use Rattle.naming.specs.State.{State, marksWith}
 use Rattle.naming.proofs.Count.{count-at-most, some-counted}
-use Rattle.commands.specs.Exchange.{ringHoldsExchange, withExchange, thousandths, shareWithExchange}
+use Rattle.commands.specs.Exchange.{ringHoldsExchange, withExchange, shareWithExchange}
+use Rattle.commands.proofs.Thousandths.{share-within}
 
 -- an exchange that shares the ring of cabinet a
 pub record ExchangeWith (s : State) (a : ℕ) : Type 0 where
@@ -45,19 +44,7 @@ pub with-exchange-at-most : (s : State) → withExchange s ≤ s .book .network 
 unfolding withExchange
 with-exchange-at-most s = count-at-most (s .book .network .vertices) _
 
--- the share is rounded down: no greater number of thousandths of the whole is within the part
-pub rounded-down : (part whole : ℕ) → 0 < whole
-    → (thousandths part whole * whole ≤ 1000 * part) × (1000 * part < suc (thousandths part whole) * whole)
-unfolding thousandths
-rounded-down part (suc n) h = (div-mul-le-self (1000 * part) (suc n), omega (arith, lt-mul-div-succ (1000 * part) {b = suc n} (omega arith)))
-rounded-down part zero h = absurd (omega arith)
-
--- a part no greater than the whole is at most 1,000 thousandths of it
-thousandths-at-most : (part whole : ℕ) → part ≤ whole → thousandths part whole ≤ 1000
-unfolding thousandths
-thousandths-at-most part zero h = omega arith
-thousandths-at-most part (suc n) h = div-le-of-le-mul (suc n) (omega arith)
-
+-- and their share is at most 1000 thousandths
 pub share-at-most : (s : State) → shareWithExchange s ≤ 1000
 unfolding shareWithExchange
-share-at-most s = thousandths-at-most (withExchange s) (s .book .network .vertices) (with-exchange-at-most s)
+share-at-most s = share-within (withExchange s) (s .book .network .vertices) (with-exchange-at-most s)

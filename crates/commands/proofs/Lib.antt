@@ -3,6 +3,7 @@ pub mod Afresh
 pub mod Cases
 pub mod ByPlace
 pub mod StateAfter
+pub mod Thousandths
 pub mod Exchange
 pub mod Room
 pub mod Reading

@@ -1,6 +1,9 @@
--- Histories with exchanges (request 2), worked out from document 02: journals with what the program writes for them, and the report.
+-- Histories with exchanges (request 2), worked out from document 02: journals with what the program writes for them, and the report; and
+-- shares in plain numbers (request 10).
 use mathlib.Core.Bool.{true, false}
-use mathlib.Core.List.{List, [], _∷_}
+use mathlib.Core.List.{List, [], _∷_, _++_, map}
+use Prim.Native.Nat.{ℕ}
+use lib.ListN.{replicate}
 use Rattle.commands.specs.Command.{addCabinet, addSpan, markExchange, holdsExchange, addDuctSpan, exchangeShare}
 use Rattle.commands.specs.Field.{district, ring, mesh}
 use Rattle.commands.specs.Answer.{cabinetAdded, spanAdded, plain, exchangeMarked, exchangeHeld, shareIs}
@@ -103,7 +106,7 @@ shareOfCabinets =
       report = 0 ∷ 38 ∷ 14 ∷ 82 ∷ 4 ∷ 4 ∷ [];
     }
 
--- The share of an empty network, then of three cabinets with no exchange, with one, two and three: 0, 0, 333, 666 and 1,000; in bytes.
+-- The share of an empty network, then of three cabinets with no exchange, with one, two and three: 0, 0, 333, 667 and 1,000; in bytes.
 unfoldable pub sharesInThirds : History
 sharesInThirds =
     record {
@@ -129,12 +132,44 @@ sharesInThirds =
           ∷ 0x89
           ∷ 0x8F ∷ 0x01 ∷ 0x4D
           ∷ 0x89
-          ∷ 0x8F ∷ 0x02 ∷ 0x9A
+          ∷ 0x8F ∷ 0x02 ∷ 0x9B
           ∷ 0x89
           ∷ 0x8F ∷ 0x03 ∷ 0xE8
           ∷ 0x80
           ∷ [];
       report = 0 ∷ 17 ∷ 11 ∷ 27 ∷ 3 ∷ 0 ∷ [];
+    }
+
+-- Of 16 cabinets one, three and five with an exchange (request 10): 62, 188 and 312.
+unfoldable pub sharesInSixteenths : History
+sharesInSixteenths =
+    record {
+      input =
+          journalBytes
+          (replicate 16 addCabinet
+          ++ markExchange 0
+          ∷ exchangeShare
+          ∷ markExchange 1
+          ∷ markExchange 2
+          ∷ exchangeShare
+          ∷ markExchange 3
+          ∷ markExchange 4
+          ∷ exchangeShare
+          ∷ []);
+      output =
+          output
+          (map cabinetAdded (0 ∷ 1 ∷ 2 ∷ 3 ∷ 4 ∷ 5 ∷ 6 ∷ 7 ∷ 8 ∷ 9 ∷ 10 ∷ 11 ∷ 12 ∷ 13 ∷ 14 ∷ 15 ∷ [])
+          ++ plain exchangeMarked
+          ∷ plain (shareIs 62)
+          ∷ plain exchangeMarked
+          ∷ plain exchangeMarked
+          ∷ plain (shareIs 188)
+          ∷ plain exchangeMarked
+          ∷ plain exchangeMarked
+          ∷ plain (shareIs 312)
+          ∷ [])
+          accepted;
+      report = 0 ∷ 34 ∷ 24 ∷ 62 ∷ 16 ∷ 0 ∷ [];
     }
 
 -- One cabinet marked twice: 12 at the second.
@@ -165,4 +200,29 @@ askedNowhere =
 
 unfoldable pub exchangeHistories : List History
 exchangeHistories =
-    exchangeInOneOfTwoRings ∷ shareOfCabinets ∷ sharesInThirds ∷ markedTwice ∷ markedNowhere ∷ askedNowhere ∷ []
+    exchangeInOneOfTwoRings ∷ shareOfCabinets ∷ sharesInThirds ∷ sharesInSixteenths ∷ markedTwice ∷ markedNowhere ∷ askedNowhere ∷ []
+
+-- So many cabinets of so many, and their share in thousandths (request 10).
+pub record Share : Type 0 where
+  pub part : ℕ
+  pub whole : ℕ
+  pub share : ℕ
+
+unfoldable pub shareOf : ℕ → ℕ → ℕ → Share
+shareOf part whole share = record { part = part; whole = whole; share = share }
+
+-- Those of the request; halves among the first thousandths and the last; the most that are not all; all and none of one; none of nothing.
+unfoldable pub shares : List Share
+shares =
+    shareOf 1 16 62
+    ∷ shareOf 3 16 188
+    ∷ shareOf 5 16 312
+    ∷ shareOf 1 2000 0
+    ∷ shareOf 3 2000 2
+    ∷ shareOf 1997 2000 998
+    ∷ shareOf 1999 2000 1000
+    ∷ shareOf 4095 4096 1000
+    ∷ shareOf 1 1 1000
+    ∷ shareOf 0 1 0
+    ∷ shareOf 0 0 0
+    ∷ []

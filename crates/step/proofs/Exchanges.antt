@@ -1,13 +1,14 @@
 -- The cabinets whose ring holds an exchange, counted one after another, and their share in thousandths.
 use mathlib.Core.Bool.{Bool, true, false, cond}
 use mathlib.Core.List.{List}
-use mathlib.Core.Path.{_≡_, refl, sym, _∙_, ap}
-use Prim.Native.Nat.{ℕ, zero, suc, _+_, _*_, _/_, _≤_}
+use mathlib.Core.Path.{_≡_, sym, _∙_, ap}
+use Prim.Native.Nat.{ℕ, suc, _+_, _≤_, _<_}
 use native.Mathlib.Numerals.{add-one}
 use native.Mathlib.Omega.{arith}
 use mir.Val.{boolByte}
 use Rattle.graph.specs.Below.{count}
 use Rattle.commands.specs.Exchange.{ringHoldsExchange, withExchange, thousandths, shareWithExchange}
+use Rattle.commands.proofs.Thousandths.{Nearest, share-exactly}
 use Rattle.commands.proofs.Exchange.{with-exchange-at-most}
 use Rattle.forest.specs.declared.Shape.{Shape}
 use Rattle.forest.specs.Promise.{Holds, stateOf, vertices-held, few-vertices}
@@ -33,11 +34,9 @@ all-counted shape t i found last e =
 pub few-with-exchange : (shape : Shape) (t : List ℕ) → Holds shape t → withExchange (stateOf shape t) ≤ 4096
 few-with-exchange shape t holds = omega (arith, with-exchange-at-most (stateOf shape t), vertices-held shape t, few-vertices shape t holds)
 
--- the share in a whole that is not nothing
-pub share-of-some : (part whole product : ℕ) → product ≡ 1000 * part → (whole ≡ 0 → ⊥) → product / whole ≡ thousandths part whole
-unfolding thousandths
-share-of-some part zero product e some = absurd (some refl)
-share-of-some part (suc n) product e some = rw e
+-- what is computed for the nearest thousandth is the share
+pub nearest-is-share : (part whole t result : ℕ) → 0 < whole → Nearest part whole t → result ≡ t → result ≡ thousandths part whole
+nearest-is-share part whole t result some near e = e ∙ sym (share-exactly part whole t some .1 near)
 
 -- the share of those counted in all cabinets
 pub share-of-counted : (shape : Shape) (t : List ℕ) (part : ℕ) → part ≡ withExchange (stateOf shape t)

@@ -30,7 +30,7 @@ fn with_exchange(t: &[u32], shape: Shape) -> u32
     found
 }
 
-// The share of a part in a whole, in thousandths, rounded down; 0 where the whole is nothing.
+// The share of a part in a whole, rounded to the nearest thousandth, an exact half to the even one; 0 where the whole is nothing.
 fn thousandths_of(part: u32, whole: u32) -> u32
     requires { ⌜ part ≤ 4096 ⌝ }
     ensures { λ r. ⌜ r ≡ thousandths part whole ⌝ }
@@ -38,7 +38,16 @@ fn thousandths_of(part: u32, whole: u32) -> u32
     if whole == 0 {
         return 0;
     }
-    1000 * part / whole
+    let parts = 1000 * part;
+    let below = parts / whole;
+    let twice_over = 2 * (parts % whole);
+    if twice_over < whole {
+        return below;
+    }
+    if whole < twice_over {
+        return below + 1;
+    }
+    below + below % 2
 }
 
 // The share of all cabinets whose ring holds an exchange.

@@ -1,5 +1,5 @@
 //! Two journals and their joining with all answers, worked out by hand from document 02's ninth request: those
-//! of the first and of the second alone, and those of the whole.
+//! of the first and of the second alone, and those of the whole. Shares are rounded as its tenth has it.
 
 use super::case::{Couple, Joining};
 use crate::cases::{one_of, unhex, Case, OneOf};
@@ -21,7 +21,7 @@ struct History {
 /// The first span of three cabinets.
 const FIRST: Line = ("02 0000 0001", "82 0000 0000 0001 01 0001 0000");
 
-const HISTORIES: [History; 4] = [
+const HISTORIES: [History; 5] = [
     // The whole has five cabinets, of which the exchange feeds one, and then the two of its ring.
     History {
         label: "every command in the second",
@@ -64,7 +64,8 @@ const HISTORIES: [History; 4] = [
         ],
         seams: &[([2, 1, 4], ("0B 0002 0004 0004", "82 0003 0003 0001 01 0002 0003"))],
     },
-    // The first has an exchange: of three, five and six cabinets it feeds one.
+    // The first has an exchange: of three, five and six cabinets it feeds one, 333.3 down to 333, 200, and
+    // 166.7 up to 167.
     History {
         label: "0F, 05 without a mesh and 0E without a length in the second",
         first: &[("01", "81 0000"), ("01", "81 0001"), ("01", "81 0002"), FIRST, ("09 0000", "89")],
@@ -83,7 +84,7 @@ const HISTORIES: [History; 4] = [
             ["0F", "8F 0000", "0F", "8F 00C8"],
             ["01", "81 0002", "01", "81 0005"],
             ["05 0002 0000", "85 00 0000", "05 0005 0003", "85 00 0000"],
-            ["0F", "8F 0000", "0F", "8F 00A6"],
+            ["0F", "8F 0000", "0F", "8F 00A7"],
         ],
         seams: &[([0, 2, 1], ("0B 0000 0005 0001", "82 0002 0002 0001 01 0005 0000"))],
     },
@@ -161,6 +162,44 @@ const HISTORIES: [History; 4] = [
             ["04 0002", "84 0000 0003", "04 0004", "84 0002 0003"],
         ],
         seams: &[],
+    },
+    // Five cabinets and eleven are sixteen, of which each is 62.5. With the first's exchange there are 1 to 5
+    // fed: 62.5 down to 62, 125, 187.5 up to 188, 250, and 312.5 down to 312. Of eleven each is 90.9: 90.9 up to
+    // 91, 181.8 up to 182, 272.7 up to 273, and 363.6 up to 364.
+    History {
+        label: "shares over both that are exact halves",
+        first: &[
+            ("01", "81 0000"),
+            ("01", "81 0001"),
+            ("01", "81 0002"),
+            ("01", "81 0003"),
+            ("01", "81 0004"),
+            ("09 0004", "89"),
+            ("0F", "8F 00C8"),
+        ],
+        second: &[
+            ["01", "81 0000", "01", "81 0005"],
+            ["01", "81 0001", "01", "81 0006"],
+            ["01", "81 0002", "01", "81 0007"],
+            ["01", "81 0003", "01", "81 0008"],
+            ["01", "81 0004", "01", "81 0009"],
+            ["01", "81 0005", "01", "81 000A"],
+            ["01", "81 0006", "01", "81 000B"],
+            ["01", "81 0007", "01", "81 000C"],
+            ["01", "81 0008", "01", "81 000D"],
+            ["01", "81 0009", "01", "81 000E"],
+            ["01", "81 000A", "01", "81 000F"],
+            ["0F", "8F 0000", "0F", "8F 003E"],
+            ["09 0000", "89", "09 0005", "89"],
+            ["0F", "8F 005B", "0F", "8F 007D"],
+            ["09 000A", "89", "09 000F", "89"],
+            ["0F", "8F 00B6", "0F", "8F 00BC"],
+            ["09 0004", "89", "09 0009", "89"],
+            ["0F", "8F 0111", "0F", "8F 00FA"],
+            ["09 0007", "89", "09 000C", "89"],
+            ["0F", "8F 016C", "0F", "8F 0138"],
+        ],
+        seams: &[([4, 10, 1], ("0B 0004 000F 0001", "82 0000 0000 0001 01 000F 0004"))],
     },
 ];
 

@@ -10,6 +10,8 @@ pub struct Marks {
     marked: BTreeSet<usize>,
     /// The accepted 09 commands.
     accepted: usize,
+    /// How often a share was an exact half that went down, and how often one that went up.
+    pub halves: [usize; 2],
 }
 
 impl Marks {
@@ -31,6 +33,7 @@ impl Marks {
             }
             (Command::Share, Answer::Share(thousandths)) => {
                 let fed = rings.iter().filter(|&&ring| counts[ring] > 0).count();
+                self.count_half(*thousandths, fed, rings.len());
                 check_share(*thousandths, fed, rings.len())
             }
             (Command::Mark(_), Answer::Marked) => Ok(()),
@@ -55,6 +58,14 @@ impl Marks {
         }
         Ok(counts)
     }
+
+    /// Counts a share that is just half a thousandth off.
+    fn count_half(&mut self, thousandths: usize, fed: usize, cabinets: usize) {
+        let (told, exact) = (thousandths * cabinets, 1000 * fed);
+        if told != exact && 2 * told.abs_diff(exact) == cabinets {
+            self.halves[usize::from(told > exact)] += 1;
+        }
+    }
 }
 
 fn check_fed(byte: u8, cabinet: usize, exchanges: usize) -> Result<(), String> {
@@ -64,13 +75,19 @@ fn check_fed(byte: u8, cabinet: usize, exchanges: usize) -> Result<(), String> {
     Ok(())
 }
 
-/// A share is right if no more thousandths are within it, and 0 for an empty network.
 fn check_share(thousandths: usize, fed: usize, cabinets: usize) -> Result<(), String> {
-    let within = thousandths * cabinets <= 1000 * fed;
-    let most = 1000 * fed < (thousandths + 1) * cabinets;
-    let right = if cabinets == 0 { thousandths == 0 } else { within && most };
-    if !right {
+    if !is_share(thousandths, fed, cabinets) {
         return Err(format!("0F answers {thousandths}, {fed} of {cabinets} cabinets are fed"));
     }
     Ok(())
+}
+
+/// A share is right if it is less than half a thousandth off, or just half of one and even; for an empty
+/// network it is 0.
+pub fn is_share(thousandths: usize, fed: usize, cabinets: usize) -> bool {
+    let off = (thousandths * cabinets).abs_diff(1000 * fed);
+    match cabinets {
+        0 => thousandths == 0,
+        _ => 2 * off < cabinets || (2 * off == cabinets && thousandths.is_multiple_of(2)),
+    }
 }

@@ -1,8 +1,9 @@
 //! The exchanges of document 02's second request: the cabinets that 09 has marked, and which rings
-//! they stand in. Every question counts them anew.
+//! they stand in. Every question counts them anew. Shares are rounded as its tenth request has it.
 
 use super::groups::Labels;
 use crate::kinds::ByKind;
+use std::cmp::Ordering;
 
 /// A fault put in on purpose, to see that it is found.
 #[derive(Clone, Copy, PartialEq, Eq, Debug)]
@@ -19,6 +20,14 @@ pub enum Misfeed {
     ShareAmongExchanges,
     /// The share is rounded up.
     RoundedUp,
+    /// The share is rounded down.
+    RoundedDown,
+    /// The share is rounded to the nearest thousandth, an exact half up.
+    HalvesUp,
+    /// The same, an exact half down.
+    HalvesDown,
+    /// The same, an exact half to the odd one.
+    HalvesToOdd,
     /// A cabinet may be marked twice.
     MarkedTwice,
 }
@@ -90,8 +99,7 @@ impl Exchanges {
             }
             Misfeed::ShareOfExchanges => thousandths(marked, whole.len()),
             Misfeed::ShareAmongExchanges => thousandths(marked, marked),
-            Misfeed::RoundedUp => (1000 * part.count()).div_ceil(whole.len().max(1)),
-            _ => thousandths(part.count(), whole.len()),
+            _ => misrounded(fault, part.count(), whole.len()),
         }
     }
 }
@@ -105,7 +113,31 @@ pub fn counts(rings: &Labels, exchanges: &[usize]) -> Vec<usize> {
     counts
 }
 
-/// So many of so many in thousandths, rounded down; 0 of 0 is 0.
+/// So many of so many in thousandths, rounded to the nearest, an exact half to the even one; 0 of 0 is 0.
 pub fn thousandths(part: usize, whole: usize) -> usize {
-    (1000 * part).checked_div(whole).unwrap_or(0)
+    if whole == 0 {
+        return 0;
+    }
+    let (below, rest) = (1000 * part / whole, 1000 * part % whole);
+    match (2 * rest).cmp(&whole) {
+        Ordering::Less => below,
+        Ordering::Equal => below + below % 2,
+        Ordering::Greater => below + 1,
+    }
+}
+
+/// The same with a fault; right where the fault is not in the rounding.
+pub fn misrounded(fault: Misfeed, part: usize, whole: usize) -> usize {
+    let right = thousandths(part, whole);
+    let down = (1000 * part).checked_div(whole).unwrap_or(0);
+    let up = (1000 * part).div_ceil(whole.max(1));
+    let is_half = down < up && 2000 * part == (down + up) * whole;
+    match fault {
+        Misfeed::RoundedUp => up,
+        Misfeed::RoundedDown => down,
+        Misfeed::HalvesUp if is_half => up,
+        Misfeed::HalvesDown if is_half => down,
+        Misfeed::HalvesToOdd if is_half => down + up - right,
+        _ => right,
+    }
 }
