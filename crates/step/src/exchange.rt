@@ -41,13 +41,12 @@ fn thousandths_of(part: u32, whole: u32) -> u32
     let parts = 1000 * part;
     let below = parts / whole;
     let twice_over = 2 * (parts % whole);
-    if twice_over < whole {
-        return below;
-    }
-    if whole < twice_over {
-        return below + 1;
-    }
-    below + below % 2
+    let up = if twice_over == whole {
+        below % 2
+    } else {
+        (whole < twice_over) as u32
+    };
+    below + up
 }
 
 // The share of all cabinets whose ring holds an exchange.

@@ -1,9 +1,10 @@
 -- `exchange::thousandths_of` gives the share of a part in a whole, rounded to the nearest thousandth, an exact half to the even one.
-use Prim.Native.Nat.{_*_, _<_}
-use native.Mathlib.Nat.{div-le-self, mod-le}
+use mathlib.Core.Logic.{⊎-elim}
+use Prim.Native.Nat.{_+_, _*_, _/_, _<_}
+use native.Mathlib.Nat.{mod-le}
 use native.Mathlib.Omega.{arith}
-use Rattle.commands.proofs.Thousandths.{below-nearest, next-nearest, even-nearest, share-of-nothing}
-use Rattle.step.proofs.Exchanges.{nearest-is-share}
+use Rattle.commands.proofs.Thousandths.{Nearest, share-of-nothing}
+use Rattle.step.proofs.Exchanges.{half-goes-up, rest-goes-up, few-nearest, nearest-is-share}
 use borrow.Author.Needs.{needs}
 use Rattle.step.proofs.exchange.thousandths_of.Statement.{statement}
 use Rattle.step.proofs.exchange.thousandths_of.Tie as tie
@@ -25,36 +26,29 @@ mul-twice-over c =
     let s = c .before in
     omega (arith, s .pre, mod-le (1000 * s .args .part) (s .args .whole))
 
-returns-2 : tie.Need-returns-2
-returns-2 c =
-    let s = c .before .before in
-    let some : 0 < s .args .whole = omega (arith, c .before .if1 .left) in
-    nearest-is-share _ _ _ _ some (below-nearest (s .args .part) (s .args .whole) some (omega (arith, c .if2 .taken))) (omega arith)
+cast-up : tie.Need-cast-up
+cast-up c = search needs
+
+-- behind both ways to what goes up
+module _ (j : tie.Joined2) where
+  not-nothing : 0 < j .before .before .args .whole
+  not-nothing = omega (arith, j .before .if1 .left)
+
+  is-nearest : Nearest
+      (j .before .before .args .part)
+      (j .before .before .args .whole)
+      (1000 * j .before .before .args .part / j .before .before .args .whole + j .if2 .up)
+  is-nearest =
+      ⊎-elim
+      (λ came. half-goes-up _ _ _ not-nothing (omega (arith, came .0 .taken)) (omega (arith, came .1)))
+      (λ came. rest-goes-up _ _ _ not-nothing (λ half. came .0 .left (omega (arith, half))) (omega (arith, came .1)))
+      (j .if2 .came)
 
 add-result : tie.Need-add-result
-add-result c =
-    let s = c .before .before .before in
-    omega (arith, s .pre, div-le-self (1000 * s .args .part) (s .args .whole))
+add-result c = omega (arith, c .before .before .before .pre, few-nearest _ _ _ (not-nothing (c .before)) (is-nearest (c .before)))
 
-returns-3 : tie.Need-returns-3
-returns-3 c =
-    let s = c .before .before .before in
-    let some : 0 < s .args .whole = omega (arith, c .before .before .if1 .left) in
-    nearest-is-share _ _ _ _ some (next-nearest (s .args .part) (s .args .whole) some (omega (arith, c .if3 .taken))) (omega arith)
-
-add-result-2 : tie.Need-add-result-2
-add-result-2 c =
-    let s = c .before .before .before in
-    omega (arith, s .pre, div-le-self (1000 * s .args .part) (s .args .whole))
-
-returns-4 : tie.Need-returns-4
-returns-4 c =
-    let s = c .before .before .before in
-    let some : 0 < s .args .whole = omega (arith, c .before .before .if1 .left) in
-    let half = even-nearest (s .args .part) (s .args .whole) some (omega (arith, c .before .if2 .left, c .if3 .left)) in
-    nearest-is-share _ _ _ _ some half (omega arith)
+returns-2 : tie.Need-returns-2
+returns-2 c = nearest-is-share _ _ _ _ (not-nothing (c .before)) (is-nearest (c .before)) (omega arith)
 
 pub thousandths-of-spec : {M : Type 1} → statement M
-thousandths-of-spec =
-    tie.close
-    (tie.spec returns mul-parts div-below rem-twice-over mul-twice-over returns-2 add-result returns-3 add-result-2 returns-4)
+thousandths-of-spec = tie.close (tie.spec returns mul-parts div-below rem-twice-over mul-twice-over cast-up add-result returns-2)
