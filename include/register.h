@@ -3,11 +3,12 @@
  *
  * Link with libjournal.a. One call of register_run runs one journal from an empty network, with
  * buffers that the caller lends for the time of the call. A call of register_forecast before it gives
- * a length of the answer buffer that suffices. A call of register_rewrite turns a journal of the old
- * reading, by which spans from 02 have no mates, into one that a run answers as that reading does. A call
- * of register_join makes one journal of two, with spans between their networks. Nothing is kept between
- * calls. Wherever a journal or an answer has a number in two bytes, the high byte comes first. The
- * header is for C from C11 and for C++ from C++11 on.
+ * a length of the answer buffer that suffices, from the journal alone. A call of register_forecast_exact
+ * gives the length that is taken, to the byte, by a run without answers. A call of register_rewrite turns
+ * a journal of the old reading, by which spans from 02 have no mates, into one that a run answers as that
+ * reading does. A call of register_join makes one journal of two, with spans between their networks.
+ * Nothing is kept between calls. Wherever a journal or an answer has a number in two bytes, the high byte
+ * comes first. The header is for C from C11 and for C++ from C++11 on.
  */
 #ifndef REGISTER_H
 #define REGISTER_H
@@ -44,18 +45,21 @@ enum {
     REGISTER_REPORT_SPANS = 5     /* spans present */
 };
 
-/* The returned numbers. A run knows those up to 14, a forecast 0, 3, 4 and 5, a rewriting 0, 3, 4, 5,
-   15 and 16, and a joining 0, 2, 17, 18 and 19. The causes are tested in the order in which they stand
-   here: first those at the start, then for each command those at a command, and once all commands are
-   read those of a rewriting or of a joining. The first that applies is returned. A joining has the one
-   number 17 for every cause for which a run refuses one of its journals. */
+/* The returned numbers. A run knows those up to 14, a forecast 0, 3, 4 and 5, a forecast to the byte
+   those up to 14 but for 11, a rewriting 0, 3, 4, 5, 15 and 16, and a joining 0, 2, 17, 18 and 19. The
+   causes are tested in the order in which they stand here: first those at the start, then for each
+   command those at a command, and once all commands are read those of a rewriting or of a joining. The
+   first that applies is returned. A joining has the one number 17 for every cause for which a run refuses
+   one of its journals. */
 enum {
     REGISTER_ACCEPTED = 0,
-    /* Refused at the start. From a run: only the number is returned, all buffers are as before. */
+    /* Refused at the start. From a run: only the number is returned, all buffers are as before. From a
+       forecast of either kind: place and length are 0, and a working table is as before. */
     REGISTER_BAD_CAPACITY = 1, /* c not from 1 to 4,096, or s not from 1 to 8,192 */
     REGISTER_SHORT_BUFFER = 2, /* working table too short, or report of a run too short */
     REGISTER_LONG_JOURNAL = 3, /* journal longer than 65,536 bytes */
-    /* Stopped at a command. From a run: the report is filled, the answers before it stand. */
+    /* Stopped at a command. From a run: the report is filled, the answers before it stand. From a
+       forecast of either kind: the place is the command's, and the length is 0. */
     REGISTER_BAD_COMMAND = 4,       /* a byte that is no command's: not 01 to 0F */
     REGISTER_CUT_OFF = 5,           /* operands cut off by the journal's end */
     REGISTER_UNKNOWN_CABINET = 6,   /* a cabinet number not yet given */
@@ -126,7 +130,8 @@ enum {
  * the same journal gives the same pair whatever the length of the answer buffer, and a 0C is refused
  * with REGISTER_NO_ROOM exactly if this pair does not fit, though a shorter one might. All else that a
  * run returns and leaves in its buffers is settled by its input and by these pairs: their lengths
- * decide where later answers stand, what the report counts, and whether there is room.
+ * decide where later answers stand, what the report counts, what is forecast to the byte, and whether
+ * there is room.
  */
 
 /*
@@ -209,7 +214,8 @@ uint32_t register_run(uint32_t c, uint32_t s,
  *
  * The length is generous: it goes by how many commands there are of each kind, and a run mostly takes
  * far less. It always fits 32 bits; for a long journal with many questions 07 it can be more than four
- * hundred million bytes, with many 06 or 0C nearly ninety million.
+ * hundred million bytes, with many 06 or 0C nearly ninety million. Where that is too much,
+ * register_forecast_exact tells what is taken, at the cost of a run.
  *
  * The journal is read and not run. The first command with an unknown byte or with cut-off operands is
  * refused, even where a run would stop earlier for another cause. A journal that is accepted here may
@@ -229,6 +235,69 @@ uint32_t register_run(uint32_t c, uint32_t s,
  */
 uint32_t register_forecast(const uint8_t *journal, size_t journal_len,
                            uint32_t *place, uint32_t *length);
+
+/*
+ * Forecasts the length of the answers to the byte: runs the journal with these capacities as if the
+ * answer buffer were ample, and writes no answer.
+ *
+ * c, s      The capacities, as for a run.
+ * journal   The commands, journal_len bytes. It is only read.
+ * work      The working table, work_len numbers of 32 bits, at least REGISTER_WORK(c, s). It may
+ *           hold anything before the call. If refused at the start, all of it is as before; on every
+ *           other return, accepted or refused, its first REGISTER_WORK(c, s) numbers are 0. Those
+ *           beyond never change.
+ * place     Filled on every return: the journal's length if it is accepted, 0 for 1, 2 and 3, and the
+ *           refused command's first byte for every other number.
+ * length    Filled on every return: how many bytes the answers have if the journal is accepted, and 0 if
+ *           it is refused.
+ *
+ * journal_len counts bytes, work_len numbers. The pointers of journal and work must be good for their
+ * lengths; a null pointer is allowed where that is 0. place and length must be good. work, place and
+ * length must be aligned for uint32_t. No two of the four may overlap. All but the journal may hold
+ * anything before the call. Nothing else is written.
+ *
+ * Where 0 is returned, *length is just what a run takes with the same c, s and journal, with any working
+ * table of at least REGISTER_WORK(c, s) numbers and any report of at least REGISTER_REPORT: with an answer
+ * buffer of *length bytes or more it is accepted, and writes *length of them; with fewer it returns
+ * REGISTER_NO_ROOM. The table that was lent here can be lent there:
+ *
+ *     uint32_t place, length;
+ *     if (register_forecast_exact(c, s, journal, journal_len, work, work_len, &place, &length)
+ *         == REGISTER_ACCEPTED) {
+ *         uint8_t *answers = malloc(length);
+ *         if (answers != NULL || length == 0)
+ *             number = register_run(c, s, journal, journal_len, work, work_len, answers, length,
+ *                                   report, report_len);
+ *     }
+ *
+ * The length is at most the one that register_forecast gives, which accepts the journal too. The call runs
+ * the journal, all but the writing of the answers, and costs as much: register_forecast is for when it is
+ * not to be run, or the capacities are not known.
+ *
+ * For 0C the routes are counted that a run gives. As another version of the library may give others, the
+ * length is good for runs of this version and not of another: forecast it anew, and do not store it.
+ *
+ * Where another number is returned, a run with the same c, s and journal, with such a table and report and
+ * with ample answer room, returns the same number, and from 4 on reports the same place; but 2 says only
+ * that this table is too short. REGISTER_NO_ROOM is never returned.
+ *
+ * From 4 on, the journal's first *place bytes are the commands that such a run accepts, and a second call
+ * with the same c, s and table accepts them. With the length that it gives, such a run of the WHOLE journal
+ * returns the number of the first call, and all answers before the refused command are written. So for
+ * these:
+ *
+ *     number = register_forecast_exact(c, s, journal, journal_len, work, work_len, &place, &length);
+ *     if (number > REGISTER_LONG_JOURNAL)
+ *         register_forecast_exact(c, s, journal, place, work, work_len, &place, &length);
+ *
+ * REGISTER_STACK bytes of stack must be there.
+ *
+ * Returns 0 if the journal is accepted, else the number of the refusal, 1 to 10 or 12 to 14.
+ */
+uint32_t register_forecast_exact(uint32_t c, uint32_t s,
+                                 const uint8_t *journal, size_t journal_len,
+                                 uint32_t *work, size_t work_len,
+                                 uint32_t *place, uint32_t *length);
 
 /*
  * Rewrites a journal of the old reading, by which a span from 02 has no mate. Each 02 a b becomes
@@ -252,12 +321,13 @@ uint32_t register_forecast(const uint8_t *journal, size_t journal_len,
  * the journal: command by command the answers are the same, byte for byte, but for 0C, where any pair of
  * routes that serves in the one serves in the other; and the same refusal comes, if any, at the command
  * that corresponds. In the result this command stands two bytes later for each 02 before it. The length
- * that is forecast for the journal is the one that is forecast for the result, and it is ample room for
- * both.
+ * that register_forecast gives for the journal is the one that it gives for the result, and it is ample
+ * room for both. register_forecast_exact knows nothing of the old reading: for what is taken, forecast the
+ * result by it and not the journal.
  *
- * The journal is read as by a forecast, and not run: a span's number is the count of 02 before it, also
- * where a run would stop earlier. The first command with an unknown byte or with cut-off operands is
- * refused with 4 or 5, also behind a 0B. Where all can be read, a journal with a 0B is refused with 15:
+ * The journal is read as by register_forecast, and not run: a span's number is the count of 02 before
+ * it, also where a run would stop earlier. The first command with an unknown byte or with cut-off operands
+ * is refused with 4 or 5, also behind a 0B. Where all can be read, a journal with a 0B is refused with 15:
  * it tells ducts itself. So a result with a span in it is never rewritten a second time. Where there is
  * no 0B, 16 is returned if the result is longer than REGISTER_LONGEST_JOURNAL or than out_len.
  *
@@ -330,9 +400,9 @@ _Static_assert(sizeof(struct register_seam) == 6 && _Alignof(struct register_sea
  *
  * 2         The working table is too short.
  * 17        A run with capacities 4,096 and 8,192 and ample answer room refuses the first journal or the
- *           second, for whatever cause; so also where one is longer than REGISTER_LONGEST_JOURNAL. Such a
- *           run of each tells which one it is and why, and where, unless it is too long (its answer room
- *           by register_forecast, for a damaged journal by the second call told of there).
+ *           second, for whatever cause; so also where one is longer than REGISTER_LONGEST_JOURNAL. A call
+ *           of register_forecast_exact for each, with these capacities and the same table, tells which one
+ *           it is and why, and where, unless it is too long.
  * 18        Some seam names a cabinet that its journal does not have, or duct 0. A journal with n cabinets
  *           has those from 0 to n - 1. All seams are looked at.
  * 19        The result is longer than REGISTER_LONGEST_JOURNAL or than out_len.
@@ -352,7 +422,7 @@ _Static_assert(sizeof(struct register_seam) == 6 && _Alignof(struct register_sea
  *                               work, work_len, answers, answers_len, report, report_len);
  *
  * Two journals that exceed the capacities only together are joined all the same. With capacities 4,096
- * and 8,192 and ample answer room, which a forecast of the result tells, a run of the result accepts it
+ * and 8,192 and ample answer room, which register_forecast tells for it, a run of the result accepts it
  * exactly if the cabinets of both together are at most 4,096 and the spans of both with the seams at most
  * 8,192; else it returns REGISTER_FULL. Where a run with these capacities accepts the result, its answers
  * are, one behind the other:

@@ -9,6 +9,11 @@
  * refused at the start, and cut short. Every buffer has just the length that is told. With the room
  * that is forecast, for the journal or up to its damaged place, no run may return 11.
  *
+ * Forecasts them to the byte too, in working tables of every length around the least, with the same
+ * capacities and with fewer, and what comes before a refused command. What is told must be what the run
+ * in ample room returned, reported and wrote; the working table must be cleared as far as a run takes it,
+ * or as before if the start refused it, and what lies beyond must be as before.
+ *
  * Rewrites them too, and such of the old reading, which have no 0B, with output buffers of every length
  * around the result's. What is returned and written must be what a rewriting by hand gives; what lies
  * behind the result, and the whole output buffer of a journal that is refused, must be as before.
@@ -25,8 +30,8 @@
  * what was never set.
  *
  * However the buffers lie and whatever they hold, the returned number, the report and the answers
- * must be the same, and so must the number, place and length of a forecast, these and the result of a
- * rewriting, and the number, length and result of a joining. Exits with 0 if they are.
+ * must be the same, and so must the number, place and length of a forecast of either kind, these and the
+ * result of a rewriting, and the number, length and result of a joining. Exits with 0 if they are.
  */
 #define _GNU_SOURCE
 #include "register.h"
@@ -42,7 +47,7 @@
 enum { SMALL_CABINETS = 24, SMALL_COMMANDS = 80, MOST_ROOM = 1 << 21, MOST_CUT = 6 };
 enum { LINKS_IN_DUCTS = 1000, AROUND = 8 };
 enum { LONGEST = REGISTER_LONGEST_JOURNAL, TOO_LONG = LONGEST + 1, FAR_TOO_LONG = 2 * LONGEST };
-enum { JOINED_OF = 10, SMALL_SEED = 6, FEW_SEAMS = 4, BEYOND = 5 };
+enum { JOINED_OF = 10, SMALL_SEED = 6, FEW_SEAMS = 4 };
 enum { SEAM = 7, FITTING_SEAMS = LONGEST / SEAM, MOST_SEAMS = 2 * FITTING_SEAMS };
 enum { WHOLE_WORK = REGISTER_WORK(REGISTER_MOST_CABINETS, REGISTER_MOST_SPANS) };
 
@@ -438,7 +443,7 @@ struct outcome {
     int cleared;
 };
 
-static unsigned runs_made, forecasts_made, rewritings_made, joinings_made;
+static unsigned runs_made, forecasts_made, exact_made, rewritings_made, joinings_made;
 
 static uint64_t digest(const uint8_t *answers, size_t length)
 {
@@ -456,6 +461,29 @@ static int is_zero(const uint32_t *numbers, size_t length)
     return 1;
 }
 
+static int all_held(const uint8_t *bytes, size_t length, int held)
+{
+    for (size_t i = 0; i < length; i++)
+        if (bytes[i] != held)
+            return 0;
+    return 1;
+}
+
+/* Is a working table left with so many numbers 0, and those beyond as before? In the heap these are
+   unset. */
+static int is_left(const uint32_t *work, size_t length, size_t taken, enum place at, int held)
+{
+    return is_zero(work, taken)
+        && (at == IN_THE_HEAP
+            || all_held((const uint8_t *)(work + taken), (length - taken) * sizeof *work, held));
+}
+
+/* Did the start let the journal pass? */
+static int is_past_start(uint32_t number)
+{
+    return number == REGISTER_ACCEPTED || number > REGISTER_LONG_JOURNAL;
+}
+
 static struct outcome run(const struct call *call, enum place place, int held)
 {
     struct outcome outcome = {.cleared = 1};
@@ -469,7 +497,7 @@ static struct outcome run(const struct call *call, enum place place, int held)
                                   answers, call->answers, report, call->report);
     allow_journal(PROT_READ | PROT_WRITE);
     runs_made++;
-    if (outcome.number == REGISTER_ACCEPTED || outcome.number > REGISTER_LONG_JOURNAL) {
+    if (is_past_start(outcome.number)) {
         memcpy(outcome.report, report, sizeof outcome.report);
         outcome.answers = digest(answers, report[REGISTER_REPORT_ANSWERS]);
         outcome.cleared = is_zero(work, call->work);
@@ -586,6 +614,123 @@ static int forecast_room(size_t journal_bytes, size_t *room)
         && *room <= MOST_ROOM;
 }
 
+/* ---- Forecasts to the byte ---- */
+
+/* What is told, and whether the working table is as it must be. */
+struct exact {
+    struct forecast told;
+    int left;
+};
+
+/* Forecasts what a call would run; there are neither answers nor a report. */
+static struct exact forecast_exact(const struct call *call, enum place at, int held)
+{
+    struct exact outcome;
+    uint8_t *own_journal = lend(JOURNAL, call->journal, at, held);
+    uint32_t *work = lend(WORK, call->work * sizeof *work, at, held);
+    uint32_t *place = lend(PLACE, sizeof *place, at, held);
+    uint32_t *length = lend(LENGTH, sizeof *length, at, held);
+    memcpy(own_journal, journal, call->journal);
+    allow_journal(PROT_READ);
+    uint32_t number = register_forecast_exact(call->c, call->s, own_journal, call->journal,
+                                              work, call->work, place, length);
+    allow_journal(PROT_READ | PROT_WRITE);
+    exact_made++;
+    outcome.told = (struct forecast){number, *place, *length};
+    outcome.left = is_left(work, call->work, is_past_start(number) ? REGISTER_WORK(call->c, call->s) : 0,
+                           at, held);
+    give_back(at);
+    return outcome;
+}
+
+/* Forecasts with the same places and contents as in runs; each time this must be told. */
+static int tells(const struct call *call, struct forecast wanted)
+{
+    size_t times = fences ? sizeof ways / sizeof ways[0] : 2;
+    for (size_t i = 0; i < times; i++) {
+        struct exact outcome = forecast_exact(call, fences ? ways[i].place : IN_THE_HEAP, ways[i].held);
+        if (!same_forecast(&outcome.told, &wanted) || !outcome.left)
+            return 0;
+    }
+    return 1;
+}
+
+/* The same in no working table, and in one of every length around the least, where this is told once it
+   is long enough. The capacities are good. */
+static int tells_around(struct call call, struct forecast wanted)
+{
+    const struct forecast too_short = {REGISTER_SHORT_BUFFER, 0, 0};
+    size_t least = REGISTER_WORK(call.c, call.s);
+    call.work = 0;
+    if (!tells(&call, too_short))
+        return 0;
+    for (call.work = least - AROUND; call.work <= least + AROUND; call.work++)
+        if (!tells(&call, call.work < least ? too_short : wanted))
+            return 0;
+    return 1;
+}
+
+/* What must be told where a run in ample room gave this outcome: its number and place and, if the journal
+   was accepted, how many bytes the answers have. */
+static struct forecast told_by(const struct outcome *ran)
+{
+    uint32_t written = ran->report[REGISTER_REPORT_ANSWERS];
+    return (struct forecast){ran->number, ran->report[REGISTER_REPORT_PLACE],
+                             ran->number == REGISTER_ACCEPTED ? written : 0};
+}
+
+/* The bytes before the place of such a run are accepted, and as many answer bytes are told as it wrote. */
+static int tells_front(struct call call, const struct outcome *ran)
+{
+    uint32_t place = ran->report[REGISTER_REPORT_PLACE], written = ran->report[REGISTER_REPORT_ANSWERS];
+    call.journal = place;
+    return tells(&call, (struct forecast){REGISTER_ACCEPTED, place, written});
+}
+
+static int tells_as_run(const struct call *call, const struct outcome *ran)
+{
+    return tells(call, told_by(ran)) && tells_front(*call, ran);
+}
+
+/* The same with other capacities, in the same room, which is ample for any. */
+static int tells_with(struct call call, uint32_t c, uint32_t s)
+{
+    struct outcome outcome;
+    call.c = c;
+    call.s = s;
+    call.work = REGISTER_WORK(c, s);
+    return agree(&call, &outcome) && tells_as_run(&call, &outcome);
+}
+
+/* Refused for each cause at the start, where those that come later in order apply too. */
+static int tells_at_start(struct call call)
+{
+    const struct forecast bad = {REGISTER_BAD_CAPACITY, 0, 0}, too_short = {REGISTER_SHORT_BUFFER, 0, 0};
+    const struct forecast too_long = {REGISTER_LONG_JOURNAL, 0, 0};
+    const struct call short_table = {call.c, call.s, TOO_LONG, call.work - 1, 0, 0};
+    const struct call long_journal = {call.c, call.s, TOO_LONG, call.work, 0, 0};
+    const uint32_t capacities[][2] = {
+        {0, call.s}, {REGISTER_MOST_CABINETS + 1, call.s}, {call.c, 0}, {call.c, REGISTER_MOST_SPANS + 1},
+        {UINT32_MAX, call.s}, {call.c, UINT32_MAX}};
+    for (size_t i = 0; i < sizeof capacities / sizeof capacities[0]; i++) {
+        struct call without = short_table;
+        without.c = capacities[i][0];
+        without.s = capacities[i][1];
+        if (!tells(&without, bad))
+            return 0;
+    }
+    return tells(&short_table, too_short) && tells(&long_journal, too_long);
+}
+
+/* Every forecast to the byte of a call that gave this outcome in ample room: also with a cabinet or a span
+   less than the journal has. */
+static int tells_all(struct call call, const struct outcome *ran)
+{
+    return tells_around(call, told_by(ran)) && tells_front(call, ran)
+        && tells_with(call, call.c - 1, call.s)
+        && tells_with(call, call.c, call.s > 1 ? call.s - 1 : 1) && tells_at_start(call);
+}
+
 /* ---- Rewritings ---- */
 
 /* What a rewriting gives: its three numbers, the result in one number, and whether the rest of the output
@@ -595,14 +740,6 @@ struct rewriting {
     uint64_t result;
     int kept;
 };
-
-static int all_held(const uint8_t *bytes, size_t length, int held)
-{
-    for (size_t i = 0; i < length; i++)
-        if (bytes[i] != held)
-            return 0;
-    return 1;
-}
 
 /* In the heap the rest of the output buffer is unset, and not looked at. */
 static struct rewriting rewrite(size_t journal_bytes, size_t room, enum place at, int held)
@@ -726,15 +863,6 @@ struct joining {
     int kept, left;
 };
 
-/* Is the working table as a joining leaves it? In the heap what it must not touch is unset. */
-static int is_left(const uint32_t *work, size_t length, enum place at, int held)
-{
-    size_t taken = length < WHOLE_WORK ? 0 : WHOLE_WORK;
-    return is_zero(work, taken)
-        && (at == IN_THE_HEAP
-            || all_held((const uint8_t *)(work + taken), (length - taken) * sizeof *work, held));
-}
-
 static struct joining join(const struct parts *parts, enum place at, int held)
 {
     struct joining outcome;
@@ -756,7 +884,7 @@ static struct joining join(const struct parts *parts, enum place at, int held)
     size_t written = *length <= parts->room ? *length : 0;
     outcome.result = digest(output, written);
     outcome.kept = at == IN_THE_HEAP || all_held(output + written, parts->room - written, held);
-    outcome.left = is_left(work, parts->work, at, held);
+    outcome.left = is_left(work, parts->work, parts->work < WHOLE_WORK ? 0 : WHOLE_WORK, at, held);
     give_back(at);
     return outcome;
 }
@@ -950,7 +1078,7 @@ static int join_fronts(size_t first_bytes, size_t second_bytes)
     exact.room = exact.first + exact.second + SEAM * exact.seams;
     longer = none = exact;
     longer.room += AROUND;
-    longer.work += BEYOND;
+    longer.work += AROUND;
     none.work = WHOLE_WORK - 1;
     return joins_with(exact.first, exact.second, exact.seams, exact.room, REGISTER_ACCEPTED)
         && result_runs(first, other, exact.seams) && joins(&longer) && joins(&none)
@@ -970,13 +1098,13 @@ static int run_in_forecast_room(size_t journal_bytes, struct call *call, struct 
         && outcome->number != REGISTER_NO_ROOM;
 }
 
-/* The journal with the room that is forecast, with room to the byte, with a byte less, and refused
-   at the start. */
+/* The journal with the room that is forecast, forecast to the byte, with room to the byte, with a byte
+   less, and refused at the start. */
 static int run_journal(void)
 {
     struct call exact, no_room, no_table, no_report, no_cabinets, too_long;
     struct outcome wanted, outcome;
-    if (!run_in_forecast_room(journal_length, &exact, &wanted))
+    if (!run_in_forecast_room(journal_length, &exact, &wanted) || !tells_all(exact, &wanted))
         return 0;
     exact.answers = wanted.report[REGISTER_REPORT_ANSWERS];
     no_room = no_table = no_report = no_cabinets = too_long = exact;
@@ -996,7 +1124,8 @@ static int run_cut_short(void)
 {
     struct call call;
     struct outcome outcome;
-    return run_in_forecast_room(journal_length - 1 - journal_number % MOST_CUT, &call, &outcome);
+    return run_in_forecast_room(journal_length - 1 - journal_number % MOST_CUT, &call, &outcome)
+        && tells_as_run(&call, &outcome);
 }
 
 /* The longest journals of questions about names and sizes, 5 bytes for each answer. */
@@ -1048,6 +1177,53 @@ static int forecast_longest(void)
         return 0;
     journal[LONGEST - 1] = 0xFF;
     return forecasts(LONGEST, unknown) && forecasts(TOO_LONG, too_long);
+}
+
+/* Forecasts so many bytes of the journal to the byte, with the greatest capacities and a working table to
+   the number. */
+static int tells_of(size_t journal_bytes, struct forecast wanted)
+{
+    const struct call call = {.c = REGISTER_MOST_CABINETS, .s = REGISTER_MOST_SPANS,
+                              .journal = journal_bytes, .work = WHOLE_WORK};
+    return tells(&call, wanted);
+}
+
+/* The longest journals of one command alone, damaged in the last byte, and longer ones. */
+static int exact_longest(void)
+{
+    const struct forecast shares = {REGISTER_ACCEPTED, LONGEST, 196608};
+    const struct forecast cut_off = {REGISTER_CUT_OFF, LONGEST - 1, 0};
+    const struct forecast unknown = {REGISTER_BAD_COMMAND, LONGEST - 1, 0};
+    const struct forecast too_long = {REGISTER_LONG_JOURNAL, 0, 0};
+    const struct forecast all = {REGISTER_ACCEPTED, REGISTER_MOST_CABINETS, 3 * REGISTER_MOST_CABINETS};
+    const struct forecast full = {REGISTER_FULL, REGISTER_MOST_CABINETS, 0};
+    memset(journal, 0x0F, sizeof journal);
+    if (!tells_of(LONGEST, shares) || !tells_of(TOO_LONG, too_long) || !tells_of(FAR_TOO_LONG, too_long))
+        return 0;
+    journal[LONGEST - 1] = 0x0C;
+    if (!tells_of(LONGEST, cut_off) || !tells_of(TOO_LONG, too_long))
+        return 0;
+    journal[LONGEST - 1] = 0x10;
+    if (!tells_of(LONGEST, unknown))
+        return 0;
+    memset(journal, 0x01, sizeof journal);
+    return tells_of(REGISTER_MOST_CABINETS, all) && tells_of(LONGEST, full)
+        && tells_of(TOO_LONG, too_long);
+}
+
+/* Where there is nothing, null pointers will do: no journal has no answers, and no working table is too
+   short a one. */
+static int exact_nothing(void)
+{
+    enum { LEAST = REGISTER_WORK(1, 1), LONGER = LEAST + AROUND };
+    uint32_t work[LONGER];
+    struct forecast none = {1, 1, 1}, no_table = {1, 1, 1};
+    memset(work, 0xFF, sizeof work);
+    none.number = register_forecast_exact(1, 1, NULL, 0, work, LONGER, &none.place, &none.length);
+    no_table.number = register_forecast_exact(1, 1, NULL, 0, NULL, 0, &no_table.place, &no_table.length);
+    return same_forecast(&none, &(struct forecast){REGISTER_ACCEPTED, 0, 0})
+        && same_forecast(&no_table, &(struct forecast){REGISTER_SHORT_BUFFER, 0, 0})
+        && is_left(work, LONGER, LEAST, AT_THE_START, 0xFF);
 }
 
 /* Results as long as a journal may be, of cabinets alone and of spans; and one byte longer. */
@@ -1112,7 +1288,7 @@ static int join_small(void)
     small_journal(journal_number + 1);
     size_t second_length = make_second();
     small_journal(journal_number);
-    const struct parts whole = {journal_length, second_length, 0, WHOLE_WORK + BEYOND,
+    const struct parts whole = {journal_length, second_length, 0, WHOLE_WORK + AROUND,
                                 journal_length + second_length};
     return joins(&whole) && join_fronts(journal_length, second_length);
 }
@@ -1229,14 +1405,15 @@ static int run_all(unsigned journals)
     }
     large_journal();
     return run_journal() && run_cut_short() && rewrite_around(journal_length) && forecast_names()
-        && forecast_longest() && rewrite_longest() && rewrite_told() && join_largest();
+        && forecast_longest() && exact_longest() && exact_nothing() && rewrite_longest() && rewrite_told()
+        && join_largest();
 }
 
 static int make_all_pages(void)
 {
     return make_pages(JOURNAL, sizeof journal) && make_pages(SECOND, sizeof second)
         && make_pages(SEAMS, sizeof seams)
-        && make_pages(WORK, (WHOLE_WORK + BEYOND) * sizeof(uint32_t))
+        && make_pages(WORK, (WHOLE_WORK + AROUND) * sizeof(uint32_t))
         && make_pages(ANSWERS, MOST_ROOM) && make_pages(REPORT, REGISTER_REPORT * sizeof(uint32_t))
         && make_pages(OUTPUT, FAR_TOO_LONG) && make_pages(PLACE, sizeof(uint32_t))
         && make_pages(LENGTH, sizeof(uint32_t));
@@ -1269,8 +1446,8 @@ int main(int count, char **words)
         printf("journal %u: the outcomes differ, or are not what they must be\n", journal_number);
         return 1;
     }
-    printf("%u journals, %u runs, %u forecasts, %u rewritings and %u joinings %s: no touch beyond the "
-           "buffers, all outcomes agree\n", journals + 1, runs_made, forecasts_made, rewritings_made,
-           joinings_made, fences ? "between fences" : "in the heap");
+    printf("%u journals, %u runs, %u forecasts, %u to the byte, %u rewritings and %u joinings %s: "
+           "no touch beyond the buffers, all outcomes agree\n", journals + 1, runs_made, forecasts_made,
+           exact_made, rewritings_made, joinings_made, fences ? "between fences" : "in the heap");
     return 0;
 }

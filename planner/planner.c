@@ -1,10 +1,12 @@
 /*
- * A small shift planner. It writes a journal, sets aside as much room for the answers as the register
- * forecasts, has the journal run by the register in one call with its own buffers, and reads the
- * answers. It keeps a name for each cabinet and span from the notices alone, a mark for each exchange
+ * A small shift planner. It writes a journal, sets aside just as much room for the answers as the
+ * register forecasts to the byte, has the journal run by the register in one call with its own buffers,
+ * and reads the answers. Each run must take all of the room, end where it was forecast, and find no room
+ * in a byte less. Where a journal is refused, the room is that for the answers before the refused
+ * command. It keeps a name for each cabinet and span from the notices alone, a mark for each exchange
  * that it entered (09), the spans that it entered (02 and 0B), and the lengths that were measured (0D).
- * It holds each name that it asked for (03, 04 and 05) against its own, each size (03 and 04) against how
- * many cabinets bear the name in its own list, the sizes of the rings of each district against the
+ * It holds each name that it asked for (03, 04 and 05) against its own, each size (03 and 04) against
+ * how many cabinets bear the name in its own list, the sizes of the rings of each district against the
  * district's, each new number against the next one, what is answered about exchanges (0A and 0F) against
  * its own marks and ring names, what is answered about sole spans (06 and 08) against its own spans and
  * ring names, and the length of each span (0E) against its own records, and follows each two routes that
@@ -15,7 +17,8 @@
  * first, among equals the least name. It prints the queue whenever it is another than before.
  *
  * Then it takes a small journal of a branch on the old reading, by which spans from 02 have no mates. It
- * runs it as it stands, has it rewritten, runs the result, and prints what each of the two runs tells.
+ * runs it as it stands, where it is refused in the end, has it rewritten, runs the result, and then the
+ * result without its last byte, and prints what each of the three runs tells.
  *
  * Last it takes the journals of two cooperatives that unite. It runs each, has them joined by two seams,
  * and runs the result. Before the seams it holds its name list against the lists of both, the second's
@@ -23,8 +26,8 @@
  * raised, and of all behind the seams; there it goes on with the result as with any journal, and asks
  * about all of it.
  *
- * It exits with 1 if any two differ, a route does not serve, or a run, a rewriting or a joining does not
- * return what it must.
+ * It exits with 1 if any two differ, a route does not serve, or a forecast, a run, a rewriting or a
+ * joining does not return what it must.
  */
 #include "register.h"
 
@@ -273,13 +276,54 @@ static void write_journal(unsigned villages)
 
 /* ---- Having it run ---- */
 
-/* Sets aside the answer buffer with the length that is forecast for the journal; 0 if it cannot. */
-static int make_room(void)
+/* A length that suffices whatever the capacities; and where the forecast to the byte ends: at the
+   journal's end, or at the refused command. */
+static uint32_t sufficient_length, forecast_place;
+
+/* The first forecast: of the journal or, where it is damaged, of what comes before; 0 if there is none. */
+static int forecast_sufficient(void)
 {
     uint32_t place;
-    uint32_t number = register_forecast(journal, journal_length, &place, &answers_length);
-    if (number != REGISTER_ACCEPTED) {
+    uint32_t number = register_forecast(journal, journal_length, &place, &sufficient_length);
+    if (number == REGISTER_BAD_COMMAND || number == REGISTER_CUT_OFF)
+        number = register_forecast(journal, place, &place, &sufficient_length);
+    if (number != REGISTER_ACCEPTED)
         printf("no forecast: %u at byte %u\n", (unsigned)number, (unsigned)place);
+    return number == REGISTER_ACCEPTED;
+}
+
+/* Forecasts so many bytes of the journal to the byte; 0 if another number than this is returned, or place
+   and length are not those of it. */
+static int forecast_bytes(uint32_t c, uint32_t s, size_t bytes, uint32_t *place, uint32_t wanted)
+{
+    uint32_t number = register_forecast_exact(c, s, journal, bytes, work, sizeof work / sizeof work[0],
+                                              place, &answers_length);
+    int good = number == wanted && (number == REGISTER_ACCEPTED ? *place == bytes : answers_length == 0);
+    if (!good)
+        printf("%zu bytes forecast to the byte: %u at byte %u with length %u, wanted %u\n", bytes,
+               (unsigned)number, (unsigned)*place, (unsigned)answers_length, (unsigned)wanted);
+    return good;
+}
+
+/* Forecasts to the byte what a run takes that returns this number. Of a journal that is refused, the bytes
+   before the refused command are forecast once more, and are accepted. */
+static int forecast_exact(uint32_t c, uint32_t s, uint32_t wanted)
+{
+    uint32_t end;
+    return forecast_bytes(c, s, journal_length, &forecast_place, wanted)
+        && (wanted == REGISTER_ACCEPTED
+            || forecast_bytes(c, s, forecast_place, &end, REGISTER_ACCEPTED));
+}
+
+/* Sets aside the answer buffer with the length that is forecast to the byte, which is never more than the
+   sufficient one; 0 if it cannot, or another number than this is forecast. */
+static int make_room(uint32_t c, uint32_t s, uint32_t wanted)
+{
+    if (!forecast_sufficient() || !forecast_exact(c, s, wanted))
+        return 0;
+    if (answers_length > sufficient_length) {
+        printf("%u bytes are forecast, and to the byte %u\n", (unsigned)sufficient_length,
+               (unsigned)answers_length);
         return 0;
     }
     /* For length 0 a null pointer may come, and will do. */
@@ -291,20 +335,40 @@ static int make_room(void)
     return 1;
 }
 
-/* Runs the journal with these capacities; 0 if another number than this is returned. For want of room it
-   is never refused. */
+/* Runs the journal in so many bytes of the answer buffer. */
+static uint32_t run_in(uint32_t c, uint32_t s, uint32_t room)
+{
+    return register_run(c, s, journal, journal_length, work, sizeof work / sizeof work[0],
+                        answers, room, report, sizeof report / sizeof report[0]);
+}
+
+/* Did the last run end where it was forecast, and take all of the room? */
+static int ends_as_forecast(void)
+{
+    uint32_t place = report[REGISTER_REPORT_PLACE], taken = report[REGISTER_REPORT_ANSWERS];
+    if (place != forecast_place || taken != answers_length)
+        printf("ended at byte %u with %u bytes of answers, forecast were byte %u and %u\n",
+               (unsigned)place, (unsigned)taken, (unsigned)forecast_place, (unsigned)answers_length);
+    return place == forecast_place && taken == answers_length;
+}
+
+/* Sets aside the room and runs the journal with these capacities, first in a byte less, where it finds no
+   room; 0 if another number than this is returned, or anything is not as it was forecast. */
 static int run_journal(uint32_t c, uint32_t s, uint32_t wanted)
 {
-    uint32_t number = register_run(c, s, journal, journal_length,
-                                   work, sizeof work / sizeof work[0],
-                                   answers, answers_length,
-                                   report, sizeof report / sizeof report[0]);
+    if (!make_room(c, s, wanted))
+        return 0;
+    if (answers_length > 0 && run_in(c, s, answers_length - 1) != REGISTER_NO_ROOM) {
+        printf("%u bytes were forecast, and one less suffices\n", (unsigned)answers_length);
+        return 0;
+    }
+    uint32_t number = run_in(c, s, answers_length);
     if (number == REGISTER_NO_ROOM)
         printf("%u bytes were forecast, and do not suffice\n", (unsigned)answers_length);
     else if (number != wanted)
         printf("returned %u at byte %u, wanted %u\n", (unsigned)number,
                (unsigned)report[REGISTER_REPORT_PLACE], (unsigned)wanted);
-    return number == wanted;
+    return number == wanted && ends_as_forecast();
 }
 
 /* ---- Reading the answers ---- */
@@ -796,13 +860,14 @@ static void print_routes(void)
 static int plan_villages(void)
 {
     write_journal(5);
-    if (!make_room() || !run_journal(CABINETS, SPANS, REGISTER_ACCEPTED) || !read_answers())
+    if (!run_journal(CABINETS, SPANS, REGISTER_ACCEPTED) || !read_answers())
         return 0;
     print_names();
     if (differences == 0)
         print_routes();
-    printf("%u bytes of room were forecast for the answers, %u were taken\n",
-           (unsigned)answers_length, (unsigned)report[REGISTER_REPORT_ANSWERS]);
+    printf("%u bytes of room for the answers suffice by the first forecast, %u are forecast to the byte; "
+           "%u were taken, and one less is refused with %d\n", (unsigned)sufficient_length,
+           (unsigned)answers_length, (unsigned)report[REGISTER_REPORT_ANSWERS], REGISTER_NO_ROOM);
     printf("%u commands, %u notices, %u pairs of routes and %u lengths read, %u names, sizes, numbers, "
            "exchanges, sole spans, routes and lengths compared, %u differ\n",
            (unsigned)report[REGISTER_REPORT_COMMANDS], notices_read, routes_read, lengths_read,
@@ -845,7 +910,15 @@ static void forget_answers(void)
 static int run_branch(uint32_t wanted)
 {
     forget_answers();
-    return make_room() && run_journal(CABINETS, SPANS, wanted) && read_answers();
+    return run_journal(CABINETS, SPANS, wanted) && read_answers();
+}
+
+/* Where the journal is refused and why, and how much is answered before. */
+static void print_refusal(void)
+{
+    printf("refused with %u at byte %u behind %u bytes of answers\n",
+           (unsigned)report[REGISTER_REPORT_REFUSAL], (unsigned)report[REGISTER_REPORT_PLACE],
+           (unsigned)report[REGISTER_REPORT_ANSWERS]);
 }
 
 /* The ring of each cabinet, and the sole spans. */
@@ -908,18 +981,25 @@ static int plan_as_it_stands(void)
         return 0;
     printf("a journal of the old reading, as it stands: ");
     print_branch();
-    printf(", no two routes from 0 to 1\n");
+    printf(", no two routes from 0 to 1: ");
+    print_refusal();
     hold_branch(rings, sizes, sole);
     return differences == 0;
 }
 
-/* Rewritten, each span has a duct of its own, and the two protect each other, as by the old reading. The
-   room that is forecast is the same. */
-static int plan_rewritten(void)
+/* What the branch must have by the old reading, where the two spans protect each other. */
+static void hold_old_reading(void)
 {
     static const unsigned rings[3] = {0, 0, 2}, sizes[3] = {2, 2, 1}, sole[3] = {0, 0, 1};
+    hold_branch(rings, sizes, sole);
+}
+
+/* Rewritten, each span has a duct of its own, and the two protect each other, as by the old reading. The
+   first forecast, which suffices for both, is the same. */
+static int plan_rewritten(void)
+{
     size_t old_length = journal_length;
-    uint32_t room = answers_length;
+    uint32_t room = sufficient_length;
     if (!rewrite_journal() || !run_branch(REGISTER_ACCEPTED))
         return 0;
     printf("rewritten, %zu bytes in place of %zu: ", journal_length, old_length);
@@ -929,17 +1009,31 @@ static int plan_rewritten(void)
     printf(" and");
     print_route(other);
     printf("\n");
-    hold_branch(rings, sizes, sole);
+    hold_old_reading();
     for (size_t span = 0; span < spans_known; span++)
         hold("duct of span", span, duct[span], (unsigned)span + 1);
-    hold("room forecast for bytes", journal_length, answers_length, room);
+    hold("room forecast for bytes", journal_length, sufficient_length, room);
+    return differences == 0;
+}
+
+/* Without its last byte the question for two routes is cut off; all before it is answered. */
+static int plan_damaged(void)
+{
+    journal_length--;
+    if (!run_branch(REGISTER_CUT_OFF))
+        return 0;
+    printf("without its last byte: ");
+    print_branch();
+    printf(": ");
+    print_refusal();
+    hold_old_reading();
     return differences == 0;
 }
 
 static int plan_branch(void)
 {
     write_old_journal();
-    return plan_as_it_stands() && plan_rewritten() && refuse_again();
+    return plan_as_it_stands() && plan_rewritten() && refuse_again() && plan_damaged();
 }
 
 /* ---- Two cooperatives that unite ---- */
@@ -998,8 +1092,7 @@ static void write_second(void)
 static int run_greatest(void)
 {
     forget_answers();
-    return make_room()
-        && run_journal(REGISTER_MOST_CABINETS, REGISTER_MOST_SPANS, REGISTER_ACCEPTED);
+    return run_journal(REGISTER_MOST_CABINETS, REGISTER_MOST_SPANS, REGISTER_ACCEPTED);
 }
 
 static void print_list(const char *kind, const unsigned names[], size_t first, size_t count)

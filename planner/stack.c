@@ -3,11 +3,11 @@
  *
  *     stack BYTES [CABINETS]
  *
- * Forecasts the longest journals, rewrites them, runs those that make the register climb longest, and
- * joins these with a small one, each in a thread of its own with a stack of BYTES bytes and a page below
- * it that must not be touched. Prints the bytes that the calls took, and exits with 0 if they are fewer
- * than the header tells. With too small a stack it ends by a signal; run it with falling sizes to find
- * the least, which no thread's stack may go below.
+ * Forecasts the longest journals, rewrites them, runs those that make the register climb longest,
+ * forecasts these to the byte, and joins them with a small one, each in a thread of its own with a stack
+ * of BYTES bytes and a page below it that must not be touched. Prints the bytes that the calls took, and
+ * exits with 0 if they are fewer than the header tells. With too small a stack it ends by a signal; run
+ * it with falling sizes to find the least, which no thread's stack may go below.
  *
  * The stack is filled with a pattern first; what a call took is counted from the lowest byte that
  * lost the pattern up to the frame that made the call.
@@ -34,7 +34,7 @@ static uint32_t report[REGISTER_REPORT];
 
 static unsigned cabinets = REGISTER_MOST_CABINETS;
 static uint8_t *stack_low;
-static size_t runs_took, forecasts_took, rewritings_took, joinings_took;
+static size_t runs_took, forecasts_took, exact_took, rewritings_took, joinings_took;
 static int failed;
 
 /* ---- The journals ---- */
@@ -205,21 +205,73 @@ static void note(const uint8_t *frame, size_t *most)
         *most = taken;
 }
 
-/* Runs a journal that enters so many spans. */
-static void run_one(const char *name, void (*write_journal)(void), unsigned spans)
+/* A journal that makes the register climb: its name, how it is written, and how many spans it enters. */
+struct climb {
+    const char *name;
+    void (*write_journal)(void);
+    unsigned spans;
+};
+
+/* Makes a call for each of them. What is called from a frame nearer the top comes before: behind these
+   calls the frames between would count as taken by it. */
+static void for_each(void (*call)(struct climb))
+{
+    call((struct climb){"chain from the first", chain_from_the_first, cabinets});
+    call((struct climb){"chain from the last", chain_from_the_last, cabinets});
+    call((struct climb){"two chains", two_chains, cabinets});
+    call((struct climb){"chain of mates", chain_of_mates, 2 * cabinets - 1});
+    call((struct climb){"chain of mates with no duct told", chain_of_untold_mates, 2 * cabinets - 1});
+    call((struct climb){"ladder", ladder, 3 * (cabinets / 2) - 1});
+}
+
+static void run_one(struct climb climb)
 {
     uint8_t here;
-    write_journal();
+    climb.write_journal();
     uint32_t number = register_run(cabinets, REGISTER_MOST_SPANS, journal, journal_length,
                                    work, sizeof work / sizeof work[0],
                                    answers, sizeof answers,
                                    report, sizeof report / sizeof report[0]);
     note(&here, &runs_took);
-    if (number != REGISTER_ACCEPTED || report[REGISTER_REPORT_SPANS] != spans) {
-        printf("%s: refused: %u at byte %u\n", name, (unsigned)number,
+    if (number != REGISTER_ACCEPTED || report[REGISTER_REPORT_SPANS] != climb.spans) {
+        printf("%s: refused: %u at byte %u\n", climb.name, (unsigned)number,
                (unsigned)report[REGISTER_REPORT_PLACE]);
         failed = 1;
     }
+}
+
+/* Forecasts a journal to the byte with room for so many spans. */
+static void forecast_exactly(const char *name, uint32_t most_spans, uint32_t wanted, uint32_t wanted_place)
+{
+    uint8_t here;
+    uint32_t place, room;
+    uint32_t number = register_forecast_exact(cabinets, most_spans, journal, journal_length,
+                                              work, sizeof work / sizeof work[0], &place, &room);
+    note(&here, &exact_took);
+    if (number != wanted || place != wanted_place) {
+        printf("%s: forecast to the byte: %u at byte %u\n", name, (unsigned)number, (unsigned)place);
+        failed = 1;
+    }
+}
+
+static void forecast_climb(struct climb climb)
+{
+    climb.write_journal();
+    forecast_exactly(climb.name, REGISTER_MOST_SPANS, REGISTER_ACCEPTED, (uint32_t)journal_length);
+}
+
+/* A journal that is refused at its last byte, a question that is cut off; then at the start: it is too
+   long, and there is room for no span. */
+static void forecast_refused(void)
+{
+    size_t longest = REGISTER_LONGEST_JOURNAL;
+    memset(journal, 0x0F, sizeof journal);
+    journal[longest - 1] = 0x0C;
+    journal_length = longest;
+    forecast_exactly("longest", REGISTER_MOST_SPANS, REGISTER_CUT_OFF, (uint32_t)(longest - 1));
+    journal_length = longest + 1;
+    forecast_exactly("too long", REGISTER_MOST_SPANS, REGISTER_LONG_JOURNAL, 0);
+    forecast_exactly("without spans", 0, REGISTER_BAD_CAPACITY, 0);
 }
 
 /* Forecasts a journal of one byte again and again. */
@@ -291,12 +343,14 @@ static void *rewrite_all(void *unused)
 
 static void *run_all(void *unused)
 {
-    run_one("chain from the first", chain_from_the_first, cabinets);
-    run_one("chain from the last", chain_from_the_last, cabinets);
-    run_one("two chains", two_chains, cabinets);
-    run_one("chain of mates", chain_of_mates, 2 * cabinets - 1);
-    run_one("chain of mates with no duct told", chain_of_untold_mates, 2 * cabinets - 1);
-    run_one("ladder", ladder, 3 * (cabinets / 2) - 1);
+    for_each(run_one);
+    return unused;
+}
+
+static void *forecast_all_exactly(void *unused)
+{
+    forecast_refused();
+    for_each(forecast_climb);
     return unused;
 }
 
@@ -316,14 +370,20 @@ static void join_one(const char *name, const uint8_t *first, size_t first_length
     }
 }
 
-/* Joins a journal with the small one, which comes before it and then behind. */
-static void join_both_ways(const char *name, void (*write_journal)(void))
+/* Joins a journal with the small one, which comes before it. */
+static void join_behind_small(struct climb climb)
 {
     const struct register_seam to_the_last = {FEW - 1, (uint16_t)(cabinets - 1), DUCT};
+    climb.write_journal();
+    join_one(climb.name, small, small_length, journal, journal_length, to_the_last, REGISTER_ACCEPTED);
+}
+
+/* The same with the small one behind it. */
+static void join_before_small(struct climb climb)
+{
     const struct register_seam from_the_last = {(uint16_t)(cabinets - 1), FEW - 1, DUCT};
-    write_journal();
-    join_one(name, small, small_length, journal, journal_length, to_the_last, REGISTER_ACCEPTED);
-    join_one(name, journal, journal_length, small, small_length, from_the_last, REGISTER_ACCEPTED);
+    climb.write_journal();
+    join_one(climb.name, journal, journal_length, small, small_length, from_the_last, REGISTER_ACCEPTED);
 }
 
 /* A journal of so many questions 0F, which is too long for a result with the small one, or for a journal;
@@ -340,16 +400,11 @@ static void join_refused(void)
     join_one("too long", small, small_length, journal, longest + 1, good, REGISTER_REFUSED_JOURNAL);
 }
 
-/* The same journals as are run. */
 static void *join_all(void *unused)
 {
-    join_both_ways("chain from the first", chain_from_the_first);
-    join_both_ways("chain from the last", chain_from_the_last);
-    join_both_ways("two chains", two_chains);
-    join_both_ways("chain of mates", chain_of_mates);
-    join_both_ways("chain of mates with no duct told", chain_of_untold_mates);
-    join_both_ways("ladder", ladder);
     join_refused();
+    for_each(join_behind_small);
+    for_each(join_before_small);
     return unused;
 }
 
@@ -393,14 +448,16 @@ int main(int count, char **words)
     bytes = (bytes + page - 1) / page * page;
     write_small();
     if (!with_stack(bytes, forecast_all) || !with_stack(bytes, rewrite_all)
-        || !with_stack(bytes, run_all) || !with_stack(bytes, join_all)) {
+        || !with_stack(bytes, run_all) || !with_stack(bytes, forecast_all_exactly)
+        || !with_stack(bytes, join_all)) {
         fprintf(stderr, "no thread with a stack of %zu bytes\n", bytes);
         return 2;
     }
-    printf("stack of %zu bytes, %u cabinets: %s; the runs took %zu bytes, the forecasts %zu, the "
-           "rewritings %zu, the joinings %zu, of the %u told\n", bytes, cabinets,
-           failed ? "refused" : "run", runs_took, forecasts_took, rewritings_took, joinings_took,
-           REGISTER_STACK);
+    printf("stack of %zu bytes, %u cabinets: %s; the runs took %zu bytes, the forecasts %zu, those to the "
+           "byte %zu, the rewritings %zu, the joinings %zu, of the %u told\n", bytes, cabinets,
+           failed ? "refused" : "run", runs_took, forecasts_took, exact_took, rewritings_took,
+           joinings_took, REGISTER_STACK);
     return failed || runs_took >= REGISTER_STACK || forecasts_took >= REGISTER_STACK
-        || rewritings_took >= REGISTER_STACK || joinings_took >= REGISTER_STACK;
+        || exact_took >= REGISTER_STACK || rewritings_took >= REGISTER_STACK
+        || joinings_took >= REGISTER_STACK;
 }

@@ -53,6 +53,8 @@ pub struct Case {
     pub forecast: Option<Forecast>,
     /// The journal's rewriting, where it is known beforehand.
     pub rewriting: Option<Rewritten>,
+    /// The journal's forecast to the byte, where it is known beforehand.
+    pub exact: Option<Forecast>,
 }
 
 /// A rewriting known beforehand: what it tells with an output buffer of so many bytes, and the result,
@@ -83,6 +85,7 @@ impl Case {
             left: None,
             forecast: None,
             rewriting: None,
+            exact: None,
         }
     }
 
@@ -96,9 +99,13 @@ impl Case {
         self.leaves_one_of(vec![vec![answers]], report)
     }
 
-    /// The same with answers in parts, of each of which one must be left.
+    /// The same with answers in parts, of each of which one must be left. Unless it is 11 that refuses them, the
+    /// forecast to the byte follows from the report.
     pub fn leaves_one_of(mut self, parts: Vec<OneOf>, report: [u32; REPORT_NUMBERS]) -> Case {
-        self.answers = Room::Bytes(parts.iter().map(length).sum());
+        let [number, place, _, bytes, ..] = report;
+        let length = if number == 0 { bytes } else { 0 };
+        self.exact = (number != 11).then_some(Forecast { number, place, length });
+        self.answers = Room::Bytes(parts.iter().map(self::length).sum());
         self.returned = Some(report[0]);
         self.left = Some((parts, report));
         self
@@ -119,6 +126,12 @@ impl Case {
     /// This must be told and written by a rewriting with an output buffer of so many bytes.
     pub fn rewrites(mut self, room: usize, told: Rewriting, result: Vec<u8>) -> Case {
         self.rewriting = Some(Rewritten { room, told, result });
+        self
+    }
+
+    /// This number, place and length must be forecast to the byte.
+    pub fn exactly(mut self, [number, place, length]: [u32; 3]) -> Case {
+        self.exact = Some(Forecast { number, place, length });
         self
     }
 

@@ -3,9 +3,11 @@
 //!
 //! First come the forecast and the rewriting, then a run with exactly the room that is forecast, which is ample. Its
 //! answers tell which pairs of routes the engine gives; each must serve. With these pairs the second
-//! implementation tells every byte of that run, and of the run with the room of the case.
+//! implementation tells every byte of that run, and of the run with the room of the case. Last comes the forecast
+//! to the byte, which must agree with these runs.
 
 mod ample;
+mod exact;
 mod forecast;
 mod held;
 pub mod join;
@@ -17,7 +19,7 @@ use crate::engine::{Call, Engine};
 use crate::names::{Planner, Read};
 use crate::random::Random;
 use crate::second::routes::Asked;
-use crate::second::{Accepted, Second};
+use crate::second::{Accepted, Run, Second};
 use ample::Ample;
 
 pub use held::hold;
@@ -54,6 +56,11 @@ pub struct Tally {
     /// and the pairs of routes given there.
     pub held: [usize; 2],
     pub held_pairs: usize,
+    /// How often each number from 0 to 14 was returned by a forecast to the byte. Where it is 0, a run with just so
+    /// much room was accepted.
+    pub to_the_byte: [usize; 15],
+    /// Runs with a byte less than that, all of which met 11.
+    pub byte_less: usize,
 }
 
 impl Tally {
@@ -152,16 +159,32 @@ pub fn compare(
     let random = &mut Random::new(seed);
     let forecast = forecast::compare(engine, second, case, random, tally)?;
     rewrite::compare(engine, second, case, random, tally)?;
-    let ample = match forecast {
+    let mut ample = match forecast {
         Some(forecast) => ample::run(engine, second, case, forecast, random, tally)?,
         None => Ample::default(),
     };
+    let made = run(engine, second, case, &mut ample, random, tally)?;
+    let needed = ample.needed;
+    exact::compare(engine, second, case, (forecast, ample, made), random, tally)?;
+    Ok(needed)
+}
+
+/// The run with the room of the case. Gives what it comes to in the second implementation, where room makes no
+/// difference to that.
+fn run(
+    engine: &dyn Engine,
+    second: &Second,
+    case: &Case,
+    ample: &mut Ample,
+    random: &mut Random,
+    tally: &mut Tally,
+) -> Result<Option<Run>, String> {
     let lent = Lent::new(case, case.answers.bytes(ample.needed), random);
     let mut got = lent.clone();
     let number = engine.run(got.call(case));
     let mut planner = Planner::new(inner(&mut got.answers));
     let mut wanted = lent;
-    let mut pairs = ample.pairs.into_iter();
+    let mut pairs = ample.pairs.drain(..);
     let choose = &mut |asked: &Asked| pairs.next().unwrap_or_else(|| second.own_pair(asked));
     let watch = &mut |accepted: Accepted| planner.watch(&accepted);
     let wanted_number = second.run_watched(wanted.call(case), choose, watch);
@@ -172,7 +195,23 @@ pub fn compare(
     let read = planned.map_err(|fault| format!("the planner finds: {fault}"))?;
     all_read(&read, number, &got)?;
     tally.count(number, &read);
-    Ok(ample.needed)
+    Ok(made(wanted_number, &wanted))
+}
+
+/// What a run that returned this number left, unless it was refused at the start or for its room.
+fn made(number: u32, left: &Lent) -> Option<Run> {
+    if matches!(number, 1..=3 | 11) {
+        return None;
+    }
+    let count = |at: usize| left.report[GUARD + at] as usize;
+    Some(Run {
+        refusal: number,
+        place: count(1),
+        commands: count(2),
+        answers: left.answers[GUARD..GUARD + count(3)].to_vec(),
+        cabinets: count(4),
+        spans: count(5),
+    })
 }
 
 /// The planner has read as many commands and bytes as the report counts; none, if the start

@@ -1,9 +1,12 @@
 //! What every implementation of the register offers: the run of document 01, with the commands of
 //! document 02's requests 2, 3, 5 and 6, the mates of its seventh, the sizes of its eighth and the rounding of
-//! its tenth, the forecast of its first, the rewriting of its seventh and the joining of its ninth.
+//! its tenth, the forecast of its first, the rewriting of its seventh, the joining of its ninth and the forecast
+//! to the byte of its eleventh.
 
+pub mod exact;
 pub mod join;
 
+use exact::Exact;
 use join::Join;
 
 /// The call: the capacities C and S, the journal, and the buffers that the caller lends.
@@ -16,14 +19,14 @@ pub struct Call<'a> {
     pub report: &'a mut [u32],
 }
 
-/// What a forecast gives.
+/// What a forecast gives, from the journal alone or to the byte.
 #[derive(Clone, Copy, PartialEq, Eq, Debug)]
 pub struct Forecast {
     /// 0 if the journal is accepted.
     pub number: u32,
-    /// The journal's length, or the refused command's first byte; 0 for number 3.
+    /// The journal's length, or the refused command's first byte; 0 for the numbers 1 to 3.
     pub place: u32,
-    /// A length of the answer buffer that suffices; 0 on a refusal.
+    /// A length of the answer buffer that suffices, or the one that just does; 0 on a refusal.
     pub length: u32,
 }
 
@@ -55,6 +58,10 @@ pub trait Engine {
     /// Joins two journals by seams, into the output buffer. Returns 0, or the number of the refusal; the
     /// caller's length is filled either way.
     fn join(&self, call: Join) -> u32;
+
+    /// Forecasts to the byte what a run with ample room writes. Returns 0, or the number of the refusal; the
+    /// caller's place and length are filled either way.
+    fn forecast_exact(&self, call: Exact) -> u32;
 }
 
 pub const MOST_CABINETS: u32 = 4096;
@@ -74,6 +81,11 @@ impl Forecast {
 
     pub fn refused(number: u32, place: usize) -> Forecast {
         Forecast { number, place: fit(place), length: 0 }
+    }
+
+    /// Is it refused with 1, 2 or 3?
+    pub fn refused_at_start(self) -> bool {
+        (1..=3).contains(&self.number)
     }
 
     /// Fills the caller's place and length. Gives the number that is returned.
@@ -101,6 +113,20 @@ impl Rewriting {
     }
 }
 
+/// The refusals at the start, in the order of the table, with a report of so many numbers: 0 if none applies.
+fn start_refusal((c, s): (u32, u32), journal: &[u8], work: &[u32], report: usize) -> u32 {
+    if !(1..=MOST_CABINETS).contains(&c) || !(1..=MOST_SPANS).contains(&s) {
+        return 1;
+    }
+    if work.len() < work_needed(c, s) || report < REPORT_NUMBERS {
+        return 2;
+    }
+    if journal.len() > LONGEST_JOURNAL {
+        return 3;
+    }
+    0
+}
+
 fn fit(number: usize) -> u32 {
     u32::try_from(number).expect("every place and length fits 32 bits")
 }
@@ -112,18 +138,9 @@ impl Call<'_> {
         Call { c, s, journal, work, answers, report }
     }
 
-    /// The refusals at the start, in the order of the table: 0 if none applies.
+    /// The refusals at the start.
     pub fn start_refusal(&self) -> u32 {
-        if !(1..=MOST_CABINETS).contains(&self.c) || !(1..=MOST_SPANS).contains(&self.s) {
-            return 1;
-        }
-        if self.work.len() < work_needed(self.c, self.s) || self.report.len() < REPORT_NUMBERS {
-            return 2;
-        }
-        if self.journal.len() > LONGEST_JOURNAL {
-            return 3;
-        }
-        0
+        start_refusal((self.c, self.s), self.journal, self.work, self.report.len())
     }
 
     /// What a run leaves beside its answers: the table's first W numbers are 0, the report is

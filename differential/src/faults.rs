@@ -1,9 +1,11 @@
 //! Engines that are wrong on purpose. The comparison must find each of them.
 
+pub mod exact;
 mod forecast;
 pub mod join;
 mod rewrite;
 
+use crate::engine::exact::Exact;
 use crate::engine::join::Join;
 use crate::engine::{work_needed, Call, Engine};
 use crate::kinds::KINDS;
@@ -126,6 +128,10 @@ impl Engine for Spoiled {
 
     fn join(&self, call: Join) -> u32 {
         Second::new().join(call)
+    }
+
+    fn forecast_exact(&self, call: Exact) -> u32 {
+        Second::new().forecast_exact(call)
     }
 }
 

@@ -9,8 +9,9 @@ mod naming;
 mod rewrite;
 mod routes;
 
+use crate::engine::exact::Exact;
 use crate::engine::join::Join;
-use crate::engine::{Call, Engine, REPORT_NUMBERS};
+use crate::engine::{Call, Engine, Forecast, REPORT_NUMBERS};
 use forecast::forecast;
 use forest::{Forest, Survey};
 use join::join;
@@ -19,23 +20,37 @@ use routes::Routes;
 
 pub struct Incremental;
 
-/// The answer buffer, and how much of it is written.
+/// The answer buffer, the room for answers, and how much of it is taken. Answers beyond the buffer are counted
+/// and dropped.
 struct Out<'a> {
     bytes: &'a mut [u8],
+    room: usize,
     written: usize,
 }
 
-impl Out<'_> {
+impl<'a> Out<'a> {
+    fn into(bytes: &'a mut [u8]) -> Out<'a> {
+        let room = bytes.len();
+        Out { bytes, room, written: 0 }
+    }
+
+    /// Room without end, and no buffer.
+    fn dropped() -> Out<'a> {
+        Out { bytes: &mut [], room: usize::MAX, written: 0 }
+    }
+
     /// Refusal 11 if fewer bytes than `length` are left.
     fn need(&self, length: usize) -> Result<(), u32> {
-        if length > self.bytes.len() - self.written {
+        if length > self.room - self.written {
             return Err(11);
         }
         Ok(())
     }
 
     fn byte(&mut self, byte: u8) {
-        self.bytes[self.written] = byte;
+        if let Some(entry) = self.bytes.get_mut(self.written) {
+            *entry = byte;
+        }
         self.written += 1;
     }
 
@@ -65,7 +80,12 @@ struct Run<'a> {
     routes: Routes,
 }
 
-impl Run<'_> {
+impl<'a> Run<'a> {
+    fn new(capacities: (u32, u32), journal: &'a [u8], out: Out<'a>) -> Run<'a> {
+        let forest = Forest::with_room(capacities.0 as usize, capacities.1 as usize);
+        Run { capacities, journal, place: 0, out, forest, routes: Routes::default() }
+    }
+
     fn operand(&self, i: usize) -> u32 {
         let at = self.place + 1 + 2 * i;
         u32::from(self.journal[at]) << 8 | u32::from(self.journal[at + 1])
@@ -339,15 +359,7 @@ impl Engine for Incremental {
         if number != 0 {
             return number;
         }
-        let mut run = Run {
-            capacities: (call.c, call.s),
-            journal: call.journal,
-            place: 0,
-            out: Out { bytes: call.answers, written: 0 },
-            forest: Forest::with_room(call.c as usize, call.s as usize),
-            routes: Routes::default(),
-        };
-        let report = run.all();
+        let report = Run::new((call.c, call.s), call.journal, Out::into(call.answers)).all();
         call.ends(report)
     }
 
@@ -361,5 +373,17 @@ impl Engine for Incremental {
 
     fn join(&self, call: Join) -> u32 {
         join(call)
+    }
+
+    /// A run that drops its answers.
+    fn forecast_exact(&self, call: Exact) -> u32 {
+        let number = call.start_refusal();
+        if number != 0 {
+            return call.ends(Forecast::refused(number, 0));
+        }
+        let [number, place, _, bytes, ..] =
+            Run::new((call.c, call.s), call.journal, Out::dropped()).all();
+        let length = if number == 0 { bytes } else { 0 };
+        call.ends(Forecast { number, place, length })
     }
 }

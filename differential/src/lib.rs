@@ -1,4 +1,4 @@
-//! Second implementations of document 01 and of document 02's requests 1, 2, 3 and 5 to 10, and what is
+//! Second implementations of document 01 and of document 02's requests 1, 2, 3 and 5 to 11, and what is
 //! needed to compare an engine with them.
 //!
 //! - `second`: the documents restated; everything is computed anew after each command.
@@ -38,3 +38,4 @@ pub mod second;
 pub mod sizes;
 pub mod spans;
 pub mod surveys;
+pub mod to_the_byte;

@@ -16,7 +16,7 @@ use differential::second::routes::OTHER_CHOICES;
 use differential::second::Second;
 use differential::{
     ducts, exchanges, faults, forecasts, histories, joins, journals, program, records, refusals,
-    rewriting, routes, sizes, surveys,
+    rewriting, routes, sizes, surveys, to_the_byte,
 };
 use std::process::ExitCode;
 use std::time::{Duration, Instant};
@@ -26,6 +26,9 @@ const SMALL_JOURNALS: u64 = 200;
 
 /// The numbers that a rewriting can return.
 const REWRITING: [usize; 6] = [0, 3, 4, 5, 15, 16];
+
+/// The numbers that a forecast to the byte can return: all of a run but 11.
+const TO_THE_BYTE: [usize; 14] = [0, 1, 2, 3, 4, 5, 6, 7, 8, 9, 10, 12, 13, 14];
 
 /// What the command line asks for.
 struct Wish {
@@ -152,6 +155,7 @@ impl Test {
         self.cases(&refusals::empty_buffers(), seed);
         self.cases(&forecasts::known(), seed);
         self.cases(&rewriting::known(), seed);
+        self.cases(&to_the_byte::known(), seed);
         self.cases(&joins::histories::runs(), seed);
         for (cabinets, spans) in [(2, 0), (2, 3), (3, 3), (3, 4), (4, 3), (4, 4)] {
             journals::every_list(cabinets, spans, &mut |case| self.given(&case, seed));
@@ -230,14 +234,15 @@ impl Test {
     }
 
     /// Every number that the table knows must have been returned by some run, every one that the
-    /// forecast knows by some forecast, with runs in the room forecast unless it is 3, and every one that
-    /// a rewriting knows by some rewriting. 03 and 04 must have been answered, and a district of several
+    /// forecast knows by some forecast, with runs in the room forecast unless it is 3, every one that a
+    /// rewriting knows by some rewriting, and every one that a forecast to the byte knows by one of these, with
+    /// runs in a byte less. 03 and 04 must have been answered, and a district of several
     /// rings and all of these measured; 0E must have been answered without a length and with one, 0F for an
     /// exact half that goes down and for one that goes up, and a journal that is accepted and one that is
     /// refused held against what they are rewritten to.
     fn every_number(&mut self) {
         let Tally { returned, forecast, exact, lengths, rewritten, held, .. } = &self.tally;
-        let Tally { sizes, added_up, halves, .. } = &self.tally;
+        let Tally { sizes, added_up, halves, to_the_byte, byte_less, .. } = &self.tally;
         let runs = (0..=14).map(|number| ("run", number, returned[number]));
         let forecasts = [0, 3, 4, 5].map(|number| ("forecast", number, forecast[number]));
         let exact = [0, 4, 5].map(|number| ("run in the room forecast", number, exact[number]));
@@ -246,9 +251,13 @@ impl Test {
         let lengths = [0, 1].map(|flag| ("answer 8E", flag, lengths[flag]));
         let halves = [0, 1].map(|up| ("exact half", up, halves[up]));
         let rewritten = REWRITING.map(|number| ("rewriting", number, rewritten[number]));
+        let to_the_byte =
+            TO_THE_BYTE.map(|number| ("forecast to the byte", number, to_the_byte[number]));
+        let byte_less = [("run with a byte less than forecast", 11, *byte_less)];
         let held = [0, 1].map(|refused| ("journal held against another", refused, held[refused]));
         let in_runs = runs.chain(exact).chain(sizes).chain(sums).chain(lengths).chain(halves);
-        let mut all = in_runs.chain(held).chain(forecasts).chain(rewritten);
+        let told = forecasts.into_iter().chain(rewritten).chain(to_the_byte).chain(byte_less);
+        let mut all = in_runs.chain(held).chain(told);
         if let Some((what, number, _)) = all.find(|&(_, _, count)| count == 0) {
             self.fault.get_or_insert(format!("no {what} for number {number}"));
         }
@@ -258,19 +267,20 @@ impl Test {
         if let Some(fault) = &self.fault {
             return Err(fault.clone());
         }
+        let (name, runs) = (self.engine.name(), self.runs());
+        let (forecasts, rewritings) = (self.forecasts(), self.rewritings());
+        Ok(format!("{name} equals second, every byte: {runs}; {forecasts}; {rewritings}"))
+    }
+
+    /// What was compared of runs.
+    fn runs(&self) -> String {
         let Tally { journals, returned, commands, notices, pairs, lengths, .. } = self.tally;
         let Tally { sizes, added_up, halves, .. } = self.tally;
-        let Tally { forecast, exact, rewritten, held, held_pairs, .. } = self.tally;
-        Ok(format!(
-            "{} equals second, every byte: {journals} journals ({} accepted to the end, refused by \
-             1 to 14: {:?}), {commands} commands, {notices} notices; {pairs} pairs of routes, all \
-             of which serve; {} sizes of districts and {} of rings told, {added_up} times all of a \
-             district of several rings; {} lengths of spans told, and {} times that there is none; {} \
-             shares that are exact halves go down, and {} up; {} forecasts ({} accepted, refused by \
-             3 to 5: {:?}), {} runs with exactly the room forecast, {} of them of damaged journals; {} \
-             rewritings ({} accepted, refused by 3, 4, 5, 15 and 16: {:?}), {} journals that answer as \
-             they did once they are rewritten, {} of them refused, with {held_pairs} pairs of routes",
-            self.engine.name(),
+        format!(
+            "{journals} journals ({} accepted to the end, refused by 1 to 14: {:?}), {commands} commands, \
+             {notices} notices; {pairs} pairs of routes, all of which serve; {} sizes of districts and {} of \
+             rings told, {added_up} times all of a district of several rings; {} lengths of spans told, and \
+             {} times that there is none; {} shares that are exact halves go down, and {} up",
             returned[0],
             &returned[1..],
             sizes[0],
@@ -278,18 +288,41 @@ impl Test {
             lengths[1],
             lengths[0],
             halves[0],
-            halves[1],
+            halves[1]
+        )
+    }
+
+    /// What was compared of forecasts, from the journal alone and to the byte.
+    fn forecasts(&self) -> String {
+        let Tally { forecast, exact, to_the_byte, byte_less, .. } = self.tally;
+        format!(
+            "{} forecasts ({} accepted, refused by 3 to 5: {:?}), {} runs with exactly the room forecast, {} \
+             of them of damaged journals; {} forecasts to the byte ({} accepted, and so their runs with just \
+             so much room, refused by 1 to 10 and 12 to 14: {:?}), {byte_less} runs with a byte less that \
+             meet 11",
             forecast.iter().sum::<usize>(),
             forecast[0],
             &forecast[3..],
             exact.iter().sum::<usize>(),
             exact[4] + exact[5],
+            to_the_byte.iter().sum::<usize>(),
+            to_the_byte[0],
+            TO_THE_BYTE[1..].iter().map(|&number| to_the_byte[number]).collect::<Vec<usize>>()
+        )
+    }
+
+    /// What was compared of rewritings.
+    fn rewritings(&self) -> String {
+        let Tally { rewritten, held, held_pairs, .. } = self.tally;
+        format!(
+            "{} rewritings ({} accepted, refused by 3, 4, 5, 15 and 16: {:?}), {} journals that answer as \
+             they did once they are rewritten, {} of them refused, with {held_pairs} pairs of routes",
             rewritten.iter().sum::<usize>(),
             rewritten[0],
             REWRITING[1..].iter().map(|&number| rewritten[number]).collect::<Vec<usize>>(),
             held[0] + held[1],
             held[1]
-        ))
+        )
     }
 }
 
@@ -321,7 +354,8 @@ fn seeded_bugs(seed: u64) -> Result<String, String> {
     let known = parts.concat();
     let mut found = engine_bugs(&known, seed)? + exchange_bugs(seed)? + duct_bugs(&known, seed)?;
     found += route_bugs(&known, seed)? + survey_bugs(seed)? + forecast_bugs(seed)?;
-    found += size_bugs(seed)? + rewriting_bugs(seed)? + joins::bugs::found(seed)?;
+    found += size_bugs(seed)? + rewriting_bugs(seed)? + exact_bugs(seed)?;
+    found += joins::bugs::found(seed)?;
     let accepted = other_choices(seed)?;
     Ok(format!(
         "{found} faults put in on purpose, ties broken the other way among them, are found; \
@@ -484,6 +518,37 @@ fn rewriting_bugs(seed: u64) -> Result<usize, String> {
     Ok(found)
 }
 
+/// Every fault in the forecast to the byte must be found by the comparison, and where the second implementation
+/// has it too by the journals that are known beforehand; other lengths, numbers and places also by runs. The
+/// lengths of another choice of routes must be found by the comparison with random journals, and by runs. Gives
+/// how often one was found.
+fn exact_bugs(seed: u64) -> Result<usize, String> {
+    let known = to_the_byte::known();
+    let unknown: Vec<Case> =
+        known.iter().map(|case| Case { exact: None, ..case.clone() }).collect();
+    let mut found = 0;
+    for (name, misexact) in faults::exact::all() {
+        let engine = Box::new(Second::with_misexact(misexact));
+        found_in(&known, ", second has", name, Test::new(engine), seed)?;
+        let test = in_both(|| Second::with_misexact(misexact));
+        found_in(&known, KNOWN, &format!("{name} in both"), test, seed)?;
+        found += 2;
+    }
+    for (name, misexact) in faults::exact::against_runs() {
+        let test = in_both(|| Second::with_misexact(misexact));
+        found_in(&unknown, AGAINST_RUNS, &format!("{name} in both, by runs"), test, seed)?;
+        found += 1;
+    }
+    for (name, misexact) in faults::exact::OTHER_ROUTES {
+        let engine = Box::new(Second::with_misexact(misexact));
+        found_by("the forecast to the byte is", name, Test::new(engine), seed)?;
+        let test = in_both(|| Second::with_misexact(misexact));
+        found_by(AGAINST_RUNS, &format!("{name} in both, by runs"), test, seed)?;
+        found += 2;
+    }
+    Ok(found)
+}
+
 /// Routes by every other choice must be accepted. Gives the number of pairs.
 fn other_choices(seed: u64) -> Result<usize, String> {
     let mut pairs = 0;
@@ -519,6 +584,9 @@ fn found_by(said: &str, name: &str, mut test: Test, seed: u64) -> Result<(), Str
 
 /// What is said of a case that goes against what is known beforehand.
 const KNOWN: &str = "known beforehand";
+
+/// What is said of a forecast to the byte that runs of the engine do not bear out.
+const AGAINST_RUNS: &str = "the forecast to the byte, held against runs";
 
 /// One of these cases must be the first with a fault, and these words must be said of it.
 fn found_in(

@@ -2,6 +2,7 @@
 
 #![allow(unsafe_code)]
 
+use crate::engine::exact::Exact;
 use crate::engine::join::{Join, Seam};
 use crate::engine::{Call, Engine};
 use std::ptr::null_mut;
@@ -47,6 +48,17 @@ extern "C" {
         work_len: usize,
         out: *mut u8,
         out_len: usize,
+        length: *mut u32,
+    ) -> u32;
+
+    fn register_forecast_exact(
+        c: u32,
+        s: u32,
+        journal: *const u8,
+        journal_len: usize,
+        work: *mut u32,
+        work_len: usize,
+        place: *mut u32,
         length: *mut u32,
     ) -> u32;
 }
@@ -122,6 +134,23 @@ impl Engine for Register {
                 work.len(),
                 self.pointer(out.as_mut_ptr(), out.len()),
                 out.len(),
+                length,
+            )
+        }
+    }
+
+    fn forecast_exact(&self, call: Exact) -> u32 {
+        let Exact { c, s, journal, work, place, length } = call;
+        // As for a run; the two numbers are aligned, and overlap nothing.
+        unsafe {
+            register_forecast_exact(
+                c,
+                s,
+                self.pointer(journal.as_ptr().cast_mut(), journal.len()),
+                journal.len(),
+                self.pointer(work.as_mut_ptr(), work.len()),
+                work.len(),
+                place,
                 length,
             )
         }

@@ -425,9 +425,10 @@ pub fn long_ladder() -> [Case; 2] {
     let spans = rails + 7 + 5 * rungs + 32 + 27 * (rungs - 2);
     // One route is a rail; the other takes a rung, the other rail and a rung.
     let needed = 3 * cabinets + spans + 2 * (5 + 2 * (rungs - 1 + rungs + 1));
+    let exact = [0, writer.bytes.len() as u32, needed as u32];
     let case = |room| {
-        let journal = writer.bytes.clone();
-        Case::with_room("two routes along a ladder", MOST_CABINETS, MOST_SPANS, journal, room)
+        let (label, journal) = ("two routes along a ladder", writer.bytes.clone());
+        Case::with_room(label, MOST_CABINETS, MOST_SPANS, journal, room).exactly(exact)
     };
     [case(needed).returns(0), case(needed - 1).returns(11)]
 }

@@ -1,4 +1,4 @@
-//! A second implementation of document 01 and of document 02's requests 1, 2, 3 and 5 to 9, to compare
+//! A second implementation of document 01 and of document 02's requests 1, 2, 3 and 5 to 11, to compare
 //! others with. After each command everything is computed anew from the list of spans; nothing is
 //! kept but the naming book, the list of exchanges and the list of survey records. Which pair of routes
 //! 0C is answered with is not settled: a run takes the pairs from whoever asks for it, or makes its own
@@ -6,6 +6,7 @@
 
 pub mod book;
 pub mod command;
+pub mod exact;
 pub mod exchanges;
 pub mod forecast;
 pub mod groups;
@@ -16,6 +17,7 @@ pub mod routes;
 pub mod sizes;
 pub mod surveys;
 
+use crate::engine::exact::Exact;
 use crate::engine::join::Join;
 use crate::engine::{Call, Engine, Forecast, Rewriting, REPORT_NUMBERS};
 use crate::pairs::Pair;
@@ -44,6 +46,7 @@ pub struct Second {
     misforecast: Option<Misforecast>,
     misrewrite: Option<Misrewrite>,
     misjoin: Option<Misjoin>,
+    misexact: Option<Misexact>,
 }
 
 /// A fault put in on purpose: what is forecast for a journal in place of its right forecast.
@@ -54,6 +57,10 @@ pub type Misrewrite = fn(&[u8], &mut [u8]) -> Rewriting;
 
 /// A fault put in on purpose: a joining, given what the two runs come to, in place of the right one.
 pub type Misjoin = fn(Both, Join) -> u32;
+
+/// A fault put in on purpose: a forecast to the byte, given what the run with ample room comes to unless the start
+/// refuses it, in place of the right one.
+pub type Misexact = fn(Option<&Run>, Exact) -> u32;
 
 /// Gives the pair that a 0C is answered with.
 pub type Choose<'a> = dyn FnMut(&Asked) -> Pair + 'a;
@@ -182,6 +189,11 @@ impl Second {
     /// The same with a fault in the joining.
     pub fn with_misjoin(misjoin: Misjoin) -> Second {
         Second { misjoin: Some(misjoin), ..Second::default() }
+    }
+
+    /// The same with a fault in the forecast to the byte.
+    pub fn with_misexact(misexact: Misexact) -> Second {
+        Second { misexact: Some(misexact), ..Second::default() }
     }
 
     /// The joining, given what the two runs come to.
@@ -349,5 +361,9 @@ impl Engine for Second {
     fn join(&self, call: Join) -> u32 {
         let both = [call.first, call.second].map(|journal| self.judge(journal));
         self.join_judged(both, call)
+    }
+
+    fn forecast_exact(&self, call: Exact) -> u32 {
+        self.exact_by(None, call)
     }
 }

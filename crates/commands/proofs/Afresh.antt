@@ -1,6 +1,6 @@
 -- The marked histories, those with exchanges, with ducts, with routes, with survey lengths and with sizes, the shares, the calls of the run's
--- entry, the forecasts, the rewritings and the joins hold of the definitions: each table is computed afresh, at once. (By its name this file
--- comes before all laws, so that a wrong definition is refused here first.)
+-- entry, the forecasts, those to the byte, the rewritings and the joins hold of the definitions: each table is computed afresh, at once. (By
+-- its name this file comes before all laws, so that a wrong definition is refused here first.)
 use mathlib.Core.List.{List, [], _∷_, _++_, map}
 use mathlib.Core.Logic.{_≢_}
 use mathlib.Core.Path.{_≡_, refl, ap}
@@ -30,6 +30,8 @@ use Rattle.commands.specs.RewriteHistories
 use Rattle.commands.specs.RewriteHistories.{readAnew, doubledSpan, oldReadings}
 use Rattle.commands.specs.JoinHistories
 use Rattle.commands.specs.JoinHistories.{joiningOf, joins, joinedOf, joinedHistories, answersAlone, answersBehind, answersStaying, raisedBytes}
+use Rattle.commands.specs.ExactHistories
+use Rattle.commands.specs.ExactHistories.{foretoldExactly, exactCalls}
 use Rattle.commands.specs.Calls.{sevens, call, atStart, startCalls, stopCalls, cabinetAnswers, acceptedCalls, entered, foretold, forecasts, rewriteCall, rewritingOf, spans02, spans0B, rewritings}
 use Rattle.commands.proofs.Computed.{computed}
 
@@ -127,6 +129,11 @@ long-input-shown = refl
 pub forecasts-shown : map (λ f. forecast (f .journal)) forecasts ≡ map (λ f. f .forecast) forecasts
 unfolding computed foretold forecasts
 forecasts-shown = refl
+
+-- So much to the byte, and so the working table is left.
+pub exact-calls-shown : map foretoldExactly exactCalls ≡ map (λ c. c .outcome) exactCalls
+unfolding computed RouteHistories.ladderSpans ExactHistories.exactCall ExactHistories.foretoldExactly ExactHistories.exactAtStart ExactHistories.exactStopped ExactHistories.everyCommand ExactHistories.besideTheRung ExactHistories.exactAccepted ExactHistories.exactCalls
+exact-calls-shown = refl
 
 -- So each journal is rewritten.
 pub rewritings-shown : map rewritingOf rewritings ≡ map (λ c. c .rewriting) rewritings

@@ -2,8 +2,7 @@
 use mathlib.Core.Bool.{Bool, true, false, cond}
 use mathlib.Core.List.{List, [], _∷_, map}
 use mathlib.Core.Logic.{_≢_}
-use mathlib.Core.Option.{none, some}
-use mathlib.Core.Path.{_≡_, refl, sym, _∙_, ap, subst}
+use mathlib.Core.Path.{_≡_, refl, sym, ap, subst}
 use Prim.Native.Nat.{ℕ, zero, suc, _+_, _*_, _≤_, _<_}
 use native.Mathlib.Nat.{mul-le-mul}
 use native.Mathlib.Omega.{arith}
@@ -18,14 +17,13 @@ use Rattle.commands.specs.Field.{district, ring, mesh}
 use Rattle.commands.specs.Command.{Command}
 use Rattle.commands.specs.Answer.{Answer, answerBytes}
 use Rattle.commands.specs.Facts.{Facts, addsCabinet, addsSpan, addsNothing, facts, additionOf, addition, after, answer, stateAfter}
-use Rattle.commands.specs.Refusal.{noRoom, Capacities}
+use Rattle.commands.specs.Refusal.{Capacities}
 use Rattle.commands.specs.Text.{textOf}
-use Rattle.commands.specs.Run.{Accepted, Run, runText, runWithin, bytesOfAnswers}
+use Rattle.commands.specs.Run.{Accepted, runText, runWithin, bytesOfAnswers}
 use Rattle.commands.specs.Entry.{Buffers, entryUnder}
 use Rattle.commands.specs.WholeRun.{itemsOf, noticesIn, countKind}
 use Rattle.commands.specs.Forecast.{isCabinet, isSpan, countAdding, cabinetCommands, spanCommands, longestPlain, plainLengths, lengthFor, sufficient}
-use Rattle.commands.proofs.Cases.{impossible}
-use Rattle.commands.proofs.Room.{RoomForAll, CutAt, all-fit-whole, cut-at-stop, Prefix, bytes-of-more}
+use Rattle.commands.proofs.Room.{RoomForAll, not-cut, Prefix, bytes-of-more}
 use Rattle.commands.proofs.Report.{cabinets-after, spans-after, cabinets-from-none, spans-from-none}
 use Rattle.commands.proofs.NameList.{answersFrom}
 use Rattle.commands.proofs.Place.{whole-run-steps, within-is-prefix}
@@ -181,16 +179,10 @@ module _ (rule : Rule) (mates : MateRule rule) (choice : Choice) (serves : Serve
           unfold spanCommands in
           subst (λ m. countAdding isSpan m ≤ countAdding isSpan ks) (sym (first .same)) (first-adds-no-more isSpan (length done) ks)
 
--- a run with room for all answers is not cut
-not-cut : (room : ℕ) (l : List Accepted) → RoomForAll room l → CutAt room l → ⊥
-not-cut room l all cut =
-    let same : none ≡ some noRoom = ap (λ (r : Run). r .refusal) (sym (all-fit-whole room l none all) ∙ cut-at-stop room l none cut) in
-    impossible (cc)
-
 -- The run of a journal under a rule of mates and a choice of routes that serves, for any capacities and buffers.
 module _ (rule : Rule) (mates : MateRule rule) (choice : Choice) (serves : Serves rule choice) (caps : Capacities) (journal : List ℕ) (lent : Buffers) where
   -- the length for the commands that the journal spells, up to its end or to what cannot be read, is room for all answers
-  room-for-text : RoomForAll (sufficient (map (λ r. r .command) (textOf journal .commands))) (unbounded rule choice caps journal lent .accepted)
+  pub room-for-text : RoomForAll (sufficient (map (λ r. r .command) (textOf journal .commands))) (unbounded rule choice caps journal lent .accepted)
   room-for-text =
       let run = unbounded rule choice caps journal lent in
       room-for-first
@@ -219,20 +211,33 @@ bytes-of-first zero l = omega arith
 bytes-of-first (suc n) [] = omega arith
 bytes-of-first (suc n) (a ∷ l) = omega (arith, bytes-of-more a (take n l), bytes-of-more a l, bytes-of-first n l)
 
--- what a run answers, with any room, fits 32 bits
-pub run-answers-fit : (rule : Rule) → MateRule rule → (choice : Choice) → Serves rule choice
-    → (caps : Capacities) (room : ℕ) (journal : List ℕ) → length journal ≤ 65536
-    → length (bytesOfAnswers (runWithin room choice caps (emptyState rule) (textOf journal) .accepted)) < 4294967296
-run-answers-fit rule mates choice serves caps room journal short =
-    let all = runText choice caps (emptyState rule) (textOf journal) .accepted in
-    let first = within-is-prefix room choice caps (emptyState rule) journal in
-    let ks = map (λ r. r .command) (textOf journal .commands) in
-    omega (
-      arith,
-      ap (λ l. length (bytesOfAnswers l)) (first .same),
-      bytes-of-first (length (runWithin room choice caps (emptyState rule) (textOf journal) .accepted)) all,
-      room-for-first rule mates choice serves caps all ks
-          (steps-answered choice caps (whole-run-steps choice caps (emptyState rule) journal))
-          (run-accepts-first choice caps (emptyState rule) (textOf journal)),
-      text-fits journal short,
-    )
+-- Under a rule of mates and a choice of routes that serves, for any capacities and a journal that is not too long:
+module _
+    (rule : Rule) (mates : MateRule rule) (choice : Choice) (serves : Serves rule choice)
+    (caps : Capacities) (journal : List ℕ) (short : length journal ≤ 65536)
+  where
+    -- what a run answers with ample room fits 32 bits
+    pub all-answers-fit : length (bytesOfAnswers (runText choice caps (emptyState rule) (textOf journal) .accepted)) < 4294967296
+    all-answers-fit =
+        omega (
+          arith,
+          room-for-first rule mates choice serves caps
+              (runText choice caps (emptyState rule) (textOf journal) .accepted)
+              (map (λ r. r .command) (textOf journal .commands))
+              (steps-answered choice caps (whole-run-steps choice caps (emptyState rule) journal))
+              (run-accepts-first choice caps (emptyState rule) (textOf journal)),
+          text-fits journal short,
+        )
+
+    -- and so does what it answers with any room
+    pub run-answers-fit : (room : ℕ) → length (bytesOfAnswers (runWithin room choice caps (emptyState rule) (textOf journal) .accepted)) < 4294967296
+    run-answers-fit room =
+        let first = within-is-prefix room choice caps (emptyState rule) journal in
+        omega (
+          arith,
+          ap (λ l. length (bytesOfAnswers l)) (first .same),
+          bytes-of-first
+              (length (runWithin room choice caps (emptyState rule) (textOf journal) .accepted))
+              (runText choice caps (emptyState rule) (textOf journal) .accepted),
+          all-answers-fit,
+        )

@@ -1,7 +1,7 @@
 -- The run without room, and the run with room: which answers fit, and where the run is cut.
 use mathlib.Core.List.{List, [], _∷_}
 use mathlib.Core.Logic.{_⊎_, inl, inr}
-use mathlib.Core.Option.{Option, some}
+use mathlib.Core.Option.{Option, none, some}
 use mathlib.Core.Path.{_≡_, refl, sym, _∙_, ap}
 use Prim.Native.Nat.{ℕ, zero, suc, _+_, _-_, _≤_, _<_, suc-le-suc}
 use native.Mathlib.Omega.{arith}
@@ -10,7 +10,7 @@ use lib.Seq.{take-length, length-take-le}
 use Rattle.graph.proofs.Truth.{le-leb}
 use Rattle.commands.specs.Answer.{answerBytes}
 use Rattle.commands.specs.Refusal.{Refusal, noRoom}
-use Rattle.commands.specs.Run.{Accepted, stop, andThen, fitting, bytesOfAnswers}
+use Rattle.commands.specs.Run.{Accepted, Run, stop, andThen, fitting, bytesOfAnswers}
 use Rattle.commands.proofs.Cases.{le-or-gt, gt-leb, impossible}
 
 -- the answers' bytes are the first answer's and the others', counted
@@ -102,6 +102,12 @@ cut-at-stop room l end c = stops-before room l (c .count) (c .splits) (c .fits) 
         e
         (omega (arith, bytes-of-more a (take k l)))
         (omega (arith, bytes-of-more a (take k l))))
+
+-- a run with room for all answers is not cut
+pub not-cut : (room : ℕ) (l : List Accepted) → RoomForAll room l → CutAt room l → ⊥
+not-cut room l all cut =
+    let same : none ≡ some noRoom = ap (λ (r : Run). r .refusal) (sym (all-fit-whole room l none all) ∙ cut-at-stop room l none cut) in
+    impossible (cc)
 
 -- the command that is not answered is one of the accepted ones
 pub cut-before-end : (room : ℕ) (l : List Accepted) (c : CutAt room l) → c .count < length l

@@ -13,6 +13,7 @@ pub mod Entry
 pub mod Register
 pub mod Ducts
 pub mod Forecast
+pub mod Exact
 pub mod Rewrite
 pub mod Decode
 pub mod Join
@@ -26,4 +27,5 @@ pub mod SurveyHistories
 pub mod SizeHistories
 pub mod RewriteHistories
 pub mod JoinHistories
+pub mod ExactHistories
 pub mod Calls

@@ -1,10 +1,11 @@
 -- The entry in code: refused at the start, or run, cleared and reported, it leaves what the register leaves.
 use mathlib.Core.Bool.{true, not}
-use mathlib.Core.List.{List, _++_}
+use mathlib.Core.List.{List, [], _++_}
 use mathlib.Core.Logic.{_⊎_, inl, inr}
 use mathlib.Core.Option.{Option, none, some}
 use mathlib.Core.Path.{_≡_, refl, sym, _∙_, ap}
 use Prim.Native.Nat.{ℕ, _≤_, _<_, min}
+use native.Mathlib.Omega.{arith}
 use lib.Dec.{leb, ltb}
 use lib.ListN.{length, drop, replicate}
 use Rattle.graph.proofs.Truth.{le-leb, lt-ltb, ltb-ge, ge-ltb, or-neither-left, or-neither-right}
@@ -17,9 +18,10 @@ use Rattle.commands.proofs.Start.{good-exactly, ran-exactly}
 use Rattle.commands.proofs.Returned.{zero-exactly}
 use Rattle.commands.proofs.WholeRun.{register-serves, register-whole-run}
 use Rattle.numbers.specs.declared.Limits.{Limits}
+use Rattle.forest.specs.Promise.{wordsNeeded}
 use Rattle.run.specs.declared.Progress.{Progress}
 use Rattle.run.specs.Promise.{capacitiesOf, wholeOf, sixNumbers, RunPromise}
-use Rattle.run.proofs.Needed.{cleared-over}
+use Rattle.run.proofs.Needed.{work-is-words, cleared-over}
 use Rattle.journal.specs.Promise.{RegisterPromise}
 
 -- below is not at most, the other way round
@@ -54,35 +56,32 @@ pub record Begins (caps : Capacities) (journalLength workLength reportLength : �
   pub long-report : 6 ≤ reportLength
   pub short-journal : journalLength ≤ 65536
 
-module _ (caps : Capacities) (journal : List ℕ) (lent : Buffers) where
+-- so what a run asks for is there
+pub run-asks : (limits : Limits) {journalLength workLength reportLength : ℕ} → Begins (capacitiesOf limits) journalLength workLength reportLength
+    → (limits .vertices ≤ 4096) × (limits .edges ≤ 8192) × (wordsNeeded limits ≤ workLength) × (journalLength ≤ 65536)
+unfolding capacitiesOf
+run-asks limits b = (b .few-cabinets, b .few-spans, omega (arith, b .long-work, work-is-words limits), b .short-journal)
+
+-- A journal, and the lengths of a working table and of a report.
+module _ (caps : Capacities) (journal : List ℕ) (workLength reportLength : ℕ) where
   -- the refusal at the start
   abbrev pub firstLine : Option Refusal
-  firstLine = firstThatApplies (startLines caps (length journal) (length (lent .work)) (length (lent .report)))
+  firstLine = firstThatApplies (startLines caps (length journal) workLength reportLength)
 
-  -- a refusal at the start leaves the buffers as they were lent
-  pub promised-at-start : allBytes journal ≡ true → (number : ℕ) → number ≡ numberOf firstLine → (number ≡ 0 → ⊥) → RegisterPromise caps journal lent number lent
-  unfolding register entryUnder wholeRun wholeUnless outcome numberOf
-  promised-at-start are number e n = go firstLine refl e
-    where
-      go : (o : Option Refusal) → firstLine ≡ o → number ≡ numberOf o → RegisterPromise caps journal lent number lent
-      go none d e = absurd (n e)
-      go (some r) d e = promised caps journal are lent number lent (rw (d, e))
-
-  ran-whole : (number : ℕ) → number ≡ numberOf firstLine → number ≡ 0
-      → wholeRun registerRule registerRoutes caps journal (length (lent .work)) (length (lent .answers)) (length (lent .report))
-      ≡ ran (wholeOf caps journal (lent .answers))
+  -- where there is none the journal is run, within any answer buffer
+  ran-whole : (answers : List ℕ) (number : ℕ) → number ≡ numberOf firstLine → number ≡ 0
+      → wholeRun registerRule registerRoutes caps journal workLength (length answers) reportLength ≡ ran (wholeOf caps journal answers)
   unfolding wholeRun wholeUnless
-  ran-whole number e z = rw (zero-exactly firstLine .0 (sym e ∙ z))
+  ran-whole answers number e z = rw (zero-exactly firstLine .0 (sym e ∙ z))
 
-  -- where no line of the start applies, the capacities and lengths are those that a run asks for
-  pub begins : (number : ℕ) → number ≡ numberOf firstLine → number ≡ 0
-      → Begins caps (length journal) (length (lent .work)) (length (lent .report))
+  -- and the capacities and lengths are those that a run asks for
+  pub begins : (number : ℕ) → number ≡ numberOf firstLine → number ≡ 0 → Begins caps (length journal) workLength reportLength
   unfolding shortBuffers
   begins number e z =
-      let well = ran-exactly registerRule registerRoutes caps journal (length (lent .work)) (length (lent .answers)) (length (lent .report)) .0 (ran-whole number e z) in
+      let well = ran-exactly registerRule registerRoutes caps journal workLength 0 reportLength .0 (ran-whole [] number e z) in
       let range = good-exactly caps .0 (well .good-capacities) in
-      let work-short = ltb (length (lent .work)) (workNeeded caps) in
-      let report-short = ltb (length (lent .report)) 6 in
+      let work-short = ltb workLength (workNeeded caps) in
+      let report-short = ltb reportLength 6 in
       record {
         few-cabinets = range .few-cabinets;
         few-spans = range .few-spans;
@@ -91,9 +90,23 @@ module _ (caps : Capacities) (journal : List ℕ) (lent : Buffers) where
         short-journal = ltb-ge _ _ (well .short-journal);
       }
 
+-- a refusal at the start leaves the buffers as they were lent
+pub promised-at-start : (caps : Capacities) (journal : List ℕ) → allBytes journal ≡ true → (lent : Buffers) (number : ℕ)
+    → number ≡ numberOf (firstLine caps journal (length (lent .work)) (length (lent .report))) → (number ≡ 0 → ⊥)
+    → RegisterPromise caps journal lent number lent
+unfolding register entryUnder wholeRun wholeUnless outcome numberOf
+promised-at-start caps journal are lent number e n = go first refl e
+  where
+    first : Option Refusal
+    first = firstLine caps journal (length (lent .work)) (length (lent .report))
+
+    go : (o : Option Refusal) → first ≡ o → number ≡ numberOf o → RegisterPromise caps journal lent number lent
+    go none d e = absurd (n e)
+    go (some r) d e = promised caps journal are lent number lent (rw (d, e))
+
 -- a run that was cleared behind and reported leaves what the register leaves
 pub promised-by-run : (limits : Limits) (journal : List ℕ) → allBytes journal ≡ true → (lent : Buffers) (number : ℕ)
-    → number ≡ numberOf (firstLine (capacitiesOf limits) journal lent) → number ≡ 0
+    → number ≡ numberOf (firstLine (capacitiesOf limits) journal (length (lent .work)) (length (lent .report))) → number ≡ 0
     → (p : Progress) (work newWork newAnswers report : List ℕ)
     → RunPromise limits (wholeOf (capacitiesOf limits) journal (lent .answers)) p (lent .work) work (lent .answers) newAnswers
     → newWork ≡ replicate (min (workNeeded (capacitiesOf limits)) (length work)) 0 ++ drop (workNeeded (capacitiesOf limits)) work
@@ -105,9 +118,9 @@ promised-by-run limits journal are lent number e z p work newWork newAnswers rep
     let refusal-is : p .refusal ≡ numberOf (whole .refusal) = cc (w .numbers-are) in
     promised (capacitiesOf limits) journal are lent (p .refusal) (record { work = newWork; answers = newAnswers; report = report })
     (rw (
-      ran-whole (capacitiesOf limits) journal lent number e z,
+      ran-whole (capacitiesOf limits) journal (length (lent .work)) (length (lent .report)) (lent .answers) number e z,
       worked,
-      cleared-over limits (lent .work) work (w .same-beyond) (begins (capacitiesOf limits) journal lent number e z .long-work),
+      cleared-over limits (lent .work) work (w .same-beyond) (begins (capacitiesOf limits) journal (length (lent .work)) (length (lent .report)) number e z .long-work),
       w .answers-are,
       reported,
       w .numbers-are,

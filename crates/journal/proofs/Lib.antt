@@ -1,5 +1,9 @@
 pub mod EntryLaws
 pub mod ForecastLaws
+pub mod ExactForecast
+pub mod ExactEnds
+pub mod ExactRoom
+pub mod ExactLaws
 pub mod RewriteLaws
 pub mod Longest
 pub mod JoinLaws

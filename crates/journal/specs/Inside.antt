@@ -1,2 +1,3 @@
 -- What the code of the entry does, in its own types.
 pub mod Report
+pub mod Counted

@@ -1,8 +1,8 @@
 -- What the entries promise, in every case and with nothing required of their caller.
 use mathlib.Core.List.{List}
-use mathlib.Core.Logic.{_⊎_}
+use mathlib.Core.Logic.{_↔_, _⊎_, _≢_}
 use mathlib.Core.Path.{_≡_}
-use Prim.Native.Nat.{ℕ}
+use Prim.Native.Nat.{ℕ, _≤_, _<_}
 use lib.ListN.{length, take}
 use Rattle.graph.specs.Route.{Serves}
 use Rattle.commands.specs.Refusal.{Capacities}
@@ -10,6 +10,7 @@ use Rattle.commands.specs.Entry.{Buffers, wholeRun, acceptedCommands, over}
 use Rattle.commands.specs.Register.{registerRule, registerRoutes, register}
 use Rattle.commands.specs.WholeRun.{WholeRunClaim}
 use Rattle.commands.specs.Forecast.{forecast, Suffices}
+use Rattle.commands.specs.Exact.{exactForecast, exactWork, LongEnough, ToTheByte, RefusedAlike}
 use Rattle.commands.specs.Rewrite.{rewrite, AnsweredAsBefore}
 use Rattle.commands.specs.Join.{Seam, join, joinedWork, AnsweredJoined}
 
@@ -38,6 +39,27 @@ pub record ForecastPromise (journal : List ℕ) (returned place room : ℕ) : Ty
   -- length for these
   pub suffices-before : (returned ≡ 4) ⊎ (returned ≡ 5)
       → (forecast (take place journal) .number ≡ 0) × Suffices journal (forecast (take place journal) .length)
+
+-- For these capacities, this journal and this working table: the returned number, the two numbers that are written and the table are those of
+-- the forecast to the byte.
+pub record ExactPromise (caps : Capacities) (journal table : List ℕ) (returned place room : ℕ) (left : List ℕ) : Type 0 where
+  pub returned-is : returned ≡ exactForecast caps journal (length table) .number
+  pub place-is : place ≡ exactForecast caps journal (length table) .place
+  pub length-is : room ≡ exactForecast caps journal (length table) .length
+  pub work-is : left ≡ exactWork caps journal table
+  -- a run of a journal that it accepts, in any buffers that are long enough, is accepted with that much and writes so many bytes, and meets 11
+  -- with less
+  pub to-the-byte : returned ≡ 0 → (lent : Buffers) → LongEnough caps lent → ToTheByte caps journal room lent
+  -- the forecast from the journal alone accepts it too, with no lesser length
+  pub no-longer : returned ≡ 0 → (forecast journal .number ≡ 0) × (room ≤ forecast journal .length)
+  -- a run of a journal that it refuses, but for a table that is too short, is refused alike if there is ample room
+  pub refused-alike : returned ≢ 0 → returned ≢ 2 → (lent : Buffers) → LongEnough caps lent → RefusedAlike caps journal returned place lent
+  -- of a journal that it refuses at a command it accepts the bytes before that place, and a run of the whole journal meets 11 exactly with less
+  -- room than it gives for these
+  pub room-before : 3 < returned
+      → let before = exactForecast caps (take place journal) (length table) in
+      (before .number ≡ 0)
+      × ((lent : Buffers) → LongEnough caps lent → (register caps journal lent .returned ≡ 11) ↔ (length (lent .answers) < before .length))
 
 -- For this journal and this output buffer: the returned number, the two numbers that are written and the buffer are those of the rewriting
 -- into as much room. Where it is refused its result is empty: nothing is written.

@@ -1,14 +1,19 @@
 // The entries that a planner calls. Of a run: the refusals before the journal is read, the run, and the report. Of the forecast: its three numbers.
-// Of rewriting: its three numbers, and the result. Of joining: its two numbers, and the result.
+// Of the forecast to the byte: the refusals before the journal is read, the run without answers, and the three numbers. Of rewriting: its three
+// numbers, and the result. Of joining: its two numbers, and the result.
 ghost use mathlib.Core.Bool.{not};
 ghost use mathlib.Core.List.{map};
 ghost use mathlib.Core.Path.{_≡_};
+ghost use Prim.Native.Nat.{_<_};
 ghost use Rattle.commands.specs.Refusal.{firstThatApplies};
 ghost use Rattle.commands.specs.Entry.{goodCapacities, startLines, numberOf, over};
+ghost use Rattle.forecast.specs.Promise.{foretold};
 ghost use Rattle.run.specs.Promise.{sixNumbers};
 ghost use Rattle.joining.specs.Promise.{seamOf};
 ghost use Rattle.journal.specs.Inside.Report.{Reportable};
-ghost use Rattle.journal.specs.Promise.{RegisterPromise, ForecastPromise, RewritePromise, JoinPromise};
+ghost use Rattle.journal.specs.Inside.Counted.{toldOf, Counts};
+ghost use Rattle.journal.specs.Promise.{RegisterPromise, ForecastPromise, ExactPromise, RewritePromise, JoinPromise};
+use forecast::Forecast;
 use forecast::forecast_of;
 use forest::clear;
 use joining::alone::count_both;
@@ -20,6 +25,7 @@ use numbers::Limits;
 use rewriting::rewrite_into;
 use run::Progress;
 use run::run;
+use run::unanswered::run_unanswered;
 use run::work_needed;
 
 // A capacity is out of its range.
@@ -111,6 +117,66 @@ pub extern "C" fn register_forecast(journal: &[u8], place: &mut u32, length: &mu
     *place = f.place;
     *length = f.length;
     f.number
+}
+
+// What is told of a run without answers: its refusal and the place, or how many bytes its answers have.
+fn told_of(p: Progress) -> Forecast
+    requires { ⌜ (p .place < 4294967296) × (p .written < 4294967296) ⌝ }
+    ensures { λ r. ⌜ foretold r ≡ toldOf p ⌝ }
+{
+    let place = p.place as u32;
+    if p.refusal != 0 {
+        return Forecast {
+            number: p.refusal,
+            place: place,
+            length: 0,
+        };
+    }
+    Forecast {
+        number: 0,
+        place: place,
+        length: p.written as u32,
+    }
+}
+
+// Runs a journal without answers, in a working table that is cleared behind it, and counts their bytes.
+fn count_answers(c: u32, s: u32, journal: &[u8], work: &mut [u32]) -> Forecast
+    ensures { λ r. ⌜ Counts (record { cabinets = c; spans = s }) (now (journal .entry)) (foretold r) (now (work .entry)) (now (work .exit)) ⌝ }
+{
+    let refusal = start_refusal(c, s, journal.len(), work.len(), 6);
+    if refusal != 0 {
+        return Forecast {
+            number: refusal,
+            place: 0,
+            length: 0,
+        };
+    }
+    let limits = Limits {
+        vertices: c as u16,
+        edges: s as u16,
+    };
+    let p = run_unanswered(journal, work, limits);
+    clear(work, work_needed(limits));
+    told_of(p)
+}
+
+// Forecasts to the byte how long the answers to a journal are, with capacities c and s and with the caller's own working table, and tells a place: the
+// journal's length, that of the refused command, or 0 if it is refused before it is read.
+#[no_mangle]
+pub extern "C" fn register_forecast_exact(
+    c: u32,
+    s: u32,
+    journal: &[u8],
+    work: &mut [u32],
+    place: &mut u32,
+    length: &mut u32,
+) -> u32
+    ensures { λ r. ⌜ ExactPromise (record { cabinets = c; spans = s }) (now (journal .entry)) (now (work .entry)) r (now (place .exit)) (now (length .exit)) (now (work .exit)) ⌝ }
+{
+    let told = count_answers(c, s, journal, work);
+    *place = told.place;
+    *length = told.length;
+    told.number
 }
 
 // Rewrites a journal of the old reading into the caller's output buffer, and tells a place, as the forecast does, and the result's length.

@@ -17,8 +17,8 @@ use Rattle.commands.specs.Entry.{over, numberOf}
 use Rattle.forest.specs.Promise.{stateOf, vertices-held, edges-held}
 use Rattle.run.specs.declared.Progress.{Progress}
 use Rattle.run.specs.Promise.{sixNumbers}
-use Rattle.run.specs.Inside.Runs.{refusedProgress, writtenBehind, leftOf, networkAfter, leaves, leavesAfter, willLeave, Account, withAnswers}
-use Rattle.run.specs.Inside.Unanswered.{endsHere, endsAfter, withoutAnswers}
+use Rattle.run.specs.Inside.Runs.{refusedProgress, writtenBehind, leftOf, networkAfter, leaves, numbersAfter, leavesAfter, willLeave, Account, withAnswers}
+use Rattle.run.specs.Inside.Unanswered.{withoutAnswers}
 use Rattle.run.proofs.Left.{RefusedHere, all-at-end, all-refused, left-at-end, left-refused}
 
 -- nothing written behind leaves the buffer as it is
@@ -62,53 +62,47 @@ network-further : (s s′ : State) (a : Accepted) (rest : Run) → Agree s′ (a
 unfolding andThen commandsOf feedAll after afterAddition afterRecording
 network-further s s′ a rest agrees = rw (agrees .same-book)
 
--- a run of which nothing is left leaves behind what it has come to
+-- the numbers of a run of which nothing is left are those that it has come to
+numbers-here : (p : Progress) (t : List ℕ) (end : Option Refusal) → p .refusal ≡ numberOf end
+    → sixNumbers p ≡ numbersAfter p t (record { accepted = []; refusal = end })
+unfolding sixNumbers numbersAfter placeAfter bytesOfAnswers commandsOf feedAll
+numbers-here p t end e =
+    rw (e, edges-held (p .shape) t, vertices-held (p .shape) t, add-zero (p .place), add-zero (p .commands), add-zero (p .written))
+
+-- and it leaves behind what it has come to
 ends-here : (p : Progress) (t answers : List ℕ) (end : Option Refusal) → p .refusal ≡ numberOf end
     → leaves p answers ≡ leavesAfter p t answers (record { accepted = []; refusal = end })
-unfolding leaves leavesAfter sixNumbers placeAfter bytesOfAnswers commandsOf feedAll
-ends-here p t answers end e =
-    rw (
-      e,
-      edges-held (p .shape) t,
-      vertices-held (p .shape) t,
-      nothing-behind (p .written) answers,
-      add-zero (p .place),
-      add-zero (p .commands),
-      add-zero (p .written),
-    )
+unfolding leaves leavesAfter bytesOfAnswers
+ends-here p t answers end e = rw (numbers-here p t end e, nothing-behind (p .written) answers)
 
 -- where nothing is left but a refusal, a run that is refused here leaves behind what it was to leave behind
 pub stops-here : (p : Progress) (journal t answers : List ℕ) (r : Refusal) → leftOf p journal (length answers) t ≡ stop r
     → leaves (refusedProgress p (refusalNumber r)) answers ≡ willLeave p journal t answers
-unfolding stop numberOf refusedProgress leavesAfter
+unfolding stop numberOf refusedProgress leavesAfter numbersAfter
 stops-here p journal t answers r left = rw left (ends-here (refusedProgress p (refusalNumber r)) t answers (some r) refl)
 
--- an accepted command and what is left behind it leave behind what is left from one command further on
-pub goes-further : (p p′ : Progress) (old new answers : List ℕ) (a : Accepted) (rest : Run)
-    → p′ .place ≡ p .place + 1 + a .width → p′ .commands ≡ p .commands + 1 → p′ .written ≡ p .written + length (answerBytes (a .answer))
-    → Agree (stateOf (p′ .shape) new) (after (stateOf (p .shape) old) (a .command)) → p .written ≤ length answers
-    → leavesAfter p′ new (writtenBehind (p .written) (answerBytes (a .answer)) answers) rest ≡ leavesAfter p old answers (andThen a rest)
-unfolding leavesAfter andThen placeAfter bytesOfAnswers
-goes-further p p′ old new answers a rest place commands written agrees fits =
-    let bytes = answerBytes (a .answer) in
-    let later = rest .accepted in
-    let more = bytesOfAnswers later in
-    let place-is : p′ .place + placeAfter later ≡ p .place + (suc (a .width) + placeAfter later) = omega (arith, place) in
-    let commands-are : p′ .commands + length later ≡ p .commands + suc (length later) = omega (arith, commands) in
-    let written-is : p′ .written + length more ≡ p .written + length (bytes ++ more) = omega (arith, written, length-append bytes more) in
-    let network = network-further (stateOf (p .shape) old) (stateOf (p′ .shape) new) a rest agrees in
-    rw (place-is, commands-are, written-is, written, network, behind-both (p .written) bytes more answers fits)
+-- A command that is accepted, and a run that is so much further.
+module _ (p p′ : Progress) (old new : List ℕ) (a : Accepted) (rest : Run)
+    (place : p′ .place ≡ p .place + 1 + a .width) (commands : p′ .commands ≡ p .commands + 1)
+    (written : p′ .written ≡ p .written + length (answerBytes (a .answer)))
+    (agrees : Agree (stateOf (p′ .shape) new) (after (stateOf (p .shape) old) (a .command))) where
+  -- the command and what is left behind it come to the same numbers as what is left from one command further on
+  pub numbers-further : numbersAfter p′ new rest ≡ numbersAfter p old (andThen a rest)
+  unfolding numbersAfter andThen placeAfter bytesOfAnswers
+  numbers-further =
+      let later = rest .accepted in
+      let place-is : p′ .place + placeAfter later ≡ p .place + (suc (a .width) + placeAfter later) = omega (arith, place) in
+      let commands-are : p′ .commands + length later ≡ p .commands + suc (length later) = omega (arith, commands) in
+      let written-is : p′ .written + length (bytesOfAnswers later) ≡ p .written + length (answerBytes (a .answer) ++ bytesOfAnswers later) =
+      omega (arith, written, length-append (answerBytes (a .answer)) (bytesOfAnswers later)) in
+      rw (place-is, commands-are, written-is, network-further (stateOf (p .shape) old) (stateOf (p′ .shape) new) a rest agrees)
 
--- The same without answers: a run of which nothing is left comes to what it has come to
-nothing-left : (p : Progress) (t : List ℕ) (end : Option Refusal) → p .refusal ≡ numberOf end
-    → endsHere p ≡ endsAfter (stateOf (p .shape) t) (record { accepted = []; refusal = end })
-unfolding endsHere endsAfter commandsOf feedAll
-nothing-left p t end e = rw (e, edges-held (p .shape) t, vertices-held (p .shape) t)
-
--- an accepted command and those behind it come to what those behind it come to, from a state that agrees with the one after the command
-pub ends-further : (s s′ : State) (a : Accepted) (rest : Run) → Agree s′ (after s (a .command)) → endsAfter s′ rest ≡ endsAfter s (andThen a rest)
-unfolding endsAfter andThen
-ends-further s s′ a rest agrees = rw (network-further s s′ a rest agrees)
+  -- and leave the same behind
+  pub goes-further : (answers : List ℕ) → p .written ≤ length answers
+      → leavesAfter p′ new (writtenBehind (p .written) (answerBytes (a .answer)) answers) rest ≡ leavesAfter p old answers (andThen a rest)
+  unfolding leavesAfter andThen bytesOfAnswers
+  goes-further answers fits =
+      rw (numbers-further, written, behind-both (p .written) (answerBytes (a .answer)) (bytesOfAnswers (rest .accepted)) answers fits)
 
 -- An account that holds where a run ends: at the journal's end, and where it is refused, a run comes to what it was to come to.
 pub record AtEnds {E : Type 0} (account : Account E) : Type 0 where
@@ -127,10 +121,10 @@ ends-with-answers =
     }
 
 pub ends-without-answers : AtEnds withoutAnswers
-unfolding numberOf stop refusedProgress
+unfolding numberOf stop refusedProgress numbersAfter
 ends-without-answers =
     record {
-      at-end = λ p journal t answers z past. rw (all-at-end p journal t past) (nothing-left p t none z);
+      at-end = λ p journal t answers z past. rw (all-at-end p journal t past) (numbers-here p t none z);
       at-refusal = λ p journal t answers r more f.
-          rw (all-refused p journal t more f) (nothing-left (refusedProgress p (refusalNumber r)) t (some r) refl);
+          rw (all-refused p journal t more f) (numbers-here (refusedProgress p (refusalNumber r)) t (some r) refl);
     }

@@ -2,12 +2,15 @@
 use mathlib.Core.List.{List}
 use mathlib.Core.Option.{Option, none, some}
 use mathlib.Core.Path.{_≡_, refl, sym, _∙_, ap, subst}
-use Prim.Native.Nat.{ℕ, _+_, _≤_, _<_}
+use Prim.Native.Nat.{ℕ, _+_, _<_}
 use native.Mathlib.Omega.{arith}
 use lib.ListN.{length}
 use Rattle.graph.proofs.Truth.{eq-eqb, ne-eqb}
 use Rattle.commands.specs.Command.{Command, unknownByte, cutOff, command}
+use Rattle.commands.specs.Answer.{answerBytes}
+use Rattle.commands.specs.Facts.{answer}
 use Rattle.commands.specs.Refusal.{Refusal, badByte, cutOperands, refusalNumber, refusalOf}
+use Rattle.commands.specs.Register.{registerRoutes}
 use Rattle.commands.proofs.Cases.{impossible}
 use Rattle.commands.proofs.Steps.{for-byte, for-operands, for-command}
 use Rattle.commands.proofs.Table.{number-above-zero}
@@ -15,8 +18,8 @@ use Rattle.forest.specs.declared.Shape.{Shape}
 use Rattle.forest.specs.Promise.{Holds, stateOf, SameBeyond, same-beyond-refl}
 use Rattle.step.specs.declared.Reply.{Reply}
 use Rattle.step.specs.declared.Stepped.the-variants as S
-use Rattle.step.specs.Promise.{capacitiesOf, shapeAfter, Carried, StepMeets, StepPromise}
-use Rattle.step.proofs.Replies.{limits-after}
+use Rattle.step.specs.Promise.{capacitiesOf, replySize, shapeAfter, Carried, StepMeets, StepPromise}
+use Rattle.step.proofs.Replies.{limits-after, reply-counted}
 use Rattle.run.specs.declared.Progress.{Progress}
 use Rattle.run.specs.Inside.Runs.{refusedProgress, Account, Underway, readHere, goes-on, is-refused, stepsLeft, OneOn}
 use Rattle.run.proofs.Left.{RefusedHere}
@@ -37,6 +40,12 @@ record RefusedWith (shape : Shape) (c : Command) (old new : List ℕ) (number : 
 pub record CarriedOut (shape : Shape) (c : Command) (old new : List ℕ) (reply : Reply) : Type 0 where
   pub not-refused : causeOf shape c old ≡ none
   pub carried : Carried shape c old new reply
+
+-- its answer has as many bytes as its reply
+pub size-is : {shape : Shape} {c : Command} {old new : List ℕ} {reply : Reply} → CarriedOut shape c old new reply
+    → length (answerBytes (answer registerRoutes (stateOf shape old) c)) ≡ replySize reply
+size-is {shape = shape} {new = new} {reply = reply} w =
+    ap (λ a. length (answerBytes a)) (sym (w .carried .answer-is)) ∙ reply-counted (shapeAfter shape reply) new reply
 
 -- A step of a command from what the table holds.
 module _ (shape : Shape) (c : Command) (old new : List ℕ) where
@@ -92,7 +101,7 @@ module _ (end : ℕ) (p p′ : Progress) (going : p .refusal ≡ 0) where
   fewer-further z more further = rw (eq-eqb (p′ .refusal) 0 z, eq-eqb (p .refusal) 0 going) (omega (arith, more, further))
 
 -- The run at a command of the journal.
-module _ {E : Type 0} {account : Account E} {p : Progress} {journal old answers : List ℕ} (under : Underway p journal old answers) where
+module _ {E : Type 0} {account : Account E} {p : Progress} {journal old answers : List ℕ} (under : Underway account p journal old answers) where
   -- a refusal ends it, where it so comes to what it was to come to
   pub refused-on : {p′ : Progress} {new newAnswers : List ℕ} (r : Refusal)
       → account .here (refusedProgress p (refusalNumber r)) answers ≡ account .later p journal old answers
@@ -116,7 +125,7 @@ module _ {E : Type 0} {account : Account E} {p : Progress} {journal old answers 
   pub further-on : {p′ : Progress} {c : Command} {new newAnswers : List ℕ} {reply : Reply}
       → account .later p′ journal new newAnswers ≡ account .later p journal old answers
       → Carried (p .shape) c old new reply → p′ .shape ≡ shapeAfter (p .shape) reply → length newAnswers ≡ length answers
-      → p′ .refusal ≡ 0 → p .place < p′ .place → p′ .commands ≡ p .commands + 1 → p′ .written ≤ length newAnswers
+      → p′ .refusal ≡ 0 → p .place < p′ .place → p′ .commands ≡ p .commands + 1 → account .Fits p′ journal new newAnswers
       → OneOn account p p′ journal old new answers newAnswers
   further-on {p′ = p′} {new = new} {reply = reply} later carried shape long refusal place commands written =
       record {

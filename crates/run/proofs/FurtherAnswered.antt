@@ -1,6 +1,6 @@
 -- One command of the run with answers: its answer is written behind those before it, or there is no room for it.
 use mathlib.Core.List.{List}
-use mathlib.Core.Path.{_≡_, refl, sym, _∙_, ap}
+use mathlib.Core.Path.{_≡_, refl, sym, ap}
 use Prim.Native.Nat.{ℕ, _+_, _-_, _≤_}
 use native.Mathlib.Omega.{arith}
 use lib.ListN.{length}
@@ -14,26 +14,22 @@ use Rattle.forest.specs.declared.Shape.{Shape}
 use Rattle.forest.specs.Promise.{stateOf}
 use Rattle.step.specs.declared.Reply.{Reply}
 use Rattle.step.specs.Promise.{replyAnswer, replySize, shapeAfter}
-use Rattle.step.proofs.Replies.{limits-after, reply-counted}
+use Rattle.step.proofs.Replies.{limits-after}
 use Rattle.run.specs.declared.Progress.{Progress}
-use Rattle.run.specs.Inside.Runs.{oneFurther, writtenBehind, leftOf, willLeave, Underway, readHere, Answered, no-room, answered, RunOn}
+use Rattle.run.specs.Inside.Runs.{oneFurther, writtenBehind, leftOf, willLeave, withAnswers, Underway, readHere, Answered, no-room, answered, RunOn}
 use Rattle.run.proofs.Left.{left-no-room, left-answered}
 use Rattle.run.proofs.Course.{stops-here, goes-further}
-use Rattle.run.proofs.Further.{CarriedOut, refused-on, further-on}
+use Rattle.run.proofs.Further.{CarriedOut, size-is, refused-on, further-on}
 
 -- The run at a command of the journal, which is carried out.
 module _
-    {p : Progress} {journal old answers : List ℕ} (under : Underway p journal old answers)
+    {p : Progress} {journal old answers : List ℕ} (under : Underway withAnswers p journal old answers)
     {c : Command} {width : ℕ} (reads : readHere p journal ≡ command c width)
     {new : List ℕ} {reply : Reply} (w : CarriedOut (p .shape) c old new reply)
   where
     -- the network's new size
     abbrev next : Shape
     next = shapeAfter (p .shape) reply
-
-    -- the answer has as many bytes as its reply
-    size-is : length (answerBytes (answer registerRoutes (stateOf (p .shape) old) c)) ≡ replySize reply
-    size-is = ap (λ a. length (answerBytes a)) (sym (w .carried .answer-is)) ∙ reply-counted next new reply
 
     -- once it is written, what is left from one command further on leaves behind the same
     further-leaves : (newAnswers : List ℕ) → replySize reply ≤ length answers - p .written
@@ -45,10 +41,10 @@ module _
         let s = stateOf (p .shape) old in
         let a = acceptedIn registerRoutes s (record { command = c; place = p .place; width = width }) in
         let same-answer : newAnswers ≡ writtenBehind (p .written) (answerBytes (answer registerRoutes s c)) answers = rw (← w .carried .answer-is) same in
-        let written : p .written + replySize reply ≡ p .written + length (answerBytes (answer registerRoutes s c)) = ap (λ n. p .written + n) (sym size-is) in
+        let written : p .written + replySize reply ≡ p .written + length (answerBytes (answer registerRoutes s c)) = ap (λ n. p .written + n) (sym (size-is w)) in
         let left =
         left-answered p journal (length answers) old (under .at-command) c width reads (w .not-refused)
-        (rw size-is room)
+        (rw (size-is w) room)
         further
         new
         (limits-after (p .shape) reply)
@@ -57,7 +53,7 @@ module _
         (w .carried .agrees) in
         rw
         (long, same-answer, left)
-        (goes-further p further old new answers a (leftOf further journal (length answers) new) refl refl written (w .carried .agrees) (under .going .written-fits))
+        (goes-further p further old new a (leftOf further journal (length answers) new) refl refl written (w .carried .agrees) answers (under .going .written-fits))
 
     -- an answer that is written
     written-on : (newAnswers : List ℕ) → replySize reply ≤ length answers - p .written
@@ -73,6 +69,6 @@ module _
         → length newAnswers ≡ length answers → RunOn p p′ journal old new answers newAnswers
     unfolding refusalNumber
     answered-on (no-room short e same) long =
-        let left = left-no-room p journal (length answers) old (under .at-command) c width reads (w .not-refused) (omega (arith, short, size-is)) in
+        let left = left-no-room p journal (length answers) old (under .at-command) c width reads (w .not-refused) (omega (arith, short, size-is w)) in
         refused-on under noRoom (stops-here p journal old answers noRoom left) e same (w .carried .same-beyond)
     answered-on {newAnswers = newAnswers} (answered room e same) long = rw e (written-on newAnswers room same long)

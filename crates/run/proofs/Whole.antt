@@ -49,27 +49,28 @@ goes-on-tells p end e =
 module _ {E : Type 0} {account : Account E} {limits : Limits} {end : E} {journal old oldAnswers : List ℕ} where
   -- at the start all of the run is left
   pub starts : {shape : Shape} → Begun limits old shape → account .later (atStart shape) journal old oldAnswers ≡ end
+      → account .Fits (atStart shape) journal old oldAnswers
       → SoFar account limits end (atStart shape) journal old old oldAnswers oldAnswers
   unfolding atStart
-  starts begun will =
+  starts begun will fits =
       record {
         same-limits = begun-limits begun;
         same-beyond = same-beyond-refl limits old;
         as-long = refl;
-        leads = goes-on (record { not-refused = refl; holds = begun .holds; written-fits = omega arith; counted = omega arith }) will;
+        leads = goes-on (record { not-refused = refl; holds = begun .holds; written-fits = fits; counted = omega arith }) will;
       }
 
   module _ {p : Progress} {t answers : List ℕ} (far : SoFar account limits end p journal old t oldAnswers answers) where
     -- one that goes on can, and will come to its end
-    still-going : goesOn p (length journal) ≡ true → Going p t answers × (account .later p journal t answers ≡ end)
+    still-going : goesOn p (length journal) ≡ true → Going account p journal t answers × (account .later p journal t answers ≡ end)
     still-going e = go (far .leads)
       where
-        go : Leads account end p journal t answers → Going p t answers × (account .later p journal t answers ≡ end)
+        go : Leads account end p journal t answers → Going account p journal t answers × (account .later p journal t answers ≡ end)
         go (goes-on going will) = (going, will)
         go (is-refused n has) = absurd (n (goes-on-tells p (length journal) e .0))
 
     -- it is at a command
-    pub underway : length journal ≤ 65536 → goesOn p (length journal) ≡ true → Underway p journal t answers
+    pub underway : length journal ≤ 65536 → goesOn p (length journal) ≡ true → Underway account p journal t answers
     underway short e = record { going = still-going e .0; at-command = goes-on-tells p (length journal) e .1; short = short }
 
     -- a command further it is to come to the same end

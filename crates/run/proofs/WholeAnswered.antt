@@ -20,7 +20,7 @@ use Rattle.forest.specs.Promise.{Begun}
 use Rattle.step.specs.Promise.{capacitiesOf}
 use Rattle.run.specs.declared.Progress.{Progress}
 use Rattle.run.specs.Promise.{wholeOf, sixNumbers, RunPromise}
-use Rattle.run.specs.Inside.Runs.{writtenBehind, leftOf, Behind, leaves, leavesAfter, withAnswers, SoFar, goesOn}
+use Rattle.run.specs.Inside.Runs.{writtenBehind, leftOf, Behind, leaves, numbersAfter, leavesAfter, withAnswers, SoFar, goesOn}
 use Rattle.run.proofs.Course.{ends-with-answers}
 use Rattle.run.proofs.Whole.{atStart, same-rule, begun-limits, starts, has-come}
 
@@ -35,7 +35,7 @@ module _ {limits : Limits} {journal old oldAnswers : List ℕ} where
   -- at the start all of the run is left
   pub starts-answered : {shape : Shape} → Begun limits old shape
       → SoFar withAnswers limits (wholeLeaves limits journal oldAnswers) (atStart shape) journal old old oldAnswers oldAnswers
-  unfolding atStart leavesAfter leftOf writtenBehind reportOf bookAfter textOf emptyState
+  unfolding atStart leavesAfter numbersAfter leftOf writtenBehind reportOf bookAfter textOf emptyState
   starts-answered begun =
       let done = wholeOf (capacitiesOf limits) journal oldAnswers .accepted in
       starts begun
@@ -47,6 +47,7 @@ module _ {limits : Limits} {journal old oldAnswers : List ℕ} where
         zero-add (length done),
         zero-add (length (bytesOfAnswers done)),
       ))
+      (omega arith)
 
   -- the code has come to what the whole run leaves behind
   pub run-promised : length journal ≤ 65536 → {p : Progress} {new newAnswers : List ℕ}
@@ -61,7 +62,7 @@ module _ {limits : Limits} {journal old oldAnswers : List ℕ} where
       let place : p .place ≡ placeAfter (whole .accepted) = cc numbers in
       let written : p .written ≡ length (bytesOfAnswers (whole .accepted)) = cc numbers in
       let within = place-within-journal (length oldAnswers) registerRoutes (capacitiesOf limits) (emptyState registerRule) journal in
-      let bound = run-answers-fit registerRule register-mates registerRoutes register-serves (capacitiesOf limits) (length oldAnswers) journal short in
+      let bound = run-answers-fit registerRule register-mates registerRoutes register-serves (capacitiesOf limits) journal short (length oldAnswers) in
       record {
         numbers-are = numbers;
         answers-are = ap (λ (b : Behind). b .answers) left;

@@ -3,12 +3,11 @@ use mathlib.Core.List.{List, [], _∷_}
 use mathlib.Core.Path.{_≡_}
 use Prim.Native.Nat.{ℕ, _<_}
 use lib.ListN.{length}
-use Rattle.graph.specs.Network.{edgeCount}
 use Rattle.naming.specs.State.{emptyState}
 use Rattle.commands.specs.Refusal.{Capacities}
 use Rattle.commands.specs.Text.{textOf}
-use Rattle.commands.specs.Run.{Run, runWithin, commandsOf, bytesOfAnswers}
-use Rattle.commands.specs.Entry.{reportOf, over, bookAfter, numberOf}
+use Rattle.commands.specs.Run.{Run, runWithin, bytesOfAnswers}
+use Rattle.commands.specs.Entry.{reportOf, over}
 use Rattle.commands.specs.Register.{registerRule, registerRoutes}
 use Rattle.numbers.specs.declared.Limits.{Limits}
 use Rattle.forest.specs.Promise.{SameBeyond}
@@ -31,10 +30,9 @@ pub record RunPromise (limits : Limits) (run : Run) (p : Progress) (old new oldA
   pub place-fits : p .place < 4294967296
   pub written-fits : p .written < 4294967296
 
--- What the code has come to without answers is how the definition's run ends, and the size of its network; the words beyond the table's are as
--- before.
+-- What the code has come to without answers is what the definition's run reports; the words beyond the table's are as before.
 pub record UnansweredPromise (limits : Limits) (run : Run) (p : Progress) (old new : List ℕ) : Type 0 where
-  pub refusal-is : p .refusal ≡ numberOf (run .refusal)
-  pub vertices-are : p .shape .vertices ≡ bookAfter registerRule (commandsOf run) .network .vertices
-  pub edges-are : p .shape .edges ≡ edgeCount (bookAfter registerRule (commandsOf run) .network)
+  pub numbers-are : sixNumbers p ≡ reportOf registerRule run
   pub same-beyond : SameBeyond limits old new
+  pub place-fits : p .place < 4294967296
+  pub written-fits : p .written < 4294967296

@@ -6,7 +6,7 @@ ghost use Rattle.commands.specs.Entry.{workNeeded};
 ghost use Rattle.forest.specs.Promise.{wordsNeeded};
 ghost use Rattle.step.specs.Promise.{shapeAfter};
 ghost use Rattle.run.specs.Promise.{capacitiesOf, wholeOf, RunPromise};
-ghost use Rattle.run.specs.Inside.Runs.{refusedProgress, Underway, Ready, Answerable, Answered, goesOn, RunOn};
+ghost use Rattle.run.specs.Inside.Runs.{refusedProgress, withAnswers, Underway, Ready, Answerable, Answered, goesOn, RunOn};
 
 pub mod unanswered;
 
@@ -89,7 +89,7 @@ fn run_order(
     order: Order,
     width: usize,
 ) -> Progress
-    requires { ⌜ Ready p order width (now journal) (now work) (now answers) ⌝ }
+    requires { ⌜ Ready withAnswers p order width (now journal) (now work) (now answers) ⌝ }
     ensures { λ r. ⌜ RunOn p r (now (journal .entry)) (now (work .entry)) (now (work .exit)) (now (answers .entry)) (now (answers .exit)) ⌝ }
 {
     let shape = p.shape;
@@ -103,7 +103,7 @@ fn run_order(
 
 // What stands at the run's place.
 fn run_one(journal: &[u8], work: &mut [u32], answers: &mut [u8], p: Progress) -> Progress
-    requires { ⌜ Underway p (now journal) (now work) (now answers) ⌝ }
+    requires { ⌜ Underway withAnswers p (now journal) (now work) (now answers) ⌝ }
     ensures { λ r. ⌜ RunOn p r (now (journal .entry)) (now (work .entry)) (now (work .exit)) (now (answers .entry)) (now (answers .exit)) ⌝ }
 {
     let place = p.place;

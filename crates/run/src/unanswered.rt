@@ -1,4 +1,5 @@
-// The run of a journal without answers: each command is read and carried out as in a run with answers, and its reply is dropped. No room is looked at.
+// The run of a journal without answers: each command is read and carried out as in a run with answers; of its reply the bytes are counted and none is
+// written. No room is looked at.
 ghost use mathlib.Core.List.{[]};
 ghost use Prim.Native.Nat.{_≤_};
 ghost use lib.ListN.{length};
@@ -6,7 +7,7 @@ ghost use Rattle.commands.specs.Register.{registerRoutes, ampleRun};
 ghost use Rattle.forest.specs.Promise.{wordsNeeded};
 ghost use Rattle.run.specs.Promise.{capacitiesOf, UnansweredPromise};
 ghost use Rattle.run.specs.Inside.Runs.{Underway, Ready};
-ghost use Rattle.run.specs.Inside.Unanswered.{WentOn};
+ghost use Rattle.run.specs.Inside.Unanswered.{withoutAnswers, WentOn};
 use crate::Progress;
 use crate::goes_on;
 use crate::refuse;
@@ -18,9 +19,10 @@ use reading::reader::place_after;
 use reading::reader::taken_at;
 use step::Stepped;
 use step::shape_after;
+use step::size_of;
 use step::step;
 
-// One command read whole, with so many bytes of operands: refused, or carried out.
+// One command read whole, with so many bytes of operands: refused, or carried out and counted.
 fn run_order_unanswered(
     journal: &[u8],
     work: &mut [u32],
@@ -28,7 +30,7 @@ fn run_order_unanswered(
     order: Order,
     width: usize,
 ) -> Progress
-    requires { ⌜ Ready p order width (now journal) (now work) [] ⌝ }
+    requires { ⌜ Ready withoutAnswers p order width (now journal) (now work) [] ⌝ }
     ensures { λ r. ⌜ WentOn p r (now (journal .entry)) (now (work .entry)) (now (work .exit)) ⌝ }
 {
     let shape = p.shape;
@@ -42,7 +44,7 @@ fn run_order_unanswered(
                 shape: next,
                 place: place,
                 commands: p.commands + 1,
-                written: p.written,
+                written: p.written + size_of(reply),
                 refusal: 0,
             }
         }
@@ -51,7 +53,7 @@ fn run_order_unanswered(
 
 // What stands at the run's place.
 fn run_one_unanswered(journal: &[u8], work: &mut [u32], p: Progress) -> Progress
-    requires { ⌜ Underway p (now journal) (now work) [] ⌝ }
+    requires { ⌜ Underway withoutAnswers p (now journal) (now work) [] ⌝ }
     ensures { λ r. ⌜ WentOn p r (now (journal .entry)) (now (work .entry)) (now (work .exit)) ⌝ }
 {
     let place = p.place;

@@ -1,16 +1,20 @@
 //! Measures the engines against each other: runs of journals of several shapes at three sizes, two
-//! routes by the size of the network, forecasts and rewritings of long journals, and joinings of two.
+//! routes by the size of the network, forecasts and rewritings of long journals, joinings of two, and forecasts to
+//! the byte.
 //!
 //!     bench [--quick]             with --quick one run of each, for a look
 //!     bench --routes [--quick]    the routes by the size of the network alone
 //!     bench --forecast [--quick]  the forecasts alone
 //!     bench --rewrite [--quick]   the rewritings alone
 //!     bench --join [--quick]      the joinings alone
+//!     bench --exact [--quick]     the forecasts to the byte alone
 //!     bench --only SHAPE          the last engine alone, on this shape at the greatest size, for
 //!                                 two seconds: for a profiler
 //!
 //! All figures come from one process. Times are for looking; the ratios are what is compared.
 
+#[path = "bench/exact.rs"]
+mod exact;
 #[path = "bench/joinings.rs"]
 mod joinings;
 
@@ -23,6 +27,7 @@ use differential::second::forecast::counts;
 use differential::second::surveys::Record;
 use differential::second::Second;
 use differential::spans::Span;
+use exact::print_exact;
 use joinings::print_joinings;
 use std::hint::black_box;
 use std::time::{Duration, Instant};
@@ -594,6 +599,27 @@ fn run_only(name: &str, buffers: &mut Buffers) {
     println!("{}, {name}: {:.3} microseconds", engine.name(), figure.micros_per_command);
 }
 
+/// Prints the part that is asked for alone; says whether one is.
+fn part(words: &[String], quick: bool, buffers: &mut Buffers, budget: Duration) -> bool {
+    let asks = |word: &str| words.iter().any(|each| each == word);
+    if asks("--forecast") {
+        print_forecasts(quick, budget);
+    } else if asks("--rewrite") {
+        print_rewritings(quick, budget);
+    } else if asks("--join") {
+        print_joinings(quick, buffers);
+    } else if asks("--exact") {
+        print_exact(quick, buffers);
+    } else if asks("--routes") {
+        print_routes(quick, buffers, budget);
+    } else if let Some(at) = words.iter().position(|word| word == "--only") {
+        run_only(words.get(at + 1).map_or("", String::as_str), buffers);
+    } else {
+        return false;
+    }
+    true
+}
+
 fn main() {
     let words: Vec<String> = std::env::args().collect();
     let quick = words.iter().any(|word| word == "--quick");
@@ -603,20 +629,8 @@ fn main() {
         answers: vec![1; ANSWER_ROOM],
         report: [0; REPORT_NUMBERS],
     };
-    if words.iter().any(|word| word == "--forecast") {
-        return print_forecasts(quick, budget);
-    }
-    if words.iter().any(|word| word == "--rewrite") {
-        return print_rewritings(quick, budget);
-    }
-    if words.iter().any(|word| word == "--join") {
-        return print_joinings(quick, &mut buffers);
-    }
-    if words.iter().any(|word| word == "--routes") {
-        return print_routes(quick, &mut buffers, budget);
-    }
-    if let Some(at) = words.iter().position(|word| word == "--only") {
-        return run_only(words.get(at + 1).map_or("", String::as_str), &mut buffers);
+    if part(&words, quick, &mut buffers, budget) {
+        return;
     }
     print_heads(quick);
     let mut all = Vec::new();
@@ -636,4 +650,6 @@ fn main() {
     print_rewritings(quick, budget);
     println!();
     print_joinings(quick, &mut buffers);
+    println!();
+    print_exact(quick, &mut buffers);
 }

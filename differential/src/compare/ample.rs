@@ -2,20 +2,22 @@
 //! engine gives in it.
 
 use super::forecast::Forecasted;
-use super::{inner, same, same_buffers, same_number, Lent, Tally, GUARD};
+use super::{inner, made, same, same_buffers, same_number, Lent, Tally, GUARD};
 use crate::cases::{Case, Room};
 use crate::engine::{Engine, MOST_CABINETS, MOST_SPANS};
 use crate::pairs::{Pair, Pairs};
 use crate::random::Random;
 use crate::second::routes::Asked;
-use crate::second::Second;
+use crate::second::{Run, Second};
 
-/// What the run tells, where it was compared: the bytes that all answers take, and the pairs that
-/// 0C was answered with, in their order.
+/// What the run tells: the engine's number and place, and where it was compared the bytes that all answers take,
+/// the pairs that 0C was answered with, in their order, and the second implementation's run.
 #[derive(Default)]
 pub struct Ample {
+    pub stopped: (u32, u32),
     pub needed: usize,
     pub pairs: Vec<Pair>,
+    pub made: Option<Run>,
 }
 
 /// A run with exactly this room does not return 11. Where there can be pairs, or the case goes by
@@ -37,9 +39,10 @@ pub fn run(
         return Err(format!("11 with the {} bytes of room that are forecast", forecast.room));
     }
     tally.exact[forecast.number as usize] += 1;
+    let stopped = (number, got.report[GUARD + 1]);
     if !forecast.has_routes && matches!(case.answers, Room::Bytes(_)) {
         same_outside(&got, &before)?;
-        return Ok(Ample::default());
+        return Ok(Ample { stopped, ..Ample::default() });
     }
     let mut wanted = before;
     wanted.answers = apart(&wanted.answers, forecast.room);
@@ -52,7 +55,8 @@ pub fn run(
     let pairs = pairs?;
     same_buffers(&got, &wanted).map_err(told)?;
     tally.pairs += pairs.len();
-    Ok(Ample { needed: wanted.report[GUARD + 3] as usize, pairs })
+    let needed = wanted.report[GUARD + 3] as usize;
+    Ok(Ample { stopped, needed, pairs, made: made(wanted_number, &wanted) })
 }
 
 /// The case with a table and a report that are long enough. A capacity outside its range becomes the
@@ -73,7 +77,7 @@ pub fn apart(guards: &[u8], room: usize) -> Vec<u8> {
 }
 
 /// The journal and all guards are as before.
-fn same_outside(got: &Lent, before: &Lent) -> Result<(), String> {
+pub fn same_outside(got: &Lent, before: &Lent) -> Result<(), String> {
     same("journal", &got.journal, &before.journal)?;
     same_guards("answers", &got.answers, &before.answers)?;
     same_guards("report", &got.report, &before.report)?;

@@ -1,5 +1,6 @@
 //! Forecasts that are wrong on purpose. The comparison must find each of them.
 
+use crate::engine::exact::Exact;
 use crate::engine::join::Join;
 use crate::engine::{Call, Engine, Forecast, MOST_CABINETS, MOST_SPANS};
 use crate::second::command::{read, Capacities};
@@ -189,5 +190,9 @@ impl Engine for Unfilled {
 
     fn join(&self, call: Join) -> u32 {
         Second::new().join(call)
+    }
+
+    fn forecast_exact(&self, call: Exact) -> u32 {
+        Second::new().forecast_exact(call)
     }
 }

@@ -4,6 +4,7 @@ mod left;
 mod refusals;
 mod results;
 
+use crate::engine::exact::Exact;
 use crate::engine::join::{Join, Seam, JOIN_WORK};
 use crate::engine::{Call, Engine};
 use crate::joins::memo::Memo;
@@ -49,6 +50,10 @@ impl Engine for Misjoined {
 
     fn join(&self, call: Join) -> u32 {
         (self.wrong)([self.memo.judge(call.first), self.memo.judge(call.second)], call)
+    }
+
+    fn forecast_exact(&self, call: Exact) -> u32 {
+        Second::new().forecast_exact(call)
     }
 }
 

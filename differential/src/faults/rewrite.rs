@@ -1,6 +1,7 @@
 //! Rewritings that are wrong on purpose. The comparison must find each of them.
 
 use super::forecast::run_place;
+use crate::engine::exact::Exact;
 use crate::engine::join::Join;
 use crate::engine::{Call, Engine, Rewriting, LONGEST_JOURNAL};
 use crate::second::forecast::counts;
@@ -386,5 +387,9 @@ impl Engine for Unfilled {
 
     fn join(&self, call: Join) -> u32 {
         Second::new().join(call)
+    }
+
+    fn forecast_exact(&self, call: Exact) -> u32 {
+        Second::new().forecast_exact(call)
     }
 }

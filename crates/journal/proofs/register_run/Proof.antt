@@ -7,10 +7,8 @@ use lib.ListN.{length}
 use Rattle.commands.specs.Bytes.{allBytes}
 use Rattle.commands.specs.Entry.{Buffers}
 use Rattle.commands.proofs.Bytes.{bytes-by-place}
-use Rattle.numbers.specs.declared.Limits.{Limits}
 use Rattle.run.specs.Promise.{capacitiesOf}
-use Rattle.run.proofs.Needed.{work-is-words}
-use Rattle.journal.proofs.EntryLaws.{promised-at-start, Begins, begins, promised-by-run}
+use Rattle.journal.proofs.EntryLaws.{promised-at-start, Begins, run-asks, begins, promised-by-run}
 use Rattle.journal.proofs.register_run.Statement.{statement}
 use Rattle.journal.proofs.register_run.Tie as tie
 
@@ -36,7 +34,8 @@ begun c =
     begins
     (record { cabinets = s .args .c; spans = s .args .s })
     (s .args .journal .now)
-    (lent s)
+    (length (s .args .work .now))
+    (length (s .args .report .now))
     (at-start-refusal .start-refusal .result)
     (at-start-refusal .start-refusal .ensures)
     (omega (arith, c .if1 .left))
@@ -51,8 +50,8 @@ returns c =
     promised-at-start
     (record { cabinets = s .args .c; spans = s .args .s })
     (s .args .journal .now)
-    (lent s)
     (bytes (at-start-refusal .before .before .before .before))
+    (lent s)
     (at-start-refusal .start-refusal .result)
     (at-start-refusal .start-refusal .ensures)
     (c .if1 .taken)
@@ -66,10 +65,8 @@ cast-t15 c = omega (arith, begun c .few-spans)
 run-requires : tie.Need-run-requires
 unfolding capacitiesOf
 run-requires c κs =
-    let b = begun (c .before .before) in
     let s = c .before .before .before .before .before .before .before .before in
-    let limits : Limits = record { vertices = s .args .c; edges = s .args .s } in
-    (b .few-cabinets, b .few-spans, omega (arith, b .long-work, work-is-words limits), b .short-journal)
+    run-asks (record { vertices = s .args .c; edges = s .args .s }) (begun (c .before .before))
 
 work-needed-requires : tie.Need-work-needed-requires
 work-needed-requires c κs = search needs

@@ -62,46 +62,48 @@ pub record Behind : Type 0 where
 unfoldable pub leaves : Progress → List ℕ → Behind
 leaves p answers = record { numbers = sixNumbers p; answers = answers }
 
--- And so does one that takes this course from here on.
+-- The six numbers of one that takes this course from here on.
+unfoldable pub numbersAfter : Progress → List ℕ → Run → List ℕ
+numbersAfter p t rest =
+    numberOf (rest .refusal)
+    ∷ (p .place + placeAfter (rest .accepted))
+    ∷ (p .commands + length (rest .accepted))
+    ∷ (p .written + length (bytesOfAnswers (rest .accepted)))
+    ∷ networkAfter (stateOf (p .shape) t) rest .vertices
+    ∷ edgeCount (networkAfter (stateOf (p .shape) t) rest)
+    ∷ []
+
+-- And what it leaves behind.
 unfoldable pub leavesAfter : Progress → List ℕ → List ℕ → Run → Behind
 leavesAfter p t answers rest =
-    record {
-      numbers =
-          numberOf (rest .refusal)
-          ∷ (p .place + placeAfter (rest .accepted))
-          ∷ (p .commands + length (rest .accepted))
-          ∷ (p .written + length (bytesOfAnswers (rest .accepted)))
-          ∷ networkAfter (stateOf (p .shape) t) rest .vertices
-          ∷ edgeCount (networkAfter (stateOf (p .shape) t) rest)
-          ∷ [];
-      answers = writtenBehind (p .written) (bytesOfAnswers (rest .accepted)) answers;
-    }
+    record { numbers = numbersAfter p t rest; answers = writtenBehind (p .written) (bytesOfAnswers (rest .accepted)) answers }
 
 -- What the run will leave behind, where it takes the course that the definition gives it.
 abbrev pub willLeave : Progress → List ℕ → List ℕ → List ℕ → Behind
 willLeave p journal t answers = leavesAfter p t answers (leftOf p journal (length answers) t)
 
 -- An account of what a run comes to: one that ends here, with this answer buffer; and one that takes the course that the definition gives it,
--- over this journal, from this table and this answer buffer.
-pub record Account (E : Type 0) : Type 0 where
+-- over this journal, from this table and this answer buffer. And what must hold of the bytes that are counted, for the run to go on.
+pub record Account (E : Type 0) : Type 1 where
   pub here : Progress → List ℕ → E
   pub later : Progress → List ℕ → List ℕ → List ℕ → E
+  pub Fits : Progress → List ℕ → List ℕ → List ℕ → Type 0
 
--- That of the run with answers is what it leaves behind.
+-- That of the run with answers is what it leaves behind. The answers written so far stand in the buffer.
 abbrev pub withAnswers : Account Behind
-withAnswers = record { here = leaves; later = willLeave }
+withAnswers = record { here = leaves; later = willLeave; Fits = λ p journal t answers. p .written ≤ length answers }
 
--- A run that can go on: it is not refused, and the table holds its network; the answers written so far stand in the buffer, and no more
+-- A run that can go on, by an account: it is not refused, and the table holds its network; the bytes that are counted fit, and no more
 -- commands are counted than bytes were read.
-pub record Going (p : Progress) (t answers : List ℕ) : Type 0 where
+pub record Going {E : Type 0} (account : Account E) (p : Progress) (journal t answers : List ℕ) : Type 0 where
   pub not-refused : p .refusal ≡ 0
   pub holds : Holds (p .shape) t
-  pub written-fits : p .written ≤ length answers
+  pub written-fits : account .Fits p journal t answers
   pub counted : p .commands ≤ p .place
 
 -- A run that is at a command of the journal.
-pub record Underway (p : Progress) (journal t answers : List ℕ) : Type 0 where
-  pub going : Going p t answers
+pub record Underway {E : Type 0} (account : Account E) (p : Progress) (journal t answers : List ℕ) : Type 0 where
+  pub going : Going account p journal t answers
   pub at-command : p .place < length journal
   pub short : length journal ≤ 65536
 
@@ -110,8 +112,9 @@ abbrev pub readHere : Progress → List ℕ → Reading
 readHere p journal = readCommand (getD journal (p .place) 0) (drop (p .place + 1) journal)
 
 -- A run at whose place this order stands, with so many bytes of operands.
-pub record Ready (p : Progress) (order : Order) (width : ℕ) (journal t answers : List ℕ) : Type 0 where
-  pub underway : Underway p journal t answers
+pub record Ready
+    {E : Type 0} (account : Account E) (p : Progress) (order : Order) (width : ℕ) (journal t answers : List ℕ) : Type 0 where
+  pub underway : Underway account p journal t answers
   pub reads : readHere p journal ≡ command (meaning order) width
 
 -- A reply can be answered: its notices can be counted, what is written stands in the buffer, and one more cabinet, span and command can
@@ -132,7 +135,7 @@ pub data Answered (p p′ : Progress) (t : List ℕ) (next : Shape) (place : ℕ
 
 -- A run that is to come to this end can go on and will, or is refused and has.
 pub data Leads {E : Type 0} (account : Account E) (end : E) (p : Progress) (journal t answers : List ℕ) : Type 0 where
-  goes-on : Going p t answers → account .later p journal t answers ≡ end → Leads account end p journal t answers
+  goes-on : Going account p journal t answers → account .later p journal t answers ≡ end → Leads account end p journal t answers
   is-refused : (p .refusal ≡ 0 → ⊥) → account .here p answers ≡ end → Leads account end p journal t answers
 
 -- From a table and an answer buffer the run has come so far, and is to come to this end.

@@ -1,11 +1,11 @@
--- `unanswered::run_order_unanswered` hands the command to the step, and drops the reply.
+-- `unanswered::run_order_unanswered` hands the command to the step, and counts the bytes of the reply.
 use native.Mathlib.Omega.{arith}
 use Rattle.commands.proofs.TextAt.{operands-stand}
 use Rattle.forest.specs.Promise.{few-vertices, few-edges}
 use Rattle.reading.specs.Inside.Reads.{meaning}
 use Rattle.run.proofs.Course.{ends-without-answers}
-use Rattle.run.proofs.Further.{was-done, step-refused-on}
-use Rattle.run.proofs.FurtherUnanswered.{carried-on}
+use Rattle.run.proofs.Further.{CarriedOut, was-done, step-refused-on}
+use Rattle.run.proofs.FurtherUnanswered.{can-be-counted, counted-on}
 use borrow.Author.Needs.{needs}
 use Rattle.run.proofs.unanswered.run_order_unanswered.Statement.{statement}
 use Rattle.run.proofs.unanswered.run_order_unanswered.Tie as tie
@@ -43,6 +43,33 @@ shape-after-requires c κs =
 add-t15 : tie.Need-add-t15
 add-t15 c = search needs
 
+size-of-requires : tie.Need-size-of-requires
+size-of-requires c κs = search needs
+
+-- the command was carried out
+done : (c : tie.After-stepped2)
+    → let at-step = c .before .before .before .before in
+    let s = at-step .before .before .before .before .before .before in
+    CarriedOut (s .args .p .shape) (meaning (s .args .order)) (s .args .work .now) (at-step .step .last .0) (c .stepped2 .given .0 .0)
+done c =
+    let at-step = c .before .before .before .before in
+    let s = at-step .before .before .before .before .before .before in
+    let g = c .stepped2 .given in
+    was-done
+    (s .args .p .shape)
+    (meaning (s .args .order))
+    (s .args .work .now)
+    (at-step .step .last .0)
+    (g .0 .0)
+    (rw (g .1) at (at-step .step .ensures))
+
+add-t17 : tie.Need-add-t17
+add-t17 c =
+    let at-size-of = c .before in
+    let at-stepped2 = at-size-of .before .before .before .before in
+    let s = at-stepped2 .before .before .before .before .before .before .before .before .before .before in
+    omega (arith, can-be-counted (s .pre .underway) (s .pre .reads) (done at-stepped2), at-size-of .size-of .ensures)
+
 same-length : tie.Need-same-length
 same-length c = search needs
 
@@ -67,26 +94,19 @@ same-length-2 c = search needs
 
 returns-2 : tie.Need-returns-2
 returns-2 c =
-    let at-shape-after = c .before in
+    let at-size-of = c .before in
+    let at-shape-after = at-size-of .before .before in
     let at-stepped2 = at-shape-after .before .before in
-    let g = at-stepped2 .stepped2 .given in
-    let at-step = at-stepped2 .before .before .before .before in
-    let at-place-after = at-step .before .before in
+    let at-place-after = at-stepped2 .before .before .before .before .before .before in
     let s = at-place-after .before .before .before .before in
-    carried-on
+    counted-on
     (s .pre .underway)
     (s .pre .reads)
-    (was-done
-    (s .args .p .shape)
-    (meaning (s .args .order))
-    (s .args .work .now)
-    (at-step .step .last .0)
-    (g .0 .0)
-    (rw (g .1) at (at-step .step .ensures)))
+    (done at-stepped2)
     (at-shape-after .shape-after .ensures)
     (omega (arith, at-place-after .place-after .ensures))
     (omega arith)
-    (omega arith)
+    (omega (arith, at-size-of .size-of .ensures))
     (omega arith)
 
 pub run-order-unanswered-spec : {M : Type 1} → statement M
@@ -100,6 +120,8 @@ run-order-unanswered-spec =
     enum-known-stepped-2
     shape-after-requires
     add-t15
+    size-of-requires
+    add-t17
     same-length
     returns
     same-length-2

@@ -1,5 +1,5 @@
 -- `unanswered::run_unanswered` takes one command after another. The loop's invariant: what is left of the run comes to what the definition's
--- run comes to. The measure is what is left of the journal.
+-- run reports. The measure is what is left of the journal.
 use mathlib.Core.List.{[]}
 use mathlib.Core.Path.{sym, _∙_, subst}
 use borrow.Author.Needs.{needs}
@@ -26,7 +26,7 @@ begin-requires c κs = search needs
 
 loop-holds : tie.Need-loop-holds Inv-loop μ-loop
 unfolding atStart
-loop-holds c = starts-unanswered (begun-own (c .begin .ensures))
+loop-holds c = starts-unanswered (c .before .before .before .before .pre .3) (begun-own (c .begin .ensures))
 
 goes-on-requires : tie.Need-goes-on-requires Inv-loop μ-loop
 goes-on-requires c κs = search needs
@@ -60,7 +60,7 @@ returns c =
     let s = at-begin .before .before .before .before in
     let same = begun-limits (at-begin .begin .ensures) in
     subst (λ l. UnansweredPromise l (ampleRun registerRoutes (capacitiesOf l) (s .args .journal .now)) (at-loop .loop .p) (s .args .work .now) (at-loop .loop .work)) same
-    (unanswered-promised (at-loop .loop .inv) (sym (at-goes-on .goes-on .ensures) ∙ c .if1 .left))
+    (unanswered-promised (s .pre .3) (at-loop .loop .inv) (sym (at-goes-on .goes-on .ensures) ∙ c .if1 .left))
 
 pub run-unanswered-spec : {M : Type 1} → statement M
 run-unanswered-spec =
