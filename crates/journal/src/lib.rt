@@ -139,7 +139,8 @@ fn told_of(p: Progress) -> Forecast
     }
 }
 
-// Runs a journal without answers, in a working table that is cleared behind it, and counts their bytes.
+// Runs a journal without answers, in a working table that is cleared behind it, and counts their bytes. There is no report: the start is refused as with
+// one of six numbers.
 fn count_answers(c: u32, s: u32, journal: &[u8], work: &mut [u32]) -> Forecast
     ensures { λ r. ⌜ Counts (record { cabinets = c; spans = s }) (now (journal .entry)) (foretold r) (now (work .entry)) (now (work .exit)) ⌝ }
 {
