@@ -132,7 +132,7 @@ forecasts-shown = refl
 
 -- So much to the byte, and so the working table is left.
 pub exact-calls-shown : map foretoldExactly exactCalls ≡ map (λ c. c .outcome) exactCalls
-unfolding computed RouteHistories.ladderSpans ExactHistories.exactCall ExactHistories.foretoldExactly ExactHistories.exactAtStart ExactHistories.exactStopped ExactHistories.everyCommand ExactHistories.besideTheRung ExactHistories.exactAccepted ExactHistories.exactCalls
+unfolding computed ExactHistories.exactCall ExactHistories.foretoldExactly ExactHistories.exactAtStart ExactHistories.exactStopped ExactHistories.everyCommand ExactHistories.exactAccepted ExactHistories.exactCalls
 exact-calls-shown = refl
 
 -- So each journal is rewritten.

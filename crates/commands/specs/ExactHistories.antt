@@ -1,5 +1,5 @@
 -- Forecasts to the byte (request 11), worked out from documents 01 and 02: capacities, journals and lengths of the working table; then the
--- number, the place, the length, and what becomes of a table full of sevens.
+-- number, the place, the length, and what becomes of a table full of sevens. Those that take longer to compute are in journal/specs/Longest.
 use mathlib.Core.List.{List, [], _∷_, _++_}
 use Prim.Native.Nat.{ℕ}
 use lib.ListN.{replicate}
@@ -8,7 +8,6 @@ use Rattle.commands.specs.Refusal.{Capacities}
 use Rattle.commands.specs.Text.{journalBytes}
 use Rattle.commands.specs.Forecast.{Forecast}
 use Rattle.commands.specs.Exact.{exactForecast, exactWork}
-use Rattle.commands.specs.RouteHistories.{ladderSpans}
 
 -- The forecast, and the working table on return.
 pub record Exactly : Type 0 where
@@ -43,13 +42,9 @@ foretoldExactly c =
 -- Refused at the start: place 0, and the table as before. The later lines of the table of causes apply too.
 unfoldable pub exactAtStart : List ExactCall
 exactAtStart =
-    -- 1: C or S outside its range
+    -- 1: C outside its range
     exactCall 0 1 2 (replicate 65537 0x00) 1 0 0 (7 ∷ 7 ∷ [])
-    ∷ exactCall 4097 1 2 (replicate 65537 0x00) 1 0 0 (7 ∷ 7 ∷ [])
-    ∷ exactCall 1 0 2 (replicate 65537 0x00) 1 0 0 (7 ∷ 7 ∷ [])
-    ∷ exactCall 1 8193 2 (replicate 65537 0x00) 1 0 0 (7 ∷ 7 ∷ [])
     -- 2: working table too short
-    ∷ exactCall 4096 8192 2 (replicate 65537 0x00) 2 0 0 (7 ∷ 7 ∷ [])
     ∷ exactCall 1 1 95 (replicate 65537 0x00) 2 0 0 (replicate 95 7)
     -- 3: journal longer than 65,536 bytes
     ∷ exactCall 1 1 97 (replicate 65537 0x00) 3 0 0 (replicate 97 7)
@@ -58,9 +53,8 @@ exactAtStart =
 -- Stopped: the place of the refused command, whatever was answered before it, and W numbers of the table are 0.
 unfoldable pub exactStopped : List ExactCall
 exactStopped =
-    -- 4: a byte that is no command's, in the longest journal; and with two numbers beyond W
-    exactCall 1 1 96 (replicate 65536 0x00) 4 0 0 (replicate 96 0)
-    ∷ exactCall 1 1 98 (0x01 ∷ 0x10 ∷ []) 4 1 0 (replicate 96 0 ++ 7 ∷ 7 ∷ [])
+    -- 4: a byte that is no command's, with two numbers beyond W
+    exactCall 1 1 98 (0x01 ∷ 0x10 ∷ []) 4 1 0 (replicate 96 0 ++ 7 ∷ 7 ∷ [])
     -- 5: operands cut off
     ∷ exactCall 1 1 96 (0x01 ∷ 0x0C ∷ 0 ∷ 0 ∷ 0 ∷ []) 5 1 0 (replicate 96 0)
     -- 6: a cabinet not yet given, in front of operands cut off, where the first forecast says 5 at place 6
@@ -111,31 +105,28 @@ everyCommand =
     ∷ exchangeShare
     ∷ []
 
--- The ladder, with spans 7 and 8 for a way 3-6-2 beside its rung. From 0 to 5 the register gives the way over the rung, 0-1-4-5, and 0-3-6-2-5,
--- which is shorter than one that goes back over the rung: seven spans, and 19 bytes. The two sides of the ladder have six, and would take 17.
-unfoldable pub besideTheRung : List Command
-besideTheRung = addCabinet ∷ ladderSpans ++ addSpan 3 6 ∷ addSpan 6 2 ∷ routesBetween 0 5 ∷ []
-
 -- Accepted: the journal's length, the bytes of all answers, and W numbers of the table are 0.
 unfoldable pub exactAccepted : List ExactCall
 exactAccepted =
     -- no command; and with two numbers beyond W
     exactCall 1 1 96 [] 0 0 0 (replicate 96 0)
     ∷ exactCall 1 1 98 [] 0 0 0 (replicate 96 0 ++ 7 ∷ 7 ∷ [])
-    -- as many cabinets as there may be: 3 bytes each
-    ∷ exactCall 100 1 2472 (replicate 100 0x01) 0 100 300 (replicate 2472 0)
-    -- the triangle: 9 for the cabinets, 12 for each span with one notice, 22 for the one with three, where the first forecast says 75
+    -- the triangle: 9 for the cabinets, 12 for each span with one notice, 22 for the one with three, where the first forecast says 75; and 11 for
+    -- a route of one span and one of two
     ∷ exactCall 3 3 160
     (0x01 ∷ 0x01 ∷ 0x01 ∷ 0x02 ∷ 0 ∷ 0 ∷ 0 ∷ 1 ∷ 0x02 ∷ 0 ∷ 1 ∷ 0 ∷ 2 ∷ 0x02 ∷ 0 ∷ 2 ∷ 0 ∷ 0 ∷ [])
     0
     18
     55
     (replicate 160 0)
+    ∷ exactCall 3 3 160
+    (0x01 ∷ 0x01 ∷ 0x01 ∷ 0x02 ∷ 0 ∷ 0 ∷ 0 ∷ 1 ∷ 0x02 ∷ 0 ∷ 1 ∷ 0 ∷ 2 ∷ 0x02 ∷ 0 ∷ 2 ∷ 0 ∷ 0 ∷ 0x0C ∷ 0 ∷ 0 ∷ 0 ∷ 1 ∷ [])
+    0
+    23
+    66
+    (replicate 160 0)
     -- every command
     ∷ exactCall 2 2 128 (journalBytes everyCommand) 0 60 72 (replicate 128 0)
-    -- routes that are not the shortest: 21 for the cabinets; 60 for five spans with one notice, 52 for the one with nine, 7 for the rung, 12
-    -- and 17 for those beside it; and 19
-    ∷ exactCall 7 9 305 (journalBytes besideTheRung) 0 57 188 (replicate 304 0 ++ 7 ∷ [])
     ∷ []
 
 unfoldable pub exactCalls : List ExactCall
