@@ -8,9 +8,7 @@
  * a journal of the old reading, by which spans from 02 have no mates, into one that a run answers as that
  * reading does. A call of register_join makes one journal of two, with spans between their networks.
  * Nothing is kept between calls. Wherever a journal or an answer has a number in two bytes, the high byte
- * comes first. Here the bytes of commands and answers are in hexadecimal, from command 01 to command 10
- * and from answer 81 to answer 90; all other figures are decimal, those of refusals too. The header is for
- * C from C11 and for C++ from C++11 on.
+ * comes first. The header is for C from C11 and for C++ from C++11 on.
  */
 #ifndef REGISTER_H
 #define REGISTER_H
@@ -29,7 +27,7 @@ extern "C" {
 
 /* The least length of the working table, in numbers of 32 bits, for capacities c and s. A joining takes
    the one for the greatest capacities. */
-#define REGISTER_WORK(c, s) (32u * (size_t)(c) + 15u * (size_t)(s) + 64u)
+#define REGISTER_WORK(c, s) (24u * (size_t)(c) + 8u * (size_t)(s) + 64u)
 
 /* The bytes of stack that a call of any of the functions takes are fewer than this, whatever the
    capacities. A program that is linked dynamically and bound lazily pays besides, at the first call,
@@ -62,7 +60,7 @@ enum {
     REGISTER_LONG_JOURNAL = 3, /* journal longer than 65,536 bytes */
     /* Stopped at a command. From a run: the report is filled, the answers before it stand. From a
        forecast of either kind: the place is the command's, and the length is 0. */
-    REGISTER_BAD_COMMAND = 4,       /* a byte that is no command's: not hexadecimal 01 to 10 */
+    REGISTER_BAD_COMMAND = 4,       /* a byte that is no command's: not 01 to 0F */
     REGISTER_CUT_OFF = 5,           /* operands cut off by the journal's end */
     REGISTER_UNKNOWN_CABINET = 6,   /* a cabinet number not yet given */
     REGISTER_UNKNOWN_SPAN = 7,      /* a span number not yet given */
@@ -134,33 +132,6 @@ enum {
  * run returns and leaves in its buffers is settled by its input and by these pairs: their lengths
  * decide where later answers stand, what the report counts, what is forecast to the byte, and whether
  * there is room.
- */
-
-/*
- * Two losses. Command 10 a b, with operands of two bytes each, asks whether cabinets a and b outlive any
- * two cuts. It is answered by 90 and one byte, 1 exactly if no loss of at most two sets of mates parts
- * them, else 0. So 1 says that they share a district, and still do without any one span and its mates, and
- * without any two spans and theirs. A cabinet with itself gives 1, and cabinets of two districts give 0:
- * neither is refused. A cabinet that is not there is refused with REGISTER_UNKNOWN_CABINET.
- *
- * A set of mates counts once, however many they are: two cabinets with spans in three ducts between them
- * give 1, all spans with no duct told counting as one duct; with spans in two, and no others in the
- * network, they give 0. It needs no span between the two: where each has one to each of the same three
- * others, they give 1.
- *
- * Asked at one time, cabinets that give 1 with each other fall into classes: a and b give what b and a
- * give, and if a gives 1 with b, and b with a third one, then so does a with that. Each class lies inside
- * one ring: where 1 is given, 04 gives the same two fields for a and b, and 0C has two routes if they
- * differ. It is not so the other way round: cabinets of one ring may give 0, and a ring may hold several
- * classes. The ways between the cabinets of a class may lead through cabinets that are not in it.
- *
- * A class has no name, its size is not told, and no notice tells that it grows. A new span may make it
- * grow though it is at none of its cabinets and changes no name; so where 0 was given, ask again. Where 1
- * was given, no later command makes it 0.
- *
- * Each question of two cabinets of one ring is up to three searches through the network, as far as it is
- * entered by then: its time is at most in proportion to the number of all cabinets and spans. Any other is
- * answered at once. Nothing is kept for the next one, and no other answer is changed.
  */
 
 /*
@@ -412,8 +383,8 @@ _Static_assert(sizeof(struct register_seam) == 6 && _Alignof(struct register_sea
  * seams     The seams, seams_len records. They are only read. There may be none, and then the two networks
  *           stay apart.
  * work      The working table, work_len numbers of 32 bits, at least REGISTER_WORK(4096, 8192), which is
- *           254,016, however small the journals are. If it is shorter, all of it is as before; on every
- *           other return, accepted or refused, its first 254,016 numbers are 0. Those beyond never change.
+ *           163,904, however small the journals are. If it is shorter, all of it is as before; on every
+ *           other return, accepted or refused, its first 163,904 numbers are 0. Those beyond never change.
  * out       The output buffer, out_len bytes. If the journals are joined, the result is written from its
  *           first byte on, and the rest is as before. If that is refused, all of it is as before.
  * length    Filled on every return: the result's length if the journals are joined, and 0 if that is
@@ -461,9 +432,9 @@ _Static_assert(sizeof(struct register_seam) == 6 && _Alignof(struct register_sea
  *           names of districts and rings raised by the first's count of cabinets, and the numbers of spans
  *           and the names of meshes by the first's count of spans, in notices too. Nothing else is raised:
  *           no count, no size, no metres, no byte that is 1 or 0, nor the 0000 of "no shared mesh" and of
- *           "no length". So 10 is answered as in the second's own run. But 0F is answered for both
- *           networks, the first whole and the second as far as it is entered by then; and 0C with two
- *           routes that serve there, which may be others than those of the second's own run raised.
+ *           "no length". But 0F is answered for both networks, the first whole and the second as far as it
+ *           is entered by then; and 0C with two routes that serve there, which may be others than those of
+ *           the second's own run raised.
  * seams     To each seam an 82 with its notices, as to any 0B.
  *
  * So a name list that is kept for the first needs no change until the seams, and one that is kept for the

@@ -6,15 +6,13 @@
  *
  * Forecasts and runs random journals, and the longest one with all cabinets and spans, each several
  * times: with the room for the answers that is forecast, with room to the byte, with one byte less,
- * refused at the start, cut short, and in working tables of every length around the least, of the length
- * that an older library asked for, and of none. Every buffer has just the length that is told. With the
- * room that is forecast, for the journal or up to its damaged place, no run may return 11. The working
- * table must be cleared as far as a run takes it; what lies beyond, and behind the answers, must be as
- * before, and every buffer if the start refused the run.
+ * refused at the start, and cut short. Every buffer has just the length that is told. With the room
+ * that is forecast, for the journal or up to its damaged place, no run may return 11.
  *
- * Forecasts them to the byte too, in the same working tables, with the same capacities and with fewer, and
- * what comes before a refused command. What is told must be what the run in ample room returned, reported
- * and wrote; the working table must be left as by a run.
+ * Forecasts them to the byte too, in working tables of every length around the least, with the same
+ * capacities and with fewer, and what comes before a refused command. What is told must be what the run
+ * in ample room returned, reported and wrote; the working table must be cleared as far as a run takes it,
+ * or as before if the start refused it, and what lies beyond must be as before.
  *
  * Rewrites them too, and such of the old reading, which have no 0B, with output buffers of every length
  * around the result's. What is returned and written must be what a rewriting by hand gives; what lies
@@ -22,9 +20,8 @@
  *
  * Joins some of them by two, and the longest and fullest, with seams that are good, and refused for each
  * cause, where those that come later in order apply too. What is returned and written must be what a
- * joining by hand gives; the working table, once of every length around the least too, must be cleared as
- * far as a joining takes it, or as before if it is too short. A run of the result must be accepted, or
- * find no place, as the counts of both tell.
+ * joining by hand gives; the working table must be cleared as far as a joining takes it, or as before if
+ * it is too short. A run of the result must be accepted, or find no place, as the counts of both tell.
  *
  * Between fences a buffer lies against a page that must not be touched, once with its end and once
  * with its beginning; the journals and the seams can only be read. A touch beyond is told, with its
@@ -53,11 +50,6 @@ enum { LONGEST = REGISTER_LONGEST_JOURNAL, TOO_LONG = LONGEST + 1, FAR_TOO_LONG 
 enum { JOINED_OF = 10, SMALL_SEED = 6, FEW_SEAMS = 4 };
 enum { SEAM = 7, FITTING_SEAMS = LONGEST / SEAM, MOST_SEAMS = 2 * FITTING_SEAMS };
 enum { WHOLE_WORK = REGISTER_WORK(REGISTER_MOST_CABINETS, REGISTER_MOST_SPANS) };
-
-/* The working table that an older library asked for. It is too short for all capacities, also for a
-   journal that would not need more. */
-#define FORMER_WORK(c, s) (24u * (size_t)(c) + 8u * (size_t)(s) + 64u)
-enum { FORMER_WHOLE = FORMER_WORK(REGISTER_MOST_CABINETS, REGISTER_MOST_SPANS) };
 
 /* ---- The journal ---- */
 
@@ -179,15 +171,6 @@ static void ask_routes(unsigned a, unsigned b)
     command(0x0C, 2, a, b);
 }
 
-/* Whether cabinets outlive any two cuts: any two, or two that share a ring. */
-static void ask_two_cuts(unsigned a, unsigned b)
-{
-    if (below(2) == 0)
-        command(0x10, 2, ringed[0], ringed[1]);
-    else
-        command(0x10, 2, a, b);
-}
-
 /* A length of one of the newest spans or of any, on one of few days; now and then of a span that is not
    there. */
 static void record_any(void)
@@ -206,7 +189,7 @@ static void any_command(void)
     unsigned a = below(cabinets), b = (a + 1 + below(cabinets - 1)) % cabinets;
     if (below(100) == 0)
         b = below(2) == 0 ? a : cabinets;
-    switch (below(57)) {
+    switch (below(54)) {
     case 0: command(0x01, 0, 0, 0); break;
     case 1: command(0x08, 1, below(spans), 0); break;
     case 2: command(0x03, 1, a, 0); break;
@@ -222,7 +205,6 @@ static void any_command(void)
     case 25: case 26: case 27: ask_routes(a, b); break;
     case 28: case 29: case 30: case 31: record_any(); break;
     case 32: case 33: command(0x0E, 1, below(20) == 0 ? spans : below(spans), 0); break;
-    case 34: case 35: case 36: ask_two_cuts(a, b); break;
     default: add_any(a, b);
     }
 }
@@ -284,18 +266,10 @@ static void ask_far_routes(void)
         command(0x0C, 2, i, most / 2 + i);
 }
 
-/* Whether far cabinets outlive any two cuts. */
-static void ask_far_cuts(void)
-{
-    unsigned most = REGISTER_MOST_CABINETS;
-    for (unsigned i = 0; i < 2; i++)
-        command(0x10, 2, i, most / 2 + i);
-}
-
 /* All cabinets in a chain, the first links of it in ducts, measured and then with mates; exchanges in it,
    its names and its lists, the span that closes it, spans until there are no more, and questions until the
    journal is as long as it may be; routes round the loop, and in the whole network, and lengths and names
-   there; and what outlives any two cuts in the chain, the loop and the whole network. */
+   there. */
 static void large_journal(void)
 {
     unsigned most = REGISTER_MOST_CABINETS;
@@ -315,17 +289,14 @@ static void large_journal(void)
     ask_names();
     command(0x06, 2, 0, most - 1);
     command(0x07, 2, most - 1, 0);
-    ask_far_cuts();
     command(0x02, 2, most - 1, 0);
     ask_far_routes();
-    ask_far_cuts();
     while (spans < REGISTER_MOST_SPANS) {
         unsigned a = below(most);
         command(0x02, 2, a, (a + 1 + below(most - 1)) % most);
     }
     ask_exchanges();
     ask_far_routes();
-    ask_far_cuts();
     survey();
     ask_names();
     while (journal_length < LONGEST)
@@ -464,13 +435,12 @@ struct call {
     size_t journal, work, answers, report;
 };
 
-/* What a run gives: the returned number and, unless the start refused it, the report and the answers in
-   one number; and whether the working table and what lies behind the answers are as they must be, and the
-   report too if the start refused it. */
+/* What a run gives: the returned number and, unless the start refused it, the report, the answers in
+   one number, and whether the working table is 0. */
 struct outcome {
     uint32_t number, report[REGISTER_REPORT];
     uint64_t answers;
-    int left;
+    int cleared;
 };
 
 static unsigned runs_made, forecasts_made, exact_made, rewritings_made, joinings_made;
@@ -503,7 +473,7 @@ static int all_held(const uint8_t *bytes, size_t length, int held)
    unset. */
 static int is_left(const uint32_t *work, size_t length, size_t taken, enum place at, int held)
 {
-    return taken <= length && is_zero(work, taken)
+    return is_zero(work, taken)
         && (at == IN_THE_HEAP
             || all_held((const uint8_t *)(work + taken), (length - taken) * sizeof *work, held));
 }
@@ -516,7 +486,7 @@ static int is_past_start(uint32_t number)
 
 static struct outcome run(const struct call *call, enum place place, int held)
 {
-    struct outcome outcome = {0};
+    struct outcome outcome = {.cleared = 1};
     uint8_t *own_journal = lend(JOURNAL, call->journal, place, held);
     uint32_t *work = lend(WORK, call->work * sizeof *work, place, held);
     uint8_t *answers = lend(ANSWERS, call->answers, place, held);
@@ -527,15 +497,11 @@ static struct outcome run(const struct call *call, enum place place, int held)
                                   answers, call->answers, report, call->report);
     allow_journal(PROT_READ | PROT_WRITE);
     runs_made++;
-    int past = is_past_start(outcome.number);
-    if (past)
+    if (is_past_start(outcome.number)) {
         memcpy(outcome.report, report, sizeof outcome.report);
-    size_t written = outcome.report[REGISTER_REPORT_ANSWERS];
-    outcome.left = written <= call->answers
-        && is_left(work, call->work, past ? REGISTER_WORK(call->c, call->s) : 0, place, held)
-        && (place == IN_THE_HEAP || (all_held(answers + written, call->answers - written, held)
-            && (past || all_held((const uint8_t *)report, call->report * sizeof *report, held))));
-    outcome.answers = digest(answers, outcome.left ? written : 0);
+        outcome.answers = digest(answers, report[REGISTER_REPORT_ANSWERS]);
+        outcome.cleared = is_zero(work, call->work);
+    }
     give_back(place);
     return outcome;
 }
@@ -545,7 +511,8 @@ static int same(const struct outcome *one, const struct outcome *other)
     for (unsigned i = 0; i < REGISTER_REPORT; i++)
         if (one->report[i] != other->report[i])
             return 0;
-    return one->number == other->number && one->answers == other->answers && one->left && other->left;
+    return one->number == other->number && one->answers == other->answers && one->cleared
+        && other->cleared;
 }
 
 /* Where the buffers lie between fences, and what they hold. */
@@ -573,29 +540,6 @@ static int returns(struct call call, uint32_t number)
 {
     struct outcome outcome;
     return agree(&call, &outcome) && outcome.number == number;
-}
-
-/* Runs in a working table of this length; the outcome must be this one, or 2 if it is too short. */
-static int runs_in(struct call call, size_t work, const struct outcome *wanted)
-{
-    struct outcome outcome;
-    int is_short = work < REGISTER_WORK(call.c, call.s);
-    call.work = work;
-    return agree(&call, &outcome)
-        && (is_short ? outcome.number == REGISTER_SHORT_BUFFER : same(&outcome, wanted));
-}
-
-/* Runs in no working table, in the one that was once enough, and in one of every length around the least,
-   or of every so many. The capacities are good. */
-static int runs_around(const struct call *call, const struct outcome *wanted)
-{
-    size_t least = REGISTER_WORK(call->c, call->s), step = least < WHOLE_WORK ? 1 : AROUND;
-    if (!runs_in(*call, 0, wanted) || !runs_in(*call, FORMER_WORK(call->c, call->s), wanted))
-        return 0;
-    for (size_t work = least - AROUND; work <= least + AROUND; work += step)
-        if (!runs_in(*call, work, wanted))
-            return 0;
-    return 1;
 }
 
 /* ---- Forecasts ---- */
@@ -711,16 +655,13 @@ static int tells(const struct call *call, struct forecast wanted)
     return 1;
 }
 
-/* The same in no working table, in the one that was once enough, and in one of every length around the
-   least, where this is told once it is long enough. The capacities are good. */
+/* The same in no working table, and in one of every length around the least, where this is told once it
+   is long enough. The capacities are good. */
 static int tells_around(struct call call, struct forecast wanted)
 {
     const struct forecast too_short = {REGISTER_SHORT_BUFFER, 0, 0};
     size_t least = REGISTER_WORK(call.c, call.s);
     call.work = 0;
-    if (!tells(&call, too_short))
-        return 0;
-    call.work = FORMER_WORK(call.c, call.s);
     if (!tells(&call, too_short))
         return 0;
     for (call.work = least - AROUND; call.work <= least + AROUND; call.work++)
@@ -829,7 +770,7 @@ static int same_rewriting(const struct rewriting *one, const struct rewriting *o
 }
 
 /* The bytes of each command with its operands. */
-static const uint8_t widths[0x11] = {0, 1, 5, 3, 3, 5, 5, 5, 3, 3, 3, 7, 5, 7, 3, 1, 5};
+static const uint8_t widths[0x10] = {0, 1, 5, 3, 3, 5, 5, 5, 3, 3, 3, 7, 5, 7, 3, 1};
 
 static struct rewriting not_rewritten(uint32_t number, size_t place)
 {
@@ -846,7 +787,7 @@ static struct rewriting rewritten_by_hand(size_t journal_bytes, size_t room)
         return not_rewritten(REGISTER_LONG_JOURNAL, 0);
     for (size_t at = 0; at < journal_bytes; at += widths[journal[at]]) {
         unsigned byte = journal[at];
-        if (byte < 0x01 || byte > 0x10)
+        if (byte < 0x01 || byte > 0x0F)
             return not_rewritten(REGISTER_BAD_COMMAND, at);
         if (journal_bytes - at < widths[byte])
             return not_rewritten(REGISTER_CUT_OFF, at);
@@ -984,8 +925,8 @@ static void put_joined(unsigned value)
 }
 
 /* What the operands of each command are: cabinets, spans, or neither. */
-static const char *const operands[0x11] = {"", "", "cc", "c", "c", "cc", "cc", "cc",
-                                           "s", "c", "c", "cc-", "cc", "s--", "s", "", "cc"};
+static const char *const operands[0x10] = {"", "", "cc", "c", "c", "cc", "cc", "cc",
+                                           "s", "c", "c", "cc-", "cc", "s--", "s", ""};
 
 /* Puts the second journal, of so many bytes, behind the first one. */
 static void put_second(size_t length, struct network first)
@@ -1115,7 +1056,7 @@ static int join_bad_journals(struct parts parts)
     uint16_t duct = seams[0].duct;
     size_t room = parts.room - 1;
     seams[0].duct = 0;
-    journal[parts.first] = 0x11;
+    journal[parts.first] = 0x10;
     second[parts.second] = 0x00;
     struct parts no_table = {parts.first + 1, parts.second, parts.seams, WHOLE_WORK - 1, room};
     int as_wanted = joins_with(parts.first + 1, parts.second, parts.seams, room, REGISTER_REFUSED_JOURNAL)
@@ -1127,22 +1068,20 @@ static int join_bad_journals(struct parts parts)
 }
 
 /* Joins what a run accepts of so many bytes of both journals by a few seams: in room to the byte, in more
-   with a longer working table, with tables that are too short, in too little room, and refused for each
+   with a longer working table, with a table that is too short, in too little room, and refused for each
    other cause. */
 static int join_fronts(size_t first_bytes, size_t second_bytes)
 {
     struct network first = network_of(journal, first_bytes), other = network_of(second, second_bytes);
-    struct parts exact = {first.place, other.place, 1 + below(FEW_SEAMS), WHOLE_WORK, 0};
-    struct parts longer, none, former;
+    struct parts exact = {first.place, other.place, 1 + below(FEW_SEAMS), WHOLE_WORK, 0}, longer, none;
     make_seams(exact.seams, first, other);
     exact.room = exact.first + exact.second + SEAM * exact.seams;
-    longer = none = former = exact;
+    longer = none = exact;
     longer.room += AROUND;
     longer.work += AROUND;
     none.work = WHOLE_WORK - 1;
-    former.work = FORMER_WHOLE;
     return joins_with(exact.first, exact.second, exact.seams, exact.room, REGISTER_ACCEPTED)
-        && result_runs(first, other, exact.seams) && joins(&longer) && joins(&none) && joins(&former)
+        && result_runs(first, other, exact.seams) && joins(&longer) && joins(&none)
         && joins_with(exact.first, exact.second, exact.seams, exact.room - 1, REGISTER_LONG_JOIN)
         && joins_with(exact.first, exact.second, exact.seams, 0, REGISTER_LONG_JOIN)
         && join_bad_seams(exact, first, other) && join_bad_journals(exact);
@@ -1159,8 +1098,8 @@ static int run_in_forecast_room(size_t journal_bytes, struct call *call, struct 
         && outcome->number != REGISTER_NO_ROOM;
 }
 
-/* The journal with the room that is forecast, forecast to the byte, with room to the byte and working
-   tables of many lengths, with a byte less, and refused at the start. */
+/* The journal with the room that is forecast, forecast to the byte, with room to the byte, with a byte
+   less, and refused at the start. */
 static int run_journal(void)
 {
     struct call exact, no_room, no_table, no_report, no_cabinets, too_long;
@@ -1174,7 +1113,7 @@ static int run_journal(void)
     no_report.report--;
     no_cabinets.c = 0;
     too_long.journal = TOO_LONG;
-    return agree(&exact, &outcome) && same(&outcome, &wanted) && runs_around(&exact, &wanted)
+    return agree(&exact, &outcome) && same(&outcome, &wanted)
         && returns(no_room, REGISTER_NO_ROOM) && returns(no_table, REGISTER_SHORT_BUFFER)
         && returns(no_report, REGISTER_SHORT_BUFFER)
         && returns(no_cabinets, REGISTER_BAD_CAPACITY) && returns(too_long, REGISTER_LONG_JOURNAL);
@@ -1211,7 +1150,6 @@ static int forecast_longest(void)
     const struct forecast routes = {REGISTER_ACCEPTED, LONGEST - 1, 65535};
     const struct forecast records = {REGISTER_ACCEPTED, LONGEST - 2, 9362};
     const struct forecast lengths = {REGISTER_ACCEPTED, LONGEST - 1, 87380};
-    const struct forecast cuts = {REGISTER_ACCEPTED, LONGEST - 1, 26214};
     const struct forecast cut_off = {REGISTER_CUT_OFF, LONGEST - 1, 0};
     const struct forecast unknown = {REGISTER_BAD_COMMAND, LONGEST - 1, 0};
     const struct forecast too_long = {REGISTER_LONG_JOURNAL, 0, 0};
@@ -1230,18 +1168,12 @@ static int forecast_longest(void)
     memset(journal, 0x0E, sizeof journal);
     if (!forecasts(LONGEST - 1, lengths) || !forecasts(LONGEST, cut_off))
         return 0;
-    memset(journal, 0x10, sizeof journal);
-    if (!forecasts(LONGEST - 1, cuts) || !forecasts(LONGEST, cut_off))
-        return 0;
     memset(journal, 0x01, sizeof journal);
     if (!forecasts(LONGEST, all) || !forecasts(TOO_LONG, too_long)
         || !forecasts(FAR_TOO_LONG, too_long))
         return 0;
     journal[LONGEST - 1] = 0x02;
     if (!forecasts(LONGEST, cut_off))
-        return 0;
-    journal[LONGEST - 1] = 0x11;
-    if (!forecasts(LONGEST, unknown))
         return 0;
     journal[LONGEST - 1] = 0xFF;
     return forecasts(LONGEST, unknown) && forecasts(TOO_LONG, too_long);
@@ -1254,22 +1186,6 @@ static int tells_of(size_t journal_bytes, struct forecast wanted)
     const struct call call = {.c = REGISTER_MOST_CABINETS, .s = REGISTER_MOST_SPANS,
                               .journal = journal_bytes, .work = WHOLE_WORK};
     return tells(&call, wanted);
-}
-
-/* The longest journal of questions whether cabinets outlive any two cuts: of one cabinet with itself, and
-   of one that is not there. */
-static int exact_cuts(void)
-{
-    const struct forecast cuts = {REGISTER_ACCEPTED, LONGEST, 3 + 26214};
-    const struct forecast not_there = {REGISTER_UNKNOWN_CABINET, 0, 0};
-    memset(journal, 0x10, sizeof journal);
-    if (!tells_of(LONGEST, not_there))
-        return 0;
-    start_journal(1);
-    command(0x01, 0, 0, 0);
-    while (journal_length < LONGEST)
-        command(0x10, 2, 0, 0);
-    return tells_of(LONGEST, cuts);
 }
 
 /* The longest journals of one command alone, damaged in the last byte, and longer ones. */
@@ -1288,9 +1204,6 @@ static int exact_longest(void)
     if (!tells_of(LONGEST, cut_off) || !tells_of(TOO_LONG, too_long))
         return 0;
     journal[LONGEST - 1] = 0x10;
-    if (!tells_of(LONGEST, cut_off))
-        return 0;
-    journal[LONGEST - 1] = 0x11;
     if (!tells_of(LONGEST, unknown))
         return 0;
     memset(journal, 0x01, sizeof journal);
@@ -1347,9 +1260,6 @@ static int rewrite_told(void)
         || !rewrites_with(whole - 1, FAR_TOO_LONG, REGISTER_CUT_OFF))
         return 0;
     journal[whole] = 0x10;
-    if (!rewrites_with(whole + 1, FAR_TOO_LONG, REGISTER_CUT_OFF))
-        return 0;
-    journal[whole] = 0x11;
     return rewrites_with(whole + 1, FAR_TOO_LONG, REGISTER_BAD_COMMAND);
 }
 
@@ -1381,24 +1291,6 @@ static int join_small(void)
     const struct parts whole = {journal_length, second_length, 0, WHOLE_WORK + AROUND,
                                 journal_length + second_length};
     return joins(&whole) && join_fronts(journal_length, second_length);
-}
-
-/* The same small journal twice, in no working table, in the one that was once enough, and in one of every
-   length around the least. */
-static int join_around(void)
-{
-    small_journal(SMALL_SEED);
-    size_t length = network_of(journal, make_second()).place;
-    const struct parts none = {length, length, 0, 0, 2 * length};
-    const struct parts former = {length, length, 0, FORMER_WHOLE, 2 * length};
-    if (!joins(&none) || !joins(&former))
-        return 0;
-    for (size_t work = WHOLE_WORK - AROUND; work <= WHOLE_WORK + AROUND; work++) {
-        const struct parts parts = {length, length, 0, work, 2 * length};
-        if (!joins(&parts))
-            return 0;
-    }
-    return 1;
 }
 
 /* As many bytes of the largest journal as leave room for a small one and for the seams: with it behind
@@ -1454,7 +1346,7 @@ static int join_by_many_seams(void)
     return joins_with(1, 1, MOST_SEAMS, FAR_TOO_LONG, REGISTER_BAD_SEAM);
 }
 
-/* Half of all cabinets in a chain, with names, exchanges, records and lists, and a question about cuts. */
+/* Half of all cabinets in a chain, with names, exchanges, records and lists. */
 static void half_journal(void)
 {
     unsigned half = REGISTER_MOST_CABINETS / 2;
@@ -1470,7 +1362,6 @@ static void half_journal(void)
     command(0x06, 2, 0, half - 1);
     command(0x07, 2, half - 1, 0);
     command(0x08, 1, spans - 1, 0);
-    command(0x10, 2, 0, half - 1);
 }
 
 /* Two halves with as many seams as a run takes; and one more. */
@@ -1501,8 +1392,7 @@ static int join_nothing(void)
 
 static int join_largest(void)
 {
-    return join_around() && join_large() && join_longest() && join_by_many_seams() && join_fullest()
-        && join_nothing();
+    return join_large() && join_longest() && join_by_many_seams() && join_fullest() && join_nothing();
 }
 
 static int run_all(unsigned journals)
@@ -1515,8 +1405,8 @@ static int run_all(unsigned journals)
     }
     large_journal();
     return run_journal() && run_cut_short() && rewrite_around(journal_length) && forecast_names()
-        && forecast_longest() && exact_longest() && exact_cuts() && exact_nothing() && rewrite_longest()
-        && rewrite_told() && join_largest();
+        && forecast_longest() && exact_longest() && exact_nothing() && rewrite_longest() && rewrite_told()
+        && join_largest();
 }
 
 static int make_all_pages(void)

@@ -10,25 +10,21 @@
  * district's, each new number against the next one, what is answered about exchanges (0A and 0F) against
  * its own marks and ring names, what is answered about sole spans (06 and 08) against its own spans and
  * ring names, and the length of each span (0E) against its own records, and follows each two routes that
- * it asked for (0C) over its own spans. Whether two cabinets outlive any two cuts (10), each of a span
- * with its mates, it holds against every two cuts of its own spans, and against its ring names where they
- * do; and once it has asked for all pairs, it holds that these fall into classes. It prints the names, the
- * sizes, the lengths, the last two routes, with how long these are, and the classes, and tells each
- * hospital whether it outlives any two cuts.
+ * it asked for (0C) over its own spans. It prints the names, the sizes, the lengths and the last two
+ * routes, with how long these are.
  *
  * It queues splicing orders, one for each ring without an exchange, by the size of the ring: the largest
  * first, among equals the least name. It prints the queue whenever it is another than before.
  *
  * Then it takes a small journal of a branch on the old reading, by which spans from 02 have no mates. It
  * runs it as it stands, where it is refused in the end, has it rewritten, runs the result, and then the
- * result without its last byte, and prints what each of the three runs tells. As it stands no two cabinets
- * outlive two cuts; by the old reading two do.
+ * result without its last byte, and prints what each of the three runs tells.
  *
  * Last it takes the journals of two cooperatives that unite. It runs each, has them joined by two seams,
  * and runs the result. Before the seams it holds its name list against the lists of both, the second's
- * raised by the first's counts of cabinets and spans, and likewise the pairs that outlive two cuts. It
- * prints the names and classes of each alone, of the second raised, and of all behind the seams; there it
- * goes on with the result as with any journal, and asks about all of it.
+ * raised by the first's counts of cabinets and spans. It prints the names of each alone, of the second
+ * raised, and of all behind the seams; there it goes on with the result as with any journal, and asks
+ * about all of it.
  *
  * It exits with 1 if any two differ, a route does not serve, or a forecast, a run, a rewriting or a
  * joining does not return what it must.
@@ -49,7 +45,7 @@ static uint8_t *answers;
 static uint32_t answers_length;
 static uint32_t report[REGISTER_REPORT];
 
-/* The ends of the spans as entered, for reading the answers to 05, 06, 08, 0C and 10. */
+/* The ends of the spans as entered, for reading the answers to 05, 06, 08 and 0C. */
 static unsigned ends[SPANS][2];
 static size_t spans_entered;
 
@@ -161,21 +157,6 @@ static void ask_share(void)
     put_byte(0x0F);
 }
 
-static void ask_two_cuts(unsigned a, unsigned b)
-{
-    put_byte(0x10);
-    put_operand(a);
-    put_operand(b);
-}
-
-/* Asks for every two of some cabinets whether they outlive any two cuts, each with itself too. */
-static void ask_all_cuts(unsigned first, unsigned count)
-{
-    for (unsigned a = first; a < first + count; a++)
-        for (unsigned b = first; b < first + count; b++)
-            ask_two_cuts(a, b);
-}
-
 /* Asks for two routes between every two of some cabinets, which share a ring. */
 static void ask_all_routes(unsigned first, unsigned count)
 {
@@ -219,21 +200,15 @@ static void add_to_link(unsigned village, unsigned a, unsigned b)
 }
 
 /* Two cabinets with two spans from 02, which are mates and leave them two rings; then one in a duct, which
-   is no mate of these and makes them one, with two routes; then one in another duct, and no two cuts part
-   them. */
+   is no mate of these and makes them one, with two routes. */
 static void write_pair(unsigned first, unsigned cabinets)
 {
     add_span(first, first + 1);
     add_span(first + 1, first);
     ask_all(cabinets);
-    ask_all_cuts(first, 2);
     add_in_duct(first, first + 1, 5);
     ask_all(cabinets);
     ask_all_routes(first, 2);
-    ask_all_cuts(first, 2);
-    add_in_duct(first + 1, first, 6);
-    ask_all(cabinets);
-    ask_all_cuts(first, 2);
 }
 
 /* The sheets that were late, for both spans of each link, the first of which is this: one of the earlier
@@ -253,12 +228,6 @@ static void write_late_sheets(size_t first)
    an empty network. Two routes are asked for in each village once it is a ring, and between all of the
    villages in the end.
 
-   Whether two cabinets outlive any two cuts is asked for all pairs before the first span; in each village
-   once it is a ring, where two cuts part every two; in the first village before each link, and again with
-   one span of it; and for all pairs in the end. Then the two cabinets of a village at which links begin
-   and end outlive them: one way is between them, one by the third cabinet, and one round the great loop.
-   No cabinets of two villages do.
-
    The last two cabinets stay by themselves, and the very last is entered behind the villages. So with five
    villages there are 16 cabinets at first, of which one is 62.5 thousandths and three are 187.5, two exact
    halves: the one goes down to 62, the other up to 188. Of 17 six are 352.9, up to 353, and 15 are 882.4,
@@ -273,7 +242,6 @@ static void write_journal(unsigned villages)
     ask_share();
     for (unsigned cabinet = 0; cabinet < cabinets; cabinet++)
         add_cabinet();
-    ask_all_cuts(0, cabinets);
     for (unsigned village = villages; village-- > 0;) {
         unsigned first = 3 * village;
         if (village % 2 == 1) {
@@ -287,7 +255,6 @@ static void write_journal(unsigned villages)
             measure_newest(3, 0);
         ask_all(cabinets);
         ask_all_routes(first, 3);
-        ask_all_cuts(first, 3);
     }
     add_cabinet();
     cabinets++;
@@ -295,11 +262,9 @@ static void write_journal(unsigned villages)
     size_t first_link = spans_entered;
     for (unsigned village = 0; village < villages; village++) {
         unsigned here = 3 * village + 1, there = 3 * ((village + 1) % villages);
-        ask_all_cuts(0, 3);
         add_to_link(village, here, there);
         measure_newest(1, 2 * village + 1);
         ask_all(cabinets);
-        ask_all_cuts(0, 3);
         add_to_link(village, there, here);
         measure_newest(2, 2 * village + 2);
         ask_all(cabinets);
@@ -307,7 +272,6 @@ static void write_journal(unsigned villages)
     write_late_sheets(first_link);
     ask_all(cabinets);
     ask_all_routes(0, 3 * villages);
-    ask_all_cuts(0, cabinets);
 }
 
 /* ---- Having it run ---- */
@@ -424,8 +388,7 @@ static size_t asked_at, answered_at;
 static unsigned asked_district[CABINETS], asked_ring[CABINETS], asked_mesh[SPANS];
 static unsigned asked_district_size[CABINETS], asked_ring_size[CABINETS];
 static unsigned asked_length[SPANS], asked_sole[SPANS];
-static unsigned asked_outlive[CABINETS][CABINETS];
-static unsigned asked_share, notices_read, routes_read, lengths_read, cuts_read, compared, differences;
+static unsigned asked_share, notices_read, routes_read, lengths_read, compared, differences;
 
 /* Where the answer about the last two routes begins. */
 static const uint8_t *last_routes;
@@ -711,106 +674,6 @@ static void read_share(void)
     answered_at += 3;
 }
 
-/* Which cabinets are parted by some two cuts of the spans that are known, and for how many cabinets and
-   spans that was found out; it is found out anew when there are more. */
-static int parted[CABINETS][CABINETS];
-static size_t parted_cabinets, parted_spans;
-
-/* Gives all cabinets of the one's part the number of the other's. */
-static void unite(unsigned part[], unsigned one, unsigned other)
-{
-    unsigned before = part[one], after = part[other];
-    for (size_t item = 0; before != after && item < cabinets_known; item++)
-        if (part[item] == before)
-            part[item] = after;
-}
-
-/* Cuts two spans, each with its mates: those cabinets are parted that no other spans join. */
-static void cut(size_t one, size_t other)
-{
-    unsigned part[CABINETS];
-    for (size_t item = 0; item < cabinets_known; item++)
-        part[item] = (unsigned)item;
-    for (size_t span = 0; span < spans_known; span++)
-        if (least_mate(span) != one && least_mate(span) != other)
-            unite(part, ends[span][0], ends[span][1]);
-    for (size_t a = 0; a < cabinets_known; a++)
-        for (size_t b = 0; b < cabinets_known; b++)
-            parted[a][b] |= part[a] != part[b];
-}
-
-/* Makes every two cuts there are, a single one among them, and none, which parts cabinets of two
-   districts. A cut of a span is told by the least of its mates. */
-static void make_cuts(void)
-{
-    memset(parted, 0, sizeof parted);
-    cut(SPANS, SPANS);
-    for (size_t one = 0; one < spans_known; one++)
-        for (size_t other = 0; least_mate(one) == one && other <= one; other++)
-            if (least_mate(other) == other)
-                cut(one, other);
-    parted_cabinets = cabinets_known;
-    parted_spans = spans_known;
-}
-
-/* The answer to 10. Cabinets that outlive any two cuts share a ring. */
-static void read_two_cuts(void)
-{
-    unsigned a = two_bytes(journal + asked_at + 1), b = two_bytes(journal + asked_at + 3);
-    if (parted_cabinets != cabinets_known || parted_spans != spans_known)
-        make_cuts();
-    asked_outlive[a][b] = answers[answered_at + 1];
-    hold("whether any two cuts are outlived from", a, asked_outlive[a][b], (unsigned)!parted[a][b]);
-    if (asked_outlive[a][b])
-        hold("ring of what outlives any two cuts from", a, ring[b], ring[a]);
-    cuts_read++;
-    asked_at += 5;
-    answered_at += 2;
-}
-
-/* Once all pairs were asked for: each cabinet outlives two cuts with itself, either way round the answer
-   is the same, and two that outlive them together do so with the same others. */
-static void hold_classes(void)
-{
-    for (size_t a = 0; a < cabinets_known; a++) {
-        hold("outlives any two cuts with itself", a, asked_outlive[a][a], 1);
-        for (size_t b = 0; b < cabinets_known; b++) {
-            hold("outlives any two cuts, the other way round,", a, asked_outlive[b][a],
-                 asked_outlive[a][b]);
-            for (size_t other = 0; asked_outlive[a][b] && other < cabinets_known; other++)
-                hold("outlives any two cuts, by way of another,", a, asked_outlive[a][other],
-                     asked_outlive[b][other]);
-        }
-    }
-}
-
-/* How many of the cabinets from first to before last outlive any two cuts with this one. */
-static size_t count_outliving(size_t a, size_t first, size_t last)
-{
-    size_t count = 0;
-    for (size_t b = first; b < last; b++)
-        count += asked_outlive[a][b];
-    return count;
-}
-
-/* Prints the classes of more than one cabinet, of the cabinets from first on. */
-static void print_classes(size_t first)
-{
-    size_t classes = 0;
-    printf("outlive any two cuts together:");
-    for (size_t a = first; a < cabinets_known; a++) {
-        if (count_outliving(a, first, a) > 0 || count_outliving(a, a, cabinets_known) == 1)
-            continue;
-        printf(" (%zu", a);
-        for (size_t b = a + 1; b < cabinets_known; b++)
-            if (asked_outlive[a][b])
-                printf(" %zu", b);
-        printf(")");
-        classes++;
-    }
-    printf("%s\n", classes == 0 ? " none" : "");
-}
-
 /* Is this the first cabinet with its name in a list? */
 static int is_first(const unsigned names[], size_t item)
 {
@@ -914,7 +777,6 @@ static int read_answer(void)
     case 0x8D: read_record(); return 1;
     case 0x8E: read_length(); return 1;
     case 0x8F: read_share(); end_round(); return 1;
-    case 0x90: read_two_cuts(); return 1;
     default: return 0;
     }
 }
@@ -994,26 +856,6 @@ static void print_routes(void)
 
 /* ---- The villages ---- */
 
-/* A hospital: its cabinet, the one that it is fed from, and whether it outlives any two cuts so. */
-struct hospital {
-    unsigned at, from, outlives;
-};
-
-/* In one village, with links at both; in one, from the exchange, which has two spans; from the next
-   village, by the link and round the loop; and in the pair with spans in three ducts. */
-static const struct hospital hospitals[] = {{3, 4, 1}, {4, 5, 0}, {4, 6, 0}, {16, 15, 1}};
-
-/* Prints what was answered last for each, and holds it against what must be. */
-static void print_hospitals(void)
-{
-    for (size_t i = 0; i < sizeof hospitals / sizeof hospitals[0]; i++) {
-        unsigned at = hospitals[i].at, from = hospitals[i].from, answered = asked_outlive[at][from];
-        printf("hospital at %u fed from %u: %s\n", at, from,
-               answered ? "outlives any two cuts" : "some two cuts part them");
-        hold("outlives any two cuts, hospital at", at, answered, hospitals[i].outlives);
-    }
-}
-
 /* Writes their journal, has it run and prints what it tells; 0 if anything is not as it must be. */
 static int plan_villages(void)
 {
@@ -1023,16 +865,13 @@ static int plan_villages(void)
     print_names();
     if (differences == 0)
         print_routes();
-    hold_classes();
-    print_classes(0);
-    print_hospitals();
     printf("%u bytes of room for the answers suffice by the first forecast, %u are forecast to the byte; "
            "%u were taken, and one less is refused with %d\n", (unsigned)sufficient_length,
            (unsigned)answers_length, (unsigned)report[REGISTER_REPORT_ANSWERS], REGISTER_NO_ROOM);
-    printf("%u commands, %u notices, %u pairs of routes, %u lengths and %u pairs under two cuts read, "
-           "%u names, sizes, numbers, exchanges, sole spans, routes, lengths and pairs compared, "
-           "%u differ\n", (unsigned)report[REGISTER_REPORT_COMMANDS], notices_read, routes_read,
-           lengths_read, cuts_read, compared, differences);
+    printf("%u commands, %u notices, %u pairs of routes and %u lengths read, %u names, sizes, numbers, "
+           "exchanges, sole spans, routes and lengths compared, %u differ\n",
+           (unsigned)report[REGISTER_REPORT_COMMANDS], notices_read, routes_read, lengths_read,
+           compared, differences);
     return differences == 0;
 }
 
@@ -1042,22 +881,17 @@ static int plan_villages(void)
    any buffer does. */
 static uint8_t rewritten[REGISTER_LONGEST_JOURNAL];
 
-enum { BRANCH_CABINETS = 3, BRANCH_SPANS = 4 };
-
-/* Three cabinets in a row, with three spans from 02 between the first two and one behind them: by the old
-   reading the three protect each other, so that no two cuts part the first two. The last question is for
-   two routes between these. */
+/* Three cabinets in a row, with two spans from 02 between the first two and one behind them: by the old
+   reading the two protect each other. The last question is for two routes between the first two. */
 static void write_old_journal(void)
 {
     journal_length = spans_entered = 0;
-    for (unsigned cabinet = 0; cabinet < BRANCH_CABINETS; cabinet++)
+    for (unsigned cabinet = 0; cabinet < 3; cabinet++)
         add_cabinet();
     add_span(0, 1);
     add_span(1, 0);
-    add_span(0, 1);
     add_span(1, 2);
-    ask_all(BRANCH_CABINETS);
-    ask_all_cuts(0, BRANCH_CABINETS);
+    ask_all(3);
     ask_routes(0, 1);
 }
 
@@ -1068,8 +902,6 @@ static void forget_answers(void)
     answers = NULL;
     asked_at = answered_at = 0;
     cabinets_known = spans_known = queued = 0;
-    parted_cabinets = parted_spans = 0;
-    memset(asked_outlive, 0, sizeof asked_outlive);
     memset(exchange, 0, sizeof exchange);
     memset(measured, 0, sizeof measured);
 }
@@ -1089,7 +921,7 @@ static void print_refusal(void)
            (unsigned)report[REGISTER_REPORT_ANSWERS]);
 }
 
-/* The ring of each cabinet, the sole spans, and whether the first two cabinets outlive any two cuts. */
+/* The ring of each cabinet, and the sole spans. */
 static void print_branch(void)
 {
     printf("rings");
@@ -1099,27 +931,16 @@ static void print_branch(void)
     for (size_t span = 0; span < spans_known; span++)
         if (asked_sole[span])
             printf(" %zu", span);
-    printf(", 0 and 1 %s", asked_outlive[0][1] ? "outlive any two cuts" : "parted by two cuts");
 }
 
-/* What the branch must have: a name and a size of the ring of each cabinet, whether each span is sole, and
-   whether the first two cabinets outlive any two cuts; no others do. */
-struct branch {
-    unsigned rings[BRANCH_CABINETS], sizes[BRANCH_CABINETS], sole[BRANCH_SPANS], outlive;
-};
-
-static void hold_branch(const struct branch *wanted)
+/* Holds them, and the sizes of the rings, against those that the branch must have. */
+static void hold_branch(const unsigned rings[3], const unsigned sizes[3], const unsigned sole[3])
 {
-    for (size_t item = 0; item < BRANCH_CABINETS; item++) {
-        hold("ring, in the branch, of cabinet", item, asked_ring[item], wanted->rings[item]);
-        hold("size, in the branch, of the ring of cabinet", item, asked_ring_size[item],
-             wanted->sizes[item]);
+    for (size_t item = 0; item < 3; item++) {
+        hold("ring, in the branch, of cabinet", item, asked_ring[item], rings[item]);
+        hold("size, in the branch, of the ring of cabinet", item, asked_ring_size[item], sizes[item]);
+        hold("sole, in the branch, is span", item, asked_sole[item], sole[item]);
     }
-    for (size_t span = 0; span < BRANCH_SPANS; span++)
-        hold("sole, in the branch, is span", span, asked_sole[span], wanted->sole[span]);
-    hold_classes();
-    hold("outlives any two cuts with 1, in the branch,", 0, asked_outlive[0][1], wanted->outlive);
-    hold("outlives any two cuts with 2, in the branch,", 1, asked_outlive[1][2], 0);
 }
 
 /* Has the journal rewritten, and puts the result in its place; 0 if it is refused, or its length is not
@@ -1151,29 +972,29 @@ static int refuse_again(void)
     return number == REGISTER_DUCT_TOLD && place == 3 && length == 0;
 }
 
-/* As it stands, the three spans are mates: each cabinet is a ring, every span is sole, two cuts part the
-   first two, and there are no two routes. */
+/* As it stands, the two spans are mates: each cabinet is a ring, every span is sole, and there are no two
+   routes. */
 static int plan_as_it_stands(void)
 {
-    static const struct branch mates = {{0, 1, 2}, {1, 1, 1}, {1, 1, 1, 1}, 0};
+    static const unsigned rings[3] = {0, 1, 2}, sizes[3] = {1, 1, 1}, sole[3] = {1, 1, 1};
     if (!run_branch(REGISTER_NO_SHARED_RING))
         return 0;
     printf("a journal of the old reading, as it stands: ");
     print_branch();
     printf(", no two routes from 0 to 1: ");
     print_refusal();
-    hold_branch(&mates);
+    hold_branch(rings, sizes, sole);
     return differences == 0;
 }
 
-/* What the branch must have by the old reading, where the three spans protect each other. */
+/* What the branch must have by the old reading, where the two spans protect each other. */
 static void hold_old_reading(void)
 {
-    static const struct branch apart = {{0, 0, 2}, {2, 2, 1}, {0, 0, 0, 1}, 1};
-    hold_branch(&apart);
+    static const unsigned rings[3] = {0, 0, 2}, sizes[3] = {2, 2, 1}, sole[3] = {0, 0, 1};
+    hold_branch(rings, sizes, sole);
 }
 
-/* Rewritten, each span has a duct of its own, and the three protect each other, as by the old reading. The
+/* Rewritten, each span has a duct of its own, and the two protect each other, as by the old reading. The
    first forecast, which suffices for both, is the same. */
 static int plan_rewritten(void)
 {
@@ -1218,12 +1039,12 @@ static int plan_branch(void)
 /* ---- Two cooperatives that unite ---- */
 
 /* A cooperative's network: its journal, its spans with their ends, ducts and metres, and the names that
-   its run ends with, and for every two cabinets whether they outlive any two cuts. */
+   its run ends with. */
 struct network {
     uint8_t journal[REGISTER_LONGEST_JOURNAL];
     size_t length;
     unsigned cabinets, spans, ends[SPANS][2], duct[SPANS], metres[SPANS];
-    unsigned district[CABINETS], ring[CABINETS], mesh[SPANS], outlive[CABINETS][CABINETS];
+    unsigned district[CABINETS], ring[CABINETS], mesh[SPANS];
 };
 
 static struct network first_network, second_network;
@@ -1247,11 +1068,10 @@ static void write_first(void)
     measure_newest(2, 0);
     ask_all(4);
     ask_all_routes(0, 3);
-    ask_all_cuts(0, 4);
 }
 
-/* A ring of four cabinets without an exchange, one side of it in two ducts, so that its ends outlive any
-   two cuts, and a fifth one before it, by two spans that are mates. */
+/* A ring of four cabinets without an exchange, one of its spans in a duct, and a fifth one before it, by
+   two spans that are mates. */
 static void write_second(void)
 {
     journal_length = spans_entered = 0;
@@ -1260,14 +1080,12 @@ static void write_second(void)
     add_span(1, 2);
     add_span(2, 3);
     add_in_duct(3, 4, 1);
-    add_in_duct(3, 4, 2);
     add_span(4, 1);
     add_span(0, 1);
     add_span(1, 0);
     measure_newest(2, 1);
     ask_all(5);
     ask_all_routes(1, 4);
-    ask_all_cuts(0, 5);
 }
 
 /* Runs the journal with the greatest capacities, as a joining does. Its answers are yet to be read. */
@@ -1284,15 +1102,14 @@ static void print_list(const char *kind, const unsigned names[], size_t first, s
         printf(" %u", names[item]);
 }
 
-/* Prints the share, and the names and classes of all from this cabinet and this span on. */
+/* Prints the share, and the names of all from this cabinet and this span on. */
 static void print_network(size_t cabinet, size_t span)
 {
     printf(" share %u", asked_share);
     print_list(", districts", district, cabinet, cabinets_known - cabinet);
     print_list(", rings", ring, cabinet, cabinets_known - cabinet);
     print_list(", meshes", mesh, span, spans_known - span);
-    printf("; ");
-    print_classes(cabinet);
+    printf("\n");
 }
 
 /* Keeps the journal, and what its run has told. */
@@ -1305,7 +1122,6 @@ static void keep(struct network *own)
     memcpy(own->district, district, sizeof district);
     memcpy(own->ring, ring, sizeof ring);
     memcpy(own->mesh, mesh, sizeof mesh);
-    memcpy(own->outlive, asked_outlive, sizeof asked_outlive);
     own->length = journal_length;
     own->cabinets = (unsigned)cabinets_known;
     own->spans = (unsigned)spans_known;
@@ -1316,7 +1132,6 @@ static int plan_alone(const char *name, struct network *own)
 {
     if (!run_greatest() || !read_answers())
         return 0;
-    hold_classes();
     printf("%s cooperative:", name);
     print_network(0, 0);
     keep(own);
@@ -1359,16 +1174,13 @@ static int plan_join(void)
 }
 
 /* Holds the name list against the names of a network alone, raised by so many cabinets and spans. Ducts
-   and metres are as they were, and the raised cabinets outlive any two cuts just as these do. */
+   and metres are as they were. */
 static void hold_raised(const struct network *own, unsigned cabinets, unsigned spans)
 {
     for (size_t item = 0; item < own->cabinets; item++) {
         size_t raised = cabinets + item;
         hold("district, joined, of", raised, district[raised], own->district[item] + cabinets);
         hold("ring, joined, of", raised, ring[raised], own->ring[item] + cabinets);
-        for (size_t other = 0; other < own->cabinets; other++)
-            hold("outlives any two cuts, joined,", raised, asked_outlive[raised][cabinets + other],
-                 own->outlive[item][other]);
     }
     for (size_t item = 0; item < own->spans; item++) {
         size_t raised = spans + item;
@@ -1394,8 +1206,7 @@ static int plan_before_seams(void)
 }
 
 /* The seams close a loop through both, so that all rings become one, named as the largest was. Then
-   questions are put behind the result: a round about all, for two routes between the cooperatives, and for
-   all pairs whether they outlive any two cuts. */
+   questions are put behind the result: a round about all, and for two routes between the cooperatives. */
 static int plan_behind_seams(void)
 {
     unsigned cabinets = first_network.cabinets, largest = second_network.ring[1] + cabinets;
@@ -1405,11 +1216,9 @@ static int plan_behind_seams(void)
         hold("ring, behind the seams, of", item, ring[item], largest);
     ask_all((unsigned)cabinets_known);
     ask_routes(1, 2 + cabinets);
-    ask_all_cuts(0, (unsigned)cabinets_known);
     if (!run_greatest() || !read_answers())
         return 0;
     hold("share of all cabinets", cabinets_known, asked_share, 1000);
-    hold_classes();
     printf("all, behind the seams:");
     print_network(0, 0);
     if (differences == 0)

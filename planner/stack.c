@@ -77,8 +77,7 @@ static void ask_names(unsigned cabinet)
 /* An exchange at one end, a record of the first span, names and sizes at both ends, both lists from end to
    end, in both directions; then the span that closes the chain, names and sizes again, the two ways round
    it, in both directions, whether the first span is sole, the questions about exchanges, and the lengths
-   of a span that has a record and of one that has none. Before the chain is closed and behind it, whether
-   its ends outlive any two cuts. */
+   of a span that has a record and of one that has none. */
 static void ask_and_close(unsigned first, unsigned last)
 {
     put(3, 0x09, last, 0);
@@ -90,7 +89,6 @@ static void ask_and_close(unsigned first, unsigned last)
     command(0x07, first, last);
     command(0x07, last, first);
     command(0x05, first, last);
-    command(0x10, first, last);
     command(0x02, last, first);
     ask_names(first);
     ask_names(last);
@@ -102,8 +100,6 @@ static void ask_and_close(unsigned first, unsigned last)
     put(1, 0x0F, 0, 0);
     put(3, 0x0E, 0, 0);
     put(3, 0x0E, 1, 0);
-    command(0x10, first, last);
-    command(0x10, last, first);
 }
 
 /* Each cabinet is put below the one before: the last is as deep as can be. */
@@ -177,28 +173,6 @@ static void ladder(void)
     command(0x02, 0, 2 * half - 1);
     command(0x0C, 0, 2 * half - 1);
     command(0x0C, half / 2, half + half / 2);
-    command(0x10, 0, half - 1);
-    command(0x10, half / 2, half + half / 2);
-}
-
-/* Three chains beside each other with three rungs between each three of their cabinets, and as many spans
-   as there can be: three ways from end to end, along the chains and across. */
-static void tube(void)
-{
-    unsigned third = cabinets / 3;
-    add_cabinets();
-    for (unsigned i = 0; i < third; i++) {
-        command(0x02, i, third + i);
-        command(0x02, third + i, 2 * third + i);
-        command(0x02, 2 * third + i, i);
-    }
-    for (unsigned first = 0; first < 3 * third; first += third)
-        for (unsigned i = 1; i < third; i++)
-            command(0x02, first + i - 1, first + i);
-    command(0x10, 0, 3 * third - 1);
-    command(0x10, 3 * third - 1, 0);
-    command(0x10, third / 2, third + third / 2);
-    command(0x10, 0, 0);
 }
 
 /* The small journal that others are joined with: a chain of mates, so that it has each command. It is
@@ -248,7 +222,6 @@ static void for_each(void (*call)(struct climb))
     call((struct climb){"chain of mates", chain_of_mates, 2 * cabinets - 1});
     call((struct climb){"chain of mates with no duct told", chain_of_untold_mates, 2 * cabinets - 1});
     call((struct climb){"ladder", ladder, 3 * (cabinets / 2) - 1});
-    call((struct climb){"tube", tube, 6 * (cabinets / 3) - 3});
 }
 
 static void run_one(struct climb climb)
@@ -293,7 +266,7 @@ static void forecast_refused(void)
 {
     size_t longest = REGISTER_LONGEST_JOURNAL;
     memset(journal, 0x0F, sizeof journal);
-    journal[longest - 1] = 0x10;
+    journal[longest - 1] = 0x0C;
     journal_length = longest;
     forecast_exactly("longest", REGISTER_MOST_SPANS, REGISTER_CUT_OFF, (uint32_t)(longest - 1));
     journal_length = longest + 1;
@@ -321,15 +294,13 @@ static void *forecast_all(void *unused)
     size_t longest = REGISTER_LONGEST_JOURNAL;
     forecast_one(0x01, longest, REGISTER_ACCEPTED);
     forecast_one(0x0F, longest, REGISTER_ACCEPTED);
-    for (unsigned byte = 0x02; byte <= 0x10; byte++) {
-        /* Commands of 7 bytes leave two over, those of 3 and 5 one, and 0F none. */
+    for (unsigned byte = 0x02; byte <= 0x0E; byte++) {
+        /* Commands of 7 bytes leave two over, those of 3 and 5 one. */
         size_t over = byte == 0x0B || byte == 0x0D ? 2 : 1;
-        if (byte == 0x0F)
-            continue;
         forecast_one(byte, longest - over, REGISTER_ACCEPTED);
         forecast_one(byte, longest - over + 1, REGISTER_CUT_OFF);
     }
-    forecast_one(0x11, longest, REGISTER_BAD_COMMAND);
+    forecast_one(0x10, longest, REGISTER_BAD_COMMAND);
     forecast_one(0x00, longest, REGISTER_BAD_COMMAND);
     forecast_one(0x01, longest + 1, REGISTER_LONG_JOURNAL);
     return unused;
@@ -359,14 +330,12 @@ static void *rewrite_all(void *unused)
     rewrite_one(0x02, 5 * (most_spans + 1), REGISTER_LONG_RESULT);
     rewrite_one(0x02, longest - 1, REGISTER_LONG_RESULT);
     rewrite_one(0x02, longest, REGISTER_CUT_OFF);
-    for (unsigned byte = 0x03; byte <= 0x10; byte++) {
+    for (unsigned byte = 0x03; byte <= 0x0E; byte++) {
         size_t over = byte == 0x0B || byte == 0x0D ? 2 : 1;
-        if (byte == 0x0F)
-            continue;
         rewrite_one(byte, longest - over, byte == 0x0B ? REGISTER_DUCT_TOLD : REGISTER_ACCEPTED);
         rewrite_one(byte, longest - over + 1, REGISTER_CUT_OFF);
     }
-    rewrite_one(0x11, longest, REGISTER_BAD_COMMAND);
+    rewrite_one(0x10, longest, REGISTER_BAD_COMMAND);
     rewrite_one(0x00, longest, REGISTER_BAD_COMMAND);
     rewrite_one(0x01, longest + 1, REGISTER_LONG_JOURNAL);
     return unused;

@@ -5,7 +5,7 @@
 use crate::engine::exact::Exact;
 use crate::engine::join::{Join, Seam};
 use crate::engine::{Call, Engine};
-use std::ptr::{null, null_mut};
+use std::ptr::null_mut;
 
 extern "C" {
     fn register_run(
@@ -70,78 +70,88 @@ pub struct Register {
 }
 
 impl Register {
-    /// What C is given for a buffer that is only read: its pointer and its length. An empty one may have any
-    /// pointer, null too.
-    fn read<T>(&self, buffer: &[T]) -> (*const T, usize) {
-        let own = if self.null_if_empty && buffer.is_empty() { null() } else { buffer.as_ptr() };
-        (own, buffer.len())
-    }
-
-    /// The same for one that is written.
-    fn write<T>(&self, buffer: &mut [T]) -> (*mut T, usize) {
-        let empty = self.null_if_empty && buffer.is_empty();
-        let own = if empty { null_mut() } else { buffer.as_mut_ptr() };
-        (own, buffer.len())
+    /// The pointer for a buffer with this pointer of its own.
+    fn pointer<T>(&self, own: *mut T, length: usize) -> *mut T {
+        if length == 0 && self.null_if_empty {
+            null_mut()
+        } else {
+            own
+        }
     }
 }
 
-/// Slices are what the functions ask for: each pointer is good for its length, and no two of them overlap. The
-/// numbers that are filled are aligned, and the seams are laid out as C has them.
 impl Engine for Register {
     fn name(&self) -> &'static str {
         "register"
     }
 
-    fn run(&self, Call { c, s, journal, work, answers, report }: Call) -> u32 {
-        let (journal, journal_len) = self.read(journal);
-        let (work, work_len) = self.write(work);
-        let (answers, answers_len) = self.write(answers);
-        let (report, report_len) = self.write(report);
+    fn run(&self, call: Call) -> u32 {
+        let Call { c, s, journal, work, answers, report } = call;
+        // Slices are what the function asks for: each pointer is good for its length, and no two
+        // of them overlap. An empty one may have any pointer, null too.
         unsafe {
             register_run(
                 c,
                 s,
-                journal,
-                journal_len,
-                work,
-                work_len,
-                answers,
-                answers_len,
-                report,
-                report_len,
+                self.pointer(journal.as_ptr().cast_mut(), journal.len()),
+                journal.len(),
+                self.pointer(work.as_mut_ptr(), work.len()),
+                work.len(),
+                self.pointer(answers.as_mut_ptr(), answers.len()),
+                answers.len(),
+                self.pointer(report.as_mut_ptr(), report.len()),
+                report.len(),
             )
         }
     }
 
     fn forecast(&self, journal: &[u8], place: &mut u32, length: &mut u32) -> u32 {
-        let (journal, journal_len) = self.read(journal);
-        unsafe { register_forecast(journal, journal_len, place, length) }
-    }
-
-    fn forecast_exact(&self, Exact { c, s, journal, work, place, length }: Exact) -> u32 {
-        let (journal, journal_len) = self.read(journal);
-        let (work, work_len) = self.write(work);
-        unsafe {
-            register_forecast_exact(c, s, journal, journal_len, work, work_len, place, length)
-        }
+        let pointer = self.pointer(journal.as_ptr().cast_mut(), journal.len());
+        // The journal's pointer is good for its length, or of any kind if that is 0. The two
+        // numbers are aligned, and overlap neither each other nor the journal.
+        unsafe { register_forecast(pointer, journal.len(), place, length) }
     }
 
     fn rewrite(&self, journal: &[u8], out: &mut [u8], place: &mut u32, length: &mut u32) -> u32 {
-        let (journal, journal_len) = self.read(journal);
-        let (out, out_len) = self.write(out);
-        unsafe { register_rewrite(journal, journal_len, out, out_len, place, length) }
+        let read = self.pointer(journal.as_ptr().cast_mut(), journal.len());
+        let written = self.pointer(out.as_mut_ptr(), out.len());
+        // As above; the output buffer is a slice of its own.
+        unsafe { register_rewrite(read, journal.len(), written, out.len(), place, length) }
     }
 
-    fn join(&self, Join { first, second, seams, work, out, length }: Join) -> u32 {
-        let (first, first_len) = self.read(first);
-        let (second, second_len) = self.read(second);
-        let (seams, seams_len) = self.read(seams);
-        let (work, work_len) = self.write(work);
-        let (out, out_len) = self.write(out);
+    fn join(&self, call: Join) -> u32 {
+        let Join { first, second, seams, work, out, length } = call;
+        // As for a run; the seams are laid out as C has them, and the length is aligned.
         unsafe {
             register_join(
-                first, first_len, second, second_len, seams, seams_len, work, work_len, out,
-                out_len, length,
+                self.pointer(first.as_ptr().cast_mut(), first.len()),
+                first.len(),
+                self.pointer(second.as_ptr().cast_mut(), second.len()),
+                second.len(),
+                self.pointer(seams.as_ptr().cast_mut(), seams.len()),
+                seams.len(),
+                self.pointer(work.as_mut_ptr(), work.len()),
+                work.len(),
+                self.pointer(out.as_mut_ptr(), out.len()),
+                out.len(),
+                length,
+            )
+        }
+    }
+
+    fn forecast_exact(&self, call: Exact) -> u32 {
+        let Exact { c, s, journal, work, place, length } = call;
+        // As for a run; the two numbers are aligned, and overlap nothing.
+        unsafe {
+            register_forecast_exact(
+                c,
+                s,
+                self.pointer(journal.as_ptr().cast_mut(), journal.len()),
+                journal.len(),
+                self.pointer(work.as_mut_ptr(), work.len()),
+                work.len(),
+                place,
+                length,
             )
         }
     }

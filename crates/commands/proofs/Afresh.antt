@@ -1,6 +1,6 @@
--- The marked histories, those with exchanges, with ducts, with routes, with survey lengths, with sizes and with two losses, the shares, the
--- calls of the run's entry, the forecasts, those to the byte, the rewritings and the joins hold of the definitions: each table is computed
--- afresh, at once. (By its name this file comes before all laws, so that a wrong definition is refused here first.)
+-- The marked histories, those with exchanges, with ducts, with routes, with survey lengths and with sizes, the shares, the calls of the run's
+-- entry, the forecasts, those to the byte, the rewritings and the joins hold of the definitions: each table is computed afresh, at once. (By
+-- its name this file comes before all laws, so that a wrong definition is refused here first.)
 use mathlib.Core.List.{List, [], ◌∷◌, ◌++◌, map}
 use mathlib.Core.Logic.{◌≢◌}
 use mathlib.Core.Path.{◌≡◌, refl, ap}
@@ -26,8 +26,6 @@ use Rattle.commands.specs.SurveyHistories
 use Rattle.commands.specs.SurveyHistories.{survey_histories}
 use Rattle.commands.specs.SizeHistories
 use Rattle.commands.specs.SizeHistories.{size_histories}
-use Rattle.commands.specs.TwoLossHistories
-use Rattle.commands.specs.TwoLossHistories.{two_loss_histories}
 use Rattle.commands.specs.RewriteHistories
 use Rattle.commands.specs.RewriteHistories.{read_anew, doubled_span, old_readings}
 use Rattle.commands.specs.JoinHistories
@@ -71,11 +69,6 @@ size_histories-made : map made size_histories ≡ size_histories
 unfolding computed Histories.output Histories.accepted Histories.notice Histories.group SizeHistories.alone SizeHistories.district_grows SizeHistories.rings_of_one_district SizeHistories.size_histories
 size_histories-made = refl
 
--- and of the one with two losses
-two_loss_histories-made : map made two_loss_histories ≡ two_loss_histories
-unfolding computed Histories.output Histories.accepted Histories.refused_with Histories.notice TwoLossHistories.lone_span TwoLossHistories.triangle_parted TwoLossHistories.complete_of_four TwoLossHistories.three_ducts TwoLossHistories.mates_count_once TwoLossHistories.two_rings_two_classes TwoLossHistories.class_without_aSpan TwoLossHistories.two_districts TwoLossHistories.losses_to_nowhere TwoLossHistories.losses_from_nowhere TwoLossHistories.losses_nowhere TwoLossHistories.two_loss_histories
-two_loss_histories-made = refl
-
 -- so each of a table holds
 each_shown : (hs : List History) → map made hs ≡ hs → EachShown hs
 each_shown [] e = tt
@@ -106,10 +99,6 @@ survey_histories_shown = each_shown survey_histories survey_histories-made
 -- and every history with sizes
 pub size_histories_shown : EachShown size_histories
 size_histories_shown = each_shown size_histories size_histories-made
-
--- and every history with two losses
-pub two_loss_histories_shown : EachShown two_loss_histories
-two_loss_histories_shown = each_shown two_loss_histories two_loss_histories-made
 
 -- Each share is the one in the table.
 pub shares_shown : map (λ s. thousandths s.part s.whole) shares ≡ map (λ s. s.share) shares
@@ -153,7 +142,7 @@ rewritings_shown = refl
 
 -- So journals of the old reading are rewritten, and answered before and after.
 pub old_readings_shown : map (λ h. read_anew h.journal) old_readings ≡ old_readings
-unfolding computed Histories.output Histories.notice Histories.group RewriteHistories.answers_and_number RewriteHistories.answered_under RewriteHistories.read_anew RewriteHistories.in_one_ring RewriteHistories.doubled_span RewriteHistories.routes_and_refusal RewriteHistories.doubled_routes RewriteHistories.in_one_class RewriteHistories.tripled_span RewriteHistories.old_readings
+unfolding computed Histories.output Histories.notice Histories.group RewriteHistories.answers_and_number RewriteHistories.answered_under RewriteHistories.read_anew RewriteHistories.in_one_ring RewriteHistories.doubled_span RewriteHistories.routes_and_refusal RewriteHistories.doubled_routes RewriteHistories.old_readings
 old_readings_shown = refl
 
 -- And the first would be answered otherwise as it stands.

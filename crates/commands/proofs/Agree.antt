@@ -11,7 +11,7 @@ use Rattle.naming.specs.Survey.{Survey, holding, replaced}
 use Rattle.naming.specs.Book.{feed}
 use Rattle.naming.specs.State.{State, Agree, after_addition, Recording, records_nothing, records_mark, records_survey, marks_after, surveys_after, after_recording}
 use Rattle.naming.proofs.Surveys.{holding_behind}
-use Rattle.commands.specs.Command.{Command, add_cabinet, add_span, district_name, ring_name, shared_mesh, sole_spans, cut_cabinets, is_sole, mark_exchange, holds_exchange, add_duct_span, routes_between, record_length, span_length, exchange_share, two_losses}
+use Rattle.commands.specs.Command.{Command, add_cabinet, add_span, district_name, ring_name, shared_mesh, sole_spans, cut_cabinets, is_sole, mark_exchange, holds_exchange, add_duct_span, routes_between, record_length, span_length, exchange_share}
 use Rattle.commands.specs.Answer.{plain}
 use Rattle.commands.specs.Exchange.{ring_holds_exchange, with_exchange, share_with_exchange}
 use Rattle.commands.specs.Facts.{Demand, differ, no_exchange, some_duct, share_district, share_ring, facts, asks, length_answer, demands_of, addition, recording, after, answer_to, answer}
@@ -76,7 +76,6 @@ module _ (s : State) (surveys : List Survey) where
   answer-same same choice (record_length x day metres) = refl
   answer-same same choice (span_length x) = ap (λ o. plain (length_answer o)) (sym (same x))
   answer-same same choice exchange_share = refl
-  answer-same same choice (two_losses x y) = refl
 
 -- States that agree.
 module _ {s s' : State} (a : Agree s s') where

@@ -11,15 +11,15 @@ use Rattle.graph.specs.Network.{Network, MateRule, Proper}
 use Rattle.graph.specs.Block.{shared_block}
 use Rattle.graph.specs.Route.{Choice}
 use Rattle.graph.proofs.Truth.{and_left, ltb_lt}
-use Rattle.graph.proofs.Alike.{Alike, component_alike, bridge_alike, bridge_block_alike, outlive_two_alike, shared_block_alike, bridges_between_alike, cuts_between_alike}
+use Rattle.graph.proofs.Alike.{Alike, component_alike, bridge_alike, bridge_block_alike, shared_block_alike, bridges_between_alike, cuts_between_alike}
 use Rattle.naming.specs.Book.{Book, Addition, vertex, edge, neither, feed}
 use Rattle.naming.specs.Survey.{holding}
 use Rattle.naming.specs.State.{State}
 use Rattle.naming.proofs.AlikeBooks.{AlikeBooks}
 use Rattle.naming.proofs.Lookup.{component_of_alike, bridge_block_of_alike}
 use Rattle.commands.specs.Field.{Field, cabinet, span, name, number, byte}
-use Rattle.commands.specs.Command.{Command, add_cabinet, add_span, district_name, ring_name, shared_mesh, sole_spans, cut_cabinets, is_sole, mark_exchange, holds_exchange, add_duct_span, routes_between, record_length, span_length, exchange_share, two_losses, command_byte}
-use Rattle.commands.specs.Answer.{plain, district_is, ring_is, sole_spans_are, cut_cabinets_are, sole_is, exchange_held, share_is, two_outlived, cabinet_added, notices}
+use Rattle.commands.specs.Command.{Command, add_cabinet, add_span, district_name, ring_name, shared_mesh, sole_spans, cut_cabinets, is_sole, mark_exchange, holds_exchange, add_duct_span, routes_between, record_length, span_length, exchange_share, command_byte}
+use Rattle.commands.specs.Answer.{plain, district_is, ring_is, sole_spans_are, cut_cabinets_are, sole_is, exchange_held, share_is, cabinet_added, notices}
 use Rattle.commands.specs.Exchange.{ring_holds_exchange, with_exchange, thousandths, share_with_exchange}
 use Rattle.commands.specs.Facts.{Demand, differ, no_exchange, some_duct, share_district, share_ring, Facts, adds_cabinet, adds_span, adds_nothing, facts, asks, mesh_answer, routes_answer, length_answer, operands_of, demands_of, addition_of, addition, span_answer, answer_to, answer}
 use Rattle.commands.specs.Refusal.{Refusal, equal_cabinets, already_exchange, no_duct, two_districts, no_shared_ring, refusal_number, Capacities, cabinet_known, span_known, cabinets_known, spans_known, met, cause, meets, full_for, is_full, lines, refusal_of}
@@ -154,7 +154,6 @@ module _ {s s' : State} (a : AlikeStates s s') (rule : MateRule s.book.network.r
     question_alike proper (record_length x day metres) known routes = refl
     question_alike proper (span_length x) known routes = ap length_answer (a.same_records x)
     question_alike proper exchange_share known routes = ap share_is share_alike
-    question_alike proper (two_losses x y) known routes = ap two_outlived (outlive_two_alike networks rule' x y)
 
     -- so a command that is not refused is answered in one state as it is in the other, where the books after it are alike
     pub answer_alike : (caps : Capacities) → Proper s.book.network → (c : Command) → refusal_of caps s c ≡ none → RoutesAlike c

@@ -15,7 +15,7 @@ use Rattle.naming.specs.Survey.{Survey, holding}
 use Rattle.naming.specs.State.{State}
 use Rattle.commands.specs.Bytes.{two_bytes}
 use Rattle.commands.specs.Field.{cabinet, span, field_bytes, fields_bytes}
-use Rattle.commands.specs.Command.{Command, add_cabinet, add_span, district_name, ring_name, shared_mesh, sole_spans, cut_cabinets, is_sole, mark_exchange, holds_exchange, add_duct_span, routes_between, record_length, span_length, exchange_share, two_losses}
+use Rattle.commands.specs.Command.{Command, add_cabinet, add_span, district_name, ring_name, shared_mesh, sole_spans, cut_cabinets, is_sole, mark_exchange, holds_exchange, add_duct_span, routes_between, record_length, span_length, exchange_share}
 use Rattle.commands.specs.Answer.{Notice, span_added, plain, routes_are, plain_fields, answer_fields, answer_bytes}
 use Rattle.commands.specs.Facts.{Facts, adds_cabinet, adds_span, adds_nothing, asks, mesh_answer, routes_answer, length_answer, facts, span_answer, answer_to, answer}
 use Rattle.commands.specs.Refusal.{Capacities, refusal_of}
@@ -98,7 +98,6 @@ module _ (state : State) (c s : ℕ) (few_cabinets : state.book.network.vertices
     plain_no_longer (record_length x day metres) n = omega arith
     plain_no_longer (span_length x) n = omega (arith, told-length (holding state.surveys x))
     plain_no_longer exchange_share n = omega arith
-    plain_no_longer (two_losses x y) n = omega arith
 
     -- no answer is longer than is said of it, but for its notices
     pub answer_no_longer : (k : Command) → refusal_of caps state k ≡ none

@@ -27,7 +27,7 @@ use Rattle.naming.specs.Lookup.{group_of, component_of, bridge_block_of}
 use Rattle.naming.specs.State.{State, after_addition, after_recording}
 use Rattle.naming.proofs.Equivalent.{size_at_most}
 use Rattle.commands.specs.Field.{Kind, district, ring, mesh, Field, cabinet, span}
-use Rattle.commands.specs.Command.{Command, add_cabinet, add_span, district_name, ring_name, shared_mesh, sole_spans, cut_cabinets, is_sole, mark_exchange, holds_exchange, add_duct_span, routes_between, record_length, span_length, exchange_share, two_losses}
+use Rattle.commands.specs.Command.{Command, add_cabinet, add_span, district_name, ring_name, shared_mesh, sole_spans, cut_cabinets, is_sole, mark_exchange, holds_exchange, add_duct_span, routes_between, record_length, span_length, exchange_share}
 use Rattle.commands.specs.Answer.{Notice, notice_fields, notices_fields, notices, plain, plain_fields, answer_fields}
 use Rattle.commands.specs.Facts.{Facts, adds_cabinet, adds_span, adds_nothing, asks, mesh_answer, routes_answer, length_answer, facts, operands_of, addition_of, addition, after, span_answer, answer_to, answer}
 use Rattle.commands.specs.Refusal.{Capacities, cabinet_known, cabinets_known, refusal_of}
@@ -204,7 +204,6 @@ module _ (choice : Choice) (caps : Capacities) (range : InRange caps) where
     plain_fits serves fit (record_length x day metres) n known = (tt, tt)
     plain_fits serves fit (span_length x) n known = length_fits fit x (holding s.surveys x) refl
     plain_fits serves fit exchange_share n known = (tt, (omega (arith, share_at_most s), tt))
-    plain_fits serves fit (two_losses x y) n known = (tt, (tt, tt))
 
     -- every number in the answer fits
     pub answer_fits : Serves s.book.network.rule choice → MetresFit s.surveys → (c : Command) → refusal_of caps s c ≡ none → Fits (answer choice s c)

@@ -1,21 +1,19 @@
--- Demand 2 of the answers, and what those about sizes, exchanges, routes, lengths and two losses say: what each answer says of the network,
--- in every state whose book keeps the laws of naming, under a choice of routes that serves.
-use mathlib.Core.Bool.{Bool, true, false}
+-- Demand 2 of the answers, and what those about sizes, exchanges, routes and lengths say: what each answer says of the network, in every state whose book
+-- keeps the laws of naming, under a choice of routes that serves.
+use mathlib.Core.Bool.{true, false}
 use mathlib.Core.List.{List, []}
-use mathlib.Core.Logic.{◌↔◌, Equivalence}
+use mathlib.Core.Logic.{◌↔◌}
 use mathlib.Core.Option.{Option, none, some}
 use mathlib.Core.Path.{◌≡◌, refl, sym, ◌∙◌, ap, subst₂}
 use Prim.Native.Nat.{ℕ, ◌<◌}
 use lib.Dec.{eqb}
 use Rattle.graph.specs.Below.{count}
-use Rattle.graph.specs.Network.{Network, edge_count, joined}
-use Rattle.graph.specs.Groups.{component, bridge, bridge_block, loss_of_both, outlive_two}
+use Rattle.graph.specs.Network.{Network, edge_count}
+use Rattle.graph.specs.Groups.{component, bridge, bridge_block}
 use Rattle.graph.specs.Block.{shared_block, on_block}
 use Rattle.graph.specs.Between.{bridges_between, cuts_between}
 use Rattle.graph.specs.Route.{Choice, Serves, serve}
 use Rattle.graph.proofs.Truth.{false_of_not, not_both}
-use Rattle.graph.proofs.TwoLosses.{outlive_two-component, outlive_two_lasts, in_two_loss_class, outlive_two-bridge_block}
-use Rattle.graph.proofs.TwoLosses.{outlive_two_refl, outlive_two_sym, outlive_two_trans}
 use Rattle.graph.proofs.SharedBlock.{shared_block_some, shared_block_none, shared_block-found, shared_block_is}
 use Rattle.naming.specs.Rename.{size, name_of}
 use Rattle.naming.specs.Book.{Book}
@@ -25,8 +23,8 @@ use Rattle.naming.specs.State.{State}
 use Rattle.naming.proofs.Book.{component_laws, bridge_block_laws, BookLaws}
 use Rattle.naming.proofs.Lookup.{look_up_exactly, size_by_name, sizes_add_up}
 use Rattle.naming.proofs.Surveys.{holding_exactly, exactly_holding, holding_none, none_holding}
-use Rattle.commands.specs.Command.{district_name, ring_name, shared_mesh, sole_spans, cut_cabinets, is_sole, holds_exchange, routes_between, span_length, exchange_share, two_losses}
-use Rattle.commands.specs.Answer.{Plain, plain, district_is, ring_is, mesh_shared, no_mesh_shared, sole_spans_are, cut_cabinets_are, sole_is, exchange_held, routes_are, length_is, no_length, share_is, two_outlived}
+use Rattle.commands.specs.Command.{district_name, ring_name, shared_mesh, sole_spans, cut_cabinets, is_sole, holds_exchange, routes_between, span_length, exchange_share}
+use Rattle.commands.specs.Answer.{Plain, plain, district_is, ring_is, mesh_shared, no_mesh_shared, sole_spans_are, cut_cabinets_are, sole_is, exchange_held, routes_are, length_is, no_length, share_is}
 use Rattle.commands.specs.Exchange.{ring_holds_exchange, with_exchange, thousandths, share_with_exchange}
 use Rattle.commands.specs.Facts.{asks, mesh_answer, routes_answer, length_answer, facts, answer_to, answer}
 use Rattle.commands.proofs.Cases.{impossible}
@@ -39,11 +37,6 @@ pub record OfSharedBlock (g : Network) (x y s : ℕ) : Type 0 where
   pub known : s < edge_count g
   pub at_first : on_block g s x ≡ true
   pub at_second : on_block g s y ≡ true
-
--- the two vertices are joined, and stay so without the mates of s and of t, for all edges s and t of the network, s = t included
-pub record OutliveTwo (g : Network) (x y : ℕ) : Type 0 where
-  pub joined_now : component g x y ≡ true
-  pub stay_joined : (s t : ℕ) → s < edge_count g → t < edge_count g → joined g (loss_of_both g s t) x y ≡ true
 
 -- What the answers to queries say of the state's network, its exchanges and its surveys.
 pub record AnswersTell (choice : Choice) (s : State) : Type 0 where
@@ -106,15 +99,6 @@ pub record AnswersTell (choice : Choice) (s : State) : Type 0 where
       → (answer choice s exchange_share ≡ plain (share_is m)) ↔ Nearest (with_exchange s) s.book.network.vertices m
   -- and 0 where there is no cabinet
   pub share_of_none : s.book.network.vertices ≡ 0 → answer choice s exchange_share ≡ plain (share_is 0)
-  -- the 10 answer has byte 1 exactly if the cabinets share a component and stay joined without the mates of any two edges, which may be one
-  pub two_losses_lem : (x y : ℕ) → (answer choice s (two_losses x y) ≡ plain (two_outlived true)) ↔ OutliveTwo s.book.network x y
-  -- and byte 0 exactly if not
-  pub not_two_losses : (x y : ℕ)
-      → (answer choice s (two_losses x y) ≡ plain (two_outlived false)) ↔ (OutliveTwo s.book.network x y → ⊥)
-  -- cabinets that answer 1 to each other fall into classes
-  pub classes : Equivalence (λ x y. answer choice s (two_losses x y) ≡ plain (two_outlived true))
-  -- and each class lies inside one ring
-  pub class_in_ring : (x y : ℕ) → answer choice s (two_losses x y) ≡ plain (two_outlived true) → bridge_block s.book.network x y ≡ true
 
 -- the shared block that is found has an edge at each
 found_shared : (g : Network) (x y t : ℕ) → shared_block g x y ≡ some t → OfSharedBlock g x y t
@@ -166,17 +150,6 @@ not-told_of : (records : List Survey) (x : ℕ) (o : Option Survey) → holding 
 unfolding length_answer
 not-told_of records x none e q = holding_none records x e
 not-told_of records x (some r) e q = impossible (cc)
-
--- the definition says just this of two vertices
-outlives : (g : Network) (x y : ℕ) → (outlive_two g x y ≡ true) ↔ OutliveTwo g x y
-outlives g x y = (
-  λ e. record { joined_now = outlive_two-component g x y e; stay_joined = outlive_two_lasts g x y e },
-  λ o. in_two_loss_class g x y o.joined_now o.stay_joined,
-)
-
--- the byte of a 10 answer
-told_outlived : {b c : Bool} → plain (two_outlived b) ≡ plain (two_outlived c) → b ≡ c
-told_outlived q = cc q
 
 -- so it is in every state whose book keeps the laws of naming, under every choice that serves
 pub answers_tell : (choice : Choice) (s : State) → BookLaws s.book → Serves s.book.network.rule choice → AnswersTell choice s
@@ -241,20 +214,4 @@ answers_tell choice s laws serves =
           let exactly = share_exactly (with_exchange s) s.book.network.vertices m some in
           (λ q. exactly.0 (cc), λ near. ap (λ n. plain (share_is n)) (exactly.1 near));
       share_of_none = λ none. ap (λ n. plain (share_is n)) (ap (thousandths (with_exchange s)) none ∙ share_of-nothing (with_exchange s));
-      two_losses_lem = λ x y. (
-        λ q. (outlives s.book.network x y).0 (told_outlived q),
-        λ o. ap (λ b. plain (two_outlived b)) ((outlives s.book.network x y).1 o),
-      );
-      not_two_losses = λ x y. (
-        λ q o. not_both ((outlives s.book.network x y).1 o) (told_outlived q),
-        λ f. ap (λ b. plain (two_outlived b))
-            (false_of_not (outlive_two s.book.network x y) (λ e. f ((outlives s.book.network x y).0 e))),
-      );
-      classes = record {
-        refl = λ x. ap (λ b. plain (two_outlived b)) (outlive_two_refl s.book.network x);
-        symm = λ x y q. ap (λ b. plain (two_outlived b)) (outlive_two_sym s.book.network x y (told_outlived q));
-        trans = λ x y z q r. ap (λ b. plain (two_outlived b))
-            (outlive_two_trans s.book.network x y z (told_outlived q) (told_outlived r));
-      };
-      class_in_ring = λ x y q. outlive_two-bridge_block s.book.network x y (told_outlived q);
     }

@@ -9,7 +9,7 @@ use lib.ListN.{length, take, get_or}
 use Rattle.naming.specs.Lookup.{Group}
 use Rattle.commands.specs.Bytes.{two_bytes}
 use Rattle.commands.specs.Field.{Kind, district, ring, mesh, Field, cabinet, span, field_bytes, fields_bytes}
-use Rattle.commands.specs.Answer.{kind_byte, bool_byte, Notice, notice_fields, notices_fields, Answer, cabinet_added, span_added, plain, district_is, ring_is, mesh_shared, no_mesh_shared, sole_spans_are, cut_cabinets_are, sole_is, exchange_marked, exchange_held, routes_are, length_recorded, length_is, no_length, share_is, two_outlived, plain_fields, answer_fields, answer_bytes}
+use Rattle.commands.specs.Answer.{kind_byte, bool_byte, Notice, notice_fields, notices_fields, Answer, cabinet_added, span_added, plain, district_is, ring_is, mesh_shared, no_mesh_shared, sole_spans_are, cut_cabinets_are, sole_is, exchange_marked, exchange_held, routes_are, length_recorded, length_is, no_length, share_is, plain_fields, answer_fields, answer_bytes}
 use Rattle.commands.specs.Run.{Accepted, bytes_of_answers}
 use Rattle.commands.specs.Decode.{malformed, decoded, Then, byte_then, field_then, fields_then, kind_of, kind_then, notice_then, notices_then, flag_then, nought_then, group_then, bodies, decode_body, decode, decode_first}
 use Rattle.commands.proofs.Bytes.{number_of-two_bytes, Small, FieldsFit, InTwoBytes, cabinets_in_two_bytes, spans_in_two_bytes, items_in_two_bytes, both_fit_lem, bytes_of_first, bytes_then_counted}
@@ -144,8 +144,6 @@ decode-answer (plain (length_is metres)) h rest = field_read metres h.1.1.0 (λ 
 decode-answer (plain no_length) h rest =
     field_read 0 (omega arith) (λ n. get_or (decoded (plain no_length) ∷ []) n (λ bytes. malformed)) rest
 decode-answer (plain (share_is n)) h rest = field_read n h.1.0 (λ x. decoded (plain (share_is x))) rest
-decode-answer (plain (two_outlived true)) h rest = refl
-decode-answer (plain (two_outlived false)) h rest = refl
 
 -- the answers of all of the accepted commands fit
 abbrev pub AllFit : List Accepted → Type 0

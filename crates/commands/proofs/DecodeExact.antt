@@ -10,7 +10,7 @@ use lib.ListN.{length, get_or}
 use Rattle.naming.specs.Lookup.{Group}
 use Rattle.commands.specs.Bytes.{all_bytes, number, two_bytes}
 use Rattle.commands.specs.Field.{Kind, district, ring, mesh, Field, cabinet, span, field_bytes, fields_bytes}
-use Rattle.commands.specs.Answer.{kind_byte, bool_byte, Notice, notice_fields, notices_fields, Plain, Answer, cabinet_added, span_added, plain, district_is, ring_is, mesh_shared, no_mesh_shared, sole_spans_are, cut_cabinets_are, sole_is, exchange_marked, exchange_held, routes_are, length_recorded, length_is, no_length, share_is, two_outlived, plain_fields, answer_fields, answer_bytes}
+use Rattle.commands.specs.Answer.{kind_byte, bool_byte, Notice, notice_fields, notices_fields, Plain, Answer, cabinet_added, span_added, plain, district_is, ring_is, mesh_shared, no_mesh_shared, sole_spans_are, cut_cabinets_are, sole_is, exchange_marked, exchange_held, routes_are, length_recorded, length_is, no_length, share_is, plain_fields, answer_fields, answer_bytes}
 use Rattle.commands.specs.Decode.{Decoded, malformed, decoded, Then, byte_then, field_then, fields_then, kind_of, kind_then, notice_then, notices_then, flag_then, nought_then, group_then, bodies, decode_body, decode}
 use Rattle.commands.proofs.Cases.{le_or_gt, impossible}
 use Rattle.commands.proofs.ByPlace.{each_at, ◌also◌}
@@ -273,7 +273,6 @@ module _ (all : List ℕ) where
       also (λ more r. spelled (plain length_recorded) more r (tt, tt))
       also one_or_none 0x8E length_is no_length (λ n. refl) refl (λ n s. (tt, (tt, (s, tt)))) (tt, (tt, (omega arith, tt)))
       also one_field 0x8F (λ n. plain (share_is n)) (λ n. refl) (λ n s. (tt, (s, tt)))
-      also yes_or_no 0x90 two_outlived (λ b. refl) (λ b. (tt, (tt, tt)))
       also tt)
       (λ i h more r. bad)
 

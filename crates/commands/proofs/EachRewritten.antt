@@ -4,7 +4,7 @@ use mathlib.Core.Logic.{◌⊎◌, inl, inr}
 use mathlib.Core.Path.{◌≡◌, refl, sym, ◌∙◌, ap}
 use Prim.Native.Nat.{ℕ}
 use lib.Dec.{eqb}
-use Rattle.commands.specs.Command.{Command, add_cabinet, add_span, district_name, ring_name, shared_mesh, sole_spans, cut_cabinets, is_sole, mark_exchange, holds_exchange, add_duct_span, routes_between, record_length, span_length, exchange_share, two_losses, command_byte}
+use Rattle.commands.specs.Command.{Command, add_cabinet, add_span, district_name, ring_name, shared_mesh, sole_spans, cut_cabinets, is_sole, mark_exchange, holds_exchange, add_duct_span, routes_between, record_length, span_length, exchange_share, command_byte}
 use Rattle.commands.specs.Facts.{facts, asks, addition_of, addition}
 use Rattle.commands.specs.Forecast.{is_span}
 use Rattle.commands.specs.Rewrite.{in_own_duct, rewrite_command}
@@ -46,7 +46,6 @@ each_command (routes_between x y) = inr (inr (record { adds_none = refl; not_02 
 each_command (record_length x day metres) = inr (inr (record { adds_none = refl; not_02 = refl; as_it_is = λ n. refl }))
 each_command (span_length x) = inr (inr (record { adds_none = refl; not_02 = refl; as_it_is = λ n. refl }))
 each_command exchange_share = inr (inr (record { adds_none = refl; not_02 = refl; as_it_is = λ n. refl }))
-each_command (two_losses x y) = inr (inr (record { adds_none = refl; not_02 = refl; as_it_is = λ n. refl }))
 
 -- so one other than 0B is 02 or unchanged
 pub each_rewritten : (c : Command) → not (eqb (command_byte c) 0x0B) ≡ true → Is02 c ⊎ Unchanged c

@@ -57,7 +57,6 @@ pub mod RewrittenRoom
 pub mod RewrittenEntry
 pub mod RewrittenPlace
 pub mod AnswersTell
-pub mod Outlived
 pub mod Answers
 pub mod Recorded
 pub mod Known

@@ -46,7 +46,6 @@ form_pays =
     also (λ x c s. omega arith)
     also (λ x c s. omega arith)
     also (λ x c s. omega arith)
-    also (λ x c s. omega arith)
     also tt)
     (λ byte h. tt)
 

@@ -52,7 +52,6 @@ form_fits =
     also (λ x fit. (fit 0, (fit 1, (fit 2, tt))))
     also (λ x fit. (fit 0, tt))
     also (λ x fit. tt)
-    also (λ x fit. (fit 0, (fit 1, tt)))
     also tt)
     (λ byte h. tt)
 

@@ -9,7 +9,7 @@ use native.Mathlib.Omega.{arith}
 use lib.ListN.{length, get_or, take, drop, length-take}
 use lib.Seq.{get_or-take, take-take, take-add, length-take-le, drop_at}
 use Rattle.commands.specs.Bytes.{number}
-use Rattle.commands.specs.Command.{Command, add_cabinet, add_span, district_name, ring_name, shared_mesh, sole_spans, cut_cabinets, is_sole, mark_exchange, holds_exchange, add_duct_span, routes_between, record_length, span_length, exchange_share, two_losses, Form, unknown, takes, forms, form, operand, command, read_form, read_command, command_byte}
+use Rattle.commands.specs.Command.{Command, add_cabinet, add_span, district_name, ring_name, shared_mesh, sole_spans, cut_cabinets, is_sole, mark_exchange, holds_exchange, add_duct_span, routes_between, record_length, span_length, exchange_share, Form, unknown, takes, forms, form, operand, command, read_form, read_command, command_byte}
 use Rattle.commands.specs.Field.{field_bytes, fields_bytes}
 use Rattle.commands.specs.Facts.{command_bytes}
 use Rattle.commands.specs.Refusal.{Refusal}
@@ -63,7 +63,6 @@ command_by_operands =
     also three_operands record_length
     also one_operand span_length
     also no_operand exchange_share
-    also two_operands two_losses
     also tt)
     (λ byte h. tt)
 

@@ -27,12 +27,12 @@ unfoldable pub width_of : Form → ℕ
 width_of unknown = 0
 width_of (takes n make) = 2 * n
 
--- the commands' bytes are 01 to 10
-pub known_bytes : (byte : ℕ) → is_command byte ≡ (leb 0x01 byte && leb byte 0x10)
+-- the commands' bytes are 01 to 0F
+pub known_bytes : (byte : ℕ) → is_command byte ≡ (leb 0x01 byte && leb byte 0x0F)
 unfolding is_command form forms is_known
 known_bytes =
     each_at
-    (λ byte f. is_known f ≡ (leb 0x01 byte && leb byte 0x10))
+    (λ byte f. is_known f ≡ (leb 0x01 byte && leb byte 0x0F))
     forms
     unknown
     (refl
@@ -51,9 +51,8 @@ known_bytes =
     also refl
     also refl
     also refl
-    also refl
     also tt)
-    (λ byte h. sym (rw (gt_leb byte 0x10 (omega arith), and-false (leb 0x01 byte))))
+    (λ byte h. sym (rw (gt_leb byte 0x0F (omega arith), and-false (leb 0x01 byte))))
 
 -- the form of the other bytes, and of no others, is unknown
 pub unknown_exactly : (byte : ℕ) → (form byte ≡ unknown) ↔ (is_command byte ≡ false)

@@ -3,7 +3,7 @@ use mathlib.Core.Bool.{false}
 use mathlib.Core.Path.{◌≡◌, refl}
 use lib.Dec.{eqb}
 use Rattle.naming.specs.State.{Recording, records_nothing, records_mark, records_survey}
-use Rattle.commands.specs.Command.{Command, add_cabinet, add_span, district_name, ring_name, shared_mesh, sole_spans, cut_cabinets, is_sole, mark_exchange, holds_exchange, add_duct_span, routes_between, record_length, span_length, exchange_share, two_losses, command_byte}
+use Rattle.commands.specs.Command.{Command, add_cabinet, add_span, district_name, ring_name, shared_mesh, sole_spans, cut_cabinets, is_sole, mark_exchange, holds_exchange, add_duct_span, routes_between, record_length, span_length, exchange_share, command_byte}
 use Rattle.commands.specs.Facts.{facts, asks, recording_of, recording}
 
 abbrev pub Records : Command → Recording → Type 0
@@ -28,4 +28,3 @@ records (routes_between a b) = (refl, refl)
 records (record_length x day metres) = refl
 records (span_length x) = (refl, refl)
 records exchange_share = (refl, refl)
-records (two_losses a b) = (refl, refl)

@@ -8,7 +8,7 @@ use lib.ListN.{length, drop}
 use Rattle.graph.specs.Network.{edge_between, edge_in_duct}
 use Rattle.commands.specs.Bytes.{two_bytes}
 use Rattle.commands.specs.Field.{field_bytes, fields_bytes}
-use Rattle.commands.specs.Command.{Command, add_cabinet, add_span, district_name, ring_name, shared_mesh, sole_spans, cut_cabinets, is_sole, mark_exchange, holds_exchange, add_duct_span, routes_between, record_length, span_length, exchange_share, two_losses, takes, forms, form, operand, command, read_form, read_command, command_byte}
+use Rattle.commands.specs.Command.{Command, add_cabinet, add_span, district_name, ring_name, shared_mesh, sole_spans, cut_cabinets, is_sole, mark_exchange, holds_exchange, add_duct_span, routes_between, record_length, span_length, exchange_share, takes, forms, form, operand, command, read_form, read_command, command_byte}
 use Rattle.commands.specs.Facts.{facts, asks, operands_of, command_bytes}
 use Rattle.commands.specs.Text.{Read, ends_with, followed_by, text_from, journal_bytes}
 use Rattle.commands.proofs.Bytes.{number_of-two_bytes, Small, FieldsFit}
@@ -67,7 +67,6 @@ command_read_back (record_length x day metres) rest fit =
     (three_operands record_length x day metres rest fit.0 fit.1.0 fit.1.1.0, refl)
 command_read_back (span_length x) rest fit = (one_operand span_length x rest fit.0, refl)
 command_read_back exchange_share rest fit = (no_operand exchange_share rest, refl)
-command_read_back (two_losses a b) rest fit = (two_operands two_losses a b rest fit.0 fit.1.0, refl)
 
 -- the numbers in the commands' operands fit into two bytes
 abbrev pub AllSpelled : List Command → Type 0

@@ -49,7 +49,6 @@ form_spells =
     also (λ x. refl)
     also (λ x. refl)
     also (λ x. refl)
-    also (λ x. refl)
     also tt)
     (λ byte h. tt)
 

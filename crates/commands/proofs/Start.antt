@@ -69,20 +69,6 @@ unfolding whole_unless
 ran_unless none run = (λ e. refl, λ e. refl)
 ran_unless (some s) run = (λ e. impossible (cc), λ e. impossible (cc))
 
--- The start by the lengths alone: no line of it applies exactly if none of the three causes is there.
-module _ (caps : Capacities) (journal_length work_length report_length : ℕ) where
-  starts_well : NoneOf (start_lines caps journal_length work_length report_length) → StartsWell caps journal_length work_length report_length
-  unfolding start_lines
-  starts_well f = record { good_capacities_lem = true_of_not_false _ f.0; long_buffers = f.1.0; short_journal = f.1.1.0 }
-
-  no_line : StartsWell caps journal_length work_length report_length → NoneOf (start_lines caps journal_length work_length report_length)
-  unfolding start_lines
-  no_line w = (not_of_true w.good_capacities_lem, (w.long_buffers, (w.short_journal, tt)))
-
-  pub starts_exactly : (first_that_applies (start_lines caps journal_length work_length report_length) ≡ none)
-      ↔ StartsWell caps journal_length work_length report_length
-  starts_exactly = Iff.trans (none_exactly (start_lines caps journal_length work_length report_length)) (starts_well, no_line)
-
 module _ (rule : Rule) (choice : Choice) (caps : Capacities) (journal : List ℕ) (work_length answers_length report_length : ℕ) where
   -- the lines that are tested at the start
   abbrev start_table : List Line
@@ -117,11 +103,22 @@ module _ (rule : Rule) (choice : Choice) (caps : Capacities) (journal : List ℕ
   unfolding start_lines refusal_number
   long_journal_exactly = Iff.trans (start_decides long_journal) (simp not_is_false at (given_exactly 2 long_journal start_table refl))
 
+  starts_well : NoneOf start_table → StartsWell caps (length journal) work_length report_length
+  unfolding start_lines
+  starts_well f = record { good_capacities_lem = true_of_not_false _ f.0; long_buffers = f.1.0; short_journal = f.1.1.0 }
+
+  no_line : StartsWell caps (length journal) work_length report_length → NoneOf start_table
+  unfolding start_lines
+  no_line w = (not_of_true w.good_capacities_lem, (w.long_buffers, (w.short_journal, tt)))
+
   -- the run goes ahead exactly if none of the three applies
   pub ran_exactly : (whole_run rule choice caps journal work_length answers_length report_length ≡ ran (run_within answers_length choice caps (empty_state rule) (text_of journal)))
       ↔ StartsWell caps (length journal) work_length report_length
   unfolding whole_run
-  ran_exactly = Iff.trans (ran_unless (first_that_applies start_table) _) (starts_exactly caps (length journal) work_length report_length)
+  ran_exactly =
+      Iff.trans
+      (ran_unless (first_that_applies start_table) _)
+      (Iff.trans (none_exactly start_table) (starts_well, no_line))
 
   -- a run is refused at the start, or goes ahead
   pub refused_or_ran : ((r : Refusal) × (whole_run rule choice caps journal work_length answers_length report_length ≡ refused_at_start r))
@@ -132,4 +129,4 @@ module _ (rule : Rule) (choice : Choice) (caps : Capacities) (journal : List ℕ
           → ((r : Refusal) × (whole_run rule choice caps journal work_length answers_length report_length ≡ refused_at_start r))
           ⊎ StartsWell caps (length journal) work_length report_length
       go (some r) e = inl (r, (start_decides r).1 e)
-      go none e = inr ((starts_exactly caps (length journal) work_length report_length).0 e)
+      go none e = inr (starts_well ((none_exactly start_table).0 e))

@@ -61,7 +61,6 @@ pub data Plain : Type 0 where
   length_is : ℕ → Plain
   no_length : Plain
   share_is : ℕ → Plain
-  two_outlived : Bool → Plain
 
 -- An added span is answered with its number, its mesh name and the notices.
 pub data Answer : Type 0 where
@@ -88,7 +87,6 @@ plain_fields length_recorded = byte 0x8D ∷ []
 plain_fields (length_is metres) = byte 0x8E ∷ byte 1 ∷ number metres ∷ []
 plain_fields no_length = byte 0x8E ∷ byte 0 ∷ number 0 ∷ []
 plain_fields (share_is n) = byte 0x8F ∷ number n ∷ []
-plain_fields (two_outlived outlived) = byte 0x90 ∷ byte (bool_byte outlived) ∷ []
 
 unfoldable pub answer_fields : Answer → List Field
 answer_fields (cabinet_added k) = byte 0x81 ∷ cabinet k ∷ []

@@ -41,122 +41,118 @@ start_calls =
     ∷ at_start 4097 1 0 2 5 (replicate 65537 0) 1
     ∷ at_start 1 0 0 2 5 (replicate 65537 0) 1
     ∷ at_start 1 8193 0 2 5 (replicate 65537 0) 1
-    -- 2: working table or report too short; 96 numbers are 24 × C + 8 × S + 64, and W is 111
+    -- 2: working table or report too short
     ∷ at_start 4096 8192 0 2 6 (replicate 65537 0) 2
-    ∷ at_start 1 1 110 2 6 (replicate 65537 0) 2
-    ∷ at_start 1 1 96 2 6 [] 2
-    ∷ at_start 1 1 111 2 5 (replicate 65537 0) 2
+    ∷ at_start 1 1 95 2 6 (replicate 65537 0) 2
+    ∷ at_start 1 1 96 2 5 (replicate 65537 0) 2
     -- 3: journal longer than 65,536 bytes
-    ∷ at_start 1 1 111 2 6 (replicate 65537 0) 3
+    ∷ at_start 1 1 96 2 6 (replicate 65537 0) 3
     ∷ []
 
 -- Stopped: W numbers of the working table are 0, the report is filled, earlier answers stand, and the rest is as it was.
 unfoldable pub stop_calls : List Call
 stop_calls =
-    -- 4: a byte that is no command's: not 01 to 10
-    call 1 1 111 2 6 (replicate 65536 0x00) 4 (replicate 111 0) (7 ∷ 7 ∷ []) (4 ∷ 0 ∷ 0 ∷ 0 ∷ 0 ∷ 0 ∷ [])
-    ∷ call 1 1 113 5 8 (0x01 ∷ 0x11 ∷ []) 4
-    (replicate 111 0 ++ 7 ∷ 7 ∷ [])
+    -- 4: a byte that is no command's: not 01 to 0F
+    call 1 1 96 2 6 (replicate 65536 0x00) 4 (replicate 96 0) (7 ∷ 7 ∷ []) (4 ∷ 0 ∷ 0 ∷ 0 ∷ 0 ∷ 0 ∷ [])
+    ∷ call 1 1 98 5 8 (0x01 ∷ 0x10 ∷ []) 4
+    (replicate 96 0 ++ 7 ∷ 7 ∷ [])
     (0x81 ∷ 0 ∷ 0 ∷ 7 ∷ 7 ∷ [])
     (4 ∷ 1 ∷ 1 ∷ 3 ∷ 1 ∷ 0 ∷ 7 ∷ 7 ∷ [])
-    ∷ call 1 1 111 2 6 (0xFF ∷ []) 4 (replicate 111 0) (7 ∷ 7 ∷ []) (4 ∷ 0 ∷ 0 ∷ 0 ∷ 0 ∷ 0 ∷ [])
+    ∷ call 1 1 96 2 6 (0xFF ∷ []) 4 (replicate 96 0) (7 ∷ 7 ∷ []) (4 ∷ 0 ∷ 0 ∷ 0 ∷ 0 ∷ 0 ∷ [])
     -- 5: operands cut off by the journal's end, of cabinets not yet given
-    ∷ call 1 1 111 2 6 (0x02 ∷ 0 ∷ 0 ∷ 0 ∷ []) 5 (replicate 111 0) (7 ∷ 7 ∷ []) (5 ∷ 0 ∷ 0 ∷ 0 ∷ 0 ∷ 0 ∷ [])
-    ∷ call 1 1 111 2 6 (0x09 ∷ 0 ∷ []) 5 (replicate 111 0) (7 ∷ 7 ∷ []) (5 ∷ 0 ∷ 0 ∷ 0 ∷ 0 ∷ 0 ∷ [])
-    ∷ call 1 1 111 2 6 (0x0A ∷ 0 ∷ []) 5 (replicate 111 0) (7 ∷ 7 ∷ []) (5 ∷ 0 ∷ 0 ∷ 0 ∷ 0 ∷ 0 ∷ [])
-    ∷ call 1 1 111 2 6 (0x0B ∷ 0 ∷ 0 ∷ 0 ∷ 0 ∷ 0 ∷ []) 5 (replicate 111 0) (7 ∷ 7 ∷ []) (5 ∷ 0 ∷ 0 ∷ 0 ∷ 0 ∷ 0 ∷ [])
-    ∷ call 1 1 111 2 6 (0x0C ∷ 0 ∷ 0 ∷ 0 ∷ []) 5 (replicate 111 0) (7 ∷ 7 ∷ []) (5 ∷ 0 ∷ 0 ∷ 0 ∷ 0 ∷ 0 ∷ [])
-    ∷ call 1 1 111 2 6 (0x0D ∷ 0 ∷ 0 ∷ 0 ∷ 0 ∷ 0 ∷ []) 5 (replicate 111 0) (7 ∷ 7 ∷ []) (5 ∷ 0 ∷ 0 ∷ 0 ∷ 0 ∷ 0 ∷ [])
-    ∷ call 1 1 111 2 6 (0x0E ∷ 0 ∷ []) 5 (replicate 111 0) (7 ∷ 7 ∷ []) (5 ∷ 0 ∷ 0 ∷ 0 ∷ 0 ∷ 0 ∷ [])
-    ∷ call 1 1 111 2 6 (0x10 ∷ 0 ∷ 0 ∷ 0 ∷ []) 5 (replicate 111 0) (7 ∷ 7 ∷ []) (5 ∷ 0 ∷ 0 ∷ 0 ∷ 0 ∷ 0 ∷ [])
-    -- 6: a cabinet number not yet given; in the second, the fourth and the fifth, equal to the other; in the third, with duct 0
-    ∷ call 1 1 111 3 6 (0x01 ∷ 0x02 ∷ 0 ∷ 0 ∷ 0 ∷ 1 ∷ []) 6 (replicate 111 0) (0x81 ∷ 0 ∷ 0 ∷ []) (6 ∷ 1 ∷ 1 ∷ 3 ∷ 1 ∷ 0 ∷ [])
-    ∷ call 1 1 111 3 6 (0x01 ∷ 0x05 ∷ 0 ∷ 1 ∷ 0 ∷ 1 ∷ []) 6 (replicate 111 0) (0x81 ∷ 0 ∷ 0 ∷ []) (6 ∷ 1 ∷ 1 ∷ 3 ∷ 1 ∷ 0 ∷ [])
-    ∷ call 1 1 111 3 6 (0x01 ∷ 0x0B ∷ 0 ∷ 1 ∷ 0 ∷ 1 ∷ 0 ∷ 0 ∷ []) 6 (replicate 111 0) (0x81 ∷ 0 ∷ 0 ∷ []) (6 ∷ 1 ∷ 1 ∷ 3 ∷ 1 ∷ 0 ∷ [])
-    ∷ call 1 1 111 3 6 (0x01 ∷ 0x0C ∷ 0 ∷ 1 ∷ 0 ∷ 1 ∷ []) 6 (replicate 111 0) (0x81 ∷ 0 ∷ 0 ∷ []) (6 ∷ 1 ∷ 1 ∷ 3 ∷ 1 ∷ 0 ∷ [])
-    ∷ call 1 1 111 3 6 (0x01 ∷ 0x10 ∷ 0 ∷ 1 ∷ 0 ∷ 1 ∷ []) 6 (replicate 111 0) (0x81 ∷ 0 ∷ 0 ∷ []) (6 ∷ 1 ∷ 1 ∷ 3 ∷ 1 ∷ 0 ∷ [])
+    ∷ call 1 1 96 2 6 (0x02 ∷ 0 ∷ 0 ∷ 0 ∷ []) 5 (replicate 96 0) (7 ∷ 7 ∷ []) (5 ∷ 0 ∷ 0 ∷ 0 ∷ 0 ∷ 0 ∷ [])
+    ∷ call 1 1 96 2 6 (0x09 ∷ 0 ∷ []) 5 (replicate 96 0) (7 ∷ 7 ∷ []) (5 ∷ 0 ∷ 0 ∷ 0 ∷ 0 ∷ 0 ∷ [])
+    ∷ call 1 1 96 2 6 (0x0A ∷ 0 ∷ []) 5 (replicate 96 0) (7 ∷ 7 ∷ []) (5 ∷ 0 ∷ 0 ∷ 0 ∷ 0 ∷ 0 ∷ [])
+    ∷ call 1 1 96 2 6 (0x0B ∷ 0 ∷ 0 ∷ 0 ∷ 0 ∷ 0 ∷ []) 5 (replicate 96 0) (7 ∷ 7 ∷ []) (5 ∷ 0 ∷ 0 ∷ 0 ∷ 0 ∷ 0 ∷ [])
+    ∷ call 1 1 96 2 6 (0x0C ∷ 0 ∷ 0 ∷ 0 ∷ []) 5 (replicate 96 0) (7 ∷ 7 ∷ []) (5 ∷ 0 ∷ 0 ∷ 0 ∷ 0 ∷ 0 ∷ [])
+    ∷ call 1 1 96 2 6 (0x0D ∷ 0 ∷ 0 ∷ 0 ∷ 0 ∷ 0 ∷ []) 5 (replicate 96 0) (7 ∷ 7 ∷ []) (5 ∷ 0 ∷ 0 ∷ 0 ∷ 0 ∷ 0 ∷ [])
+    ∷ call 1 1 96 2 6 (0x0E ∷ 0 ∷ []) 5 (replicate 96 0) (7 ∷ 7 ∷ []) (5 ∷ 0 ∷ 0 ∷ 0 ∷ 0 ∷ 0 ∷ [])
+    -- 6: a cabinet number not yet given; in the second and the fourth, equal to the other; in the third, with duct 0
+    ∷ call 1 1 96 3 6 (0x01 ∷ 0x02 ∷ 0 ∷ 0 ∷ 0 ∷ 1 ∷ []) 6 (replicate 96 0) (0x81 ∷ 0 ∷ 0 ∷ []) (6 ∷ 1 ∷ 1 ∷ 3 ∷ 1 ∷ 0 ∷ [])
+    ∷ call 1 1 96 3 6 (0x01 ∷ 0x05 ∷ 0 ∷ 1 ∷ 0 ∷ 1 ∷ []) 6 (replicate 96 0) (0x81 ∷ 0 ∷ 0 ∷ []) (6 ∷ 1 ∷ 1 ∷ 3 ∷ 1 ∷ 0 ∷ [])
+    ∷ call 1 1 96 3 6 (0x01 ∷ 0x0B ∷ 0 ∷ 1 ∷ 0 ∷ 1 ∷ 0 ∷ 0 ∷ []) 6 (replicate 96 0) (0x81 ∷ 0 ∷ 0 ∷ []) (6 ∷ 1 ∷ 1 ∷ 3 ∷ 1 ∷ 0 ∷ [])
+    ∷ call 1 1 96 3 6 (0x01 ∷ 0x0C ∷ 0 ∷ 1 ∷ 0 ∷ 1 ∷ []) 6 (replicate 96 0) (0x81 ∷ 0 ∷ 0 ∷ []) (6 ∷ 1 ∷ 1 ∷ 3 ∷ 1 ∷ 0 ∷ [])
     -- 7: a span number not yet given, equal to a cabinet's, and no room for the answer
-    ∷ call 1 1 111 3 6 (0x01 ∷ 0x08 ∷ 0 ∷ 0 ∷ []) 7 (replicate 111 0) (0x81 ∷ 0 ∷ 0 ∷ []) (7 ∷ 1 ∷ 1 ∷ 3 ∷ 1 ∷ 0 ∷ [])
-    ∷ call 1 1 111 3 6 (0x01 ∷ 0x0D ∷ 0 ∷ 0 ∷ 0 ∷ 1 ∷ 0 ∷ 2 ∷ []) 7 (replicate 111 0) (0x81 ∷ 0 ∷ 0 ∷ []) (7 ∷ 1 ∷ 1 ∷ 3 ∷ 1 ∷ 0 ∷ [])
-    ∷ call 1 1 111 3 6 (0x01 ∷ 0x0E ∷ 0 ∷ 0 ∷ []) 7 (replicate 111 0) (0x81 ∷ 0 ∷ 0 ∷ []) (7 ∷ 1 ∷ 1 ∷ 3 ∷ 1 ∷ 0 ∷ [])
+    ∷ call 1 1 96 3 6 (0x01 ∷ 0x08 ∷ 0 ∷ 0 ∷ []) 7 (replicate 96 0) (0x81 ∷ 0 ∷ 0 ∷ []) (7 ∷ 1 ∷ 1 ∷ 3 ∷ 1 ∷ 0 ∷ [])
+    ∷ call 1 1 96 3 6 (0x01 ∷ 0x0D ∷ 0 ∷ 0 ∷ 0 ∷ 1 ∷ 0 ∷ 2 ∷ []) 7 (replicate 96 0) (0x81 ∷ 0 ∷ 0 ∷ []) (7 ∷ 1 ∷ 1 ∷ 3 ∷ 1 ∷ 0 ∷ [])
+    ∷ call 1 1 96 3 6 (0x01 ∷ 0x0E ∷ 0 ∷ 0 ∷ []) 7 (replicate 96 0) (0x81 ∷ 0 ∷ 0 ∷ []) (7 ∷ 1 ∷ 1 ∷ 3 ∷ 1 ∷ 0 ∷ [])
     -- 8: 05 and 0C with equal cabinets; 02 too, with S spans present; 0B too, with duct 0
-    ∷ call 1 1 111 3 6 (0x01 ∷ 0x0C ∷ 0 ∷ 0 ∷ 0 ∷ 0 ∷ []) 8 (replicate 111 0) (0x81 ∷ 0 ∷ 0 ∷ []) (8 ∷ 1 ∷ 1 ∷ 3 ∷ 1 ∷ 0 ∷ [])
-    ∷ call 1 1 111 3 6 (0x01 ∷ 0x05 ∷ 0 ∷ 0 ∷ 0 ∷ 0 ∷ []) 8 (replicate 111 0) (0x81 ∷ 0 ∷ 0 ∷ []) (8 ∷ 1 ∷ 1 ∷ 3 ∷ 1 ∷ 0 ∷ [])
-    ∷ call 2 1 143 18 6 (0x01 ∷ 0x01 ∷ 0x02 ∷ 0 ∷ 0 ∷ 0 ∷ 1 ∷ 0x02 ∷ 0 ∷ 1 ∷ 0 ∷ 1 ∷ []) 8
-    (replicate 143 0)
+    ∷ call 1 1 96 3 6 (0x01 ∷ 0x0C ∷ 0 ∷ 0 ∷ 0 ∷ 0 ∷ []) 8 (replicate 96 0) (0x81 ∷ 0 ∷ 0 ∷ []) (8 ∷ 1 ∷ 1 ∷ 3 ∷ 1 ∷ 0 ∷ [])
+    ∷ call 1 1 96 3 6 (0x01 ∷ 0x05 ∷ 0 ∷ 0 ∷ 0 ∷ 0 ∷ []) 8 (replicate 96 0) (0x81 ∷ 0 ∷ 0 ∷ []) (8 ∷ 1 ∷ 1 ∷ 3 ∷ 1 ∷ 0 ∷ [])
+    ∷ call 2 1 120 18 6 (0x01 ∷ 0x01 ∷ 0x02 ∷ 0 ∷ 0 ∷ 0 ∷ 1 ∷ 0x02 ∷ 0 ∷ 1 ∷ 0 ∷ 1 ∷ []) 8
+    (replicate 120 0)
     (0x81 ∷ 0 ∷ 0 ∷ 0x81 ∷ 0 ∷ 1 ∷ 0x82 ∷ 0 ∷ 0 ∷ 0 ∷ 0 ∷ 0 ∷ 1 ∷ 0x01 ∷ 0 ∷ 1 ∷ 0 ∷ 0 ∷ [])
     (8 ∷ 7 ∷ 3 ∷ 18 ∷ 2 ∷ 1 ∷ [])
-    ∷ call 2 1 143 18 6 (0x01 ∷ 0x01 ∷ 0x02 ∷ 0 ∷ 0 ∷ 0 ∷ 1 ∷ 0x0B ∷ 0 ∷ 1 ∷ 0 ∷ 1 ∷ 0 ∷ 0 ∷ []) 8
-    (replicate 143 0)
+    ∷ call 2 1 120 18 6 (0x01 ∷ 0x01 ∷ 0x02 ∷ 0 ∷ 0 ∷ 0 ∷ 1 ∷ 0x0B ∷ 0 ∷ 1 ∷ 0 ∷ 1 ∷ 0 ∷ 0 ∷ []) 8
+    (replicate 120 0)
     (0x81 ∷ 0 ∷ 0 ∷ 0x81 ∷ 0 ∷ 1 ∷ 0x82 ∷ 0 ∷ 0 ∷ 0 ∷ 0 ∷ 0 ∷ 1 ∷ 0x01 ∷ 0 ∷ 1 ∷ 0 ∷ 0 ∷ [])
     (8 ∷ 7 ∷ 3 ∷ 18 ∷ 2 ∷ 1 ∷ [])
     -- 12: 09 of an exchange, with C cabinets present and no room for the answer
-    ∷ call 1 1 111 4 6 (0x01 ∷ 0x09 ∷ 0 ∷ 0 ∷ 0x09 ∷ 0 ∷ 0 ∷ []) 12
-    (replicate 111 0)
+    ∷ call 1 1 96 4 6 (0x01 ∷ 0x09 ∷ 0 ∷ 0 ∷ 0x09 ∷ 0 ∷ 0 ∷ []) 12
+    (replicate 96 0)
     (0x81 ∷ 0 ∷ 0 ∷ 0x89 ∷ [])
     (12 ∷ 4 ∷ 2 ∷ 4 ∷ 1 ∷ 0 ∷ [])
     -- 13: 0B with duct 0, with S spans present and no room for the answer
-    ∷ call 2 1 143 18 6 (0x01 ∷ 0x01 ∷ 0x02 ∷ 0 ∷ 0 ∷ 0 ∷ 1 ∷ 0x0B ∷ 0 ∷ 1 ∷ 0 ∷ 0 ∷ 0 ∷ 0 ∷ []) 13
-    (replicate 143 0)
+    ∷ call 2 1 120 18 6 (0x01 ∷ 0x01 ∷ 0x02 ∷ 0 ∷ 0 ∷ 0 ∷ 1 ∷ 0x0B ∷ 0 ∷ 1 ∷ 0 ∷ 0 ∷ 0 ∷ 0 ∷ []) 13
+    (replicate 120 0)
     (0x81 ∷ 0 ∷ 0 ∷ 0x81 ∷ 0 ∷ 1 ∷ 0x82 ∷ 0 ∷ 0 ∷ 0 ∷ 0 ∷ 0 ∷ 1 ∷ 0x01 ∷ 0 ∷ 1 ∷ 0 ∷ 0 ∷ [])
     (13 ∷ 7 ∷ 3 ∷ 18 ∷ 2 ∷ 1 ∷ [])
     -- 9: 01 with C cabinets, or 02 or 0B with S spans present, and no room for the answer
-    ∷ call 1 1 111 3 6 (0x01 ∷ 0x01 ∷ []) 9 (replicate 111 0) (0x81 ∷ 0 ∷ 0 ∷ []) (9 ∷ 1 ∷ 1 ∷ 3 ∷ 1 ∷ 0 ∷ [])
-    ∷ call 2 1 143 18 6 (0x01 ∷ 0x01 ∷ 0x02 ∷ 0 ∷ 0 ∷ 0 ∷ 1 ∷ 0x02 ∷ 0 ∷ 1 ∷ 0 ∷ 0 ∷ []) 9
-    (replicate 143 0)
+    ∷ call 1 1 96 3 6 (0x01 ∷ 0x01 ∷ []) 9 (replicate 96 0) (0x81 ∷ 0 ∷ 0 ∷ []) (9 ∷ 1 ∷ 1 ∷ 3 ∷ 1 ∷ 0 ∷ [])
+    ∷ call 2 1 120 18 6 (0x01 ∷ 0x01 ∷ 0x02 ∷ 0 ∷ 0 ∷ 0 ∷ 1 ∷ 0x02 ∷ 0 ∷ 1 ∷ 0 ∷ 0 ∷ []) 9
+    (replicate 120 0)
     (0x81 ∷ 0 ∷ 0 ∷ 0x81 ∷ 0 ∷ 1 ∷ 0x82 ∷ 0 ∷ 0 ∷ 0 ∷ 0 ∷ 0 ∷ 1 ∷ 0x01 ∷ 0 ∷ 1 ∷ 0 ∷ 0 ∷ [])
     (9 ∷ 7 ∷ 3 ∷ 18 ∷ 2 ∷ 1 ∷ [])
-    ∷ call 2 1 143 18 6 (0x01 ∷ 0x01 ∷ 0x02 ∷ 0 ∷ 0 ∷ 0 ∷ 1 ∷ 0x0B ∷ 0 ∷ 1 ∷ 0 ∷ 0 ∷ 0 ∷ 5 ∷ []) 9
-    (replicate 143 0)
+    ∷ call 2 1 120 18 6 (0x01 ∷ 0x01 ∷ 0x02 ∷ 0 ∷ 0 ∷ 0 ∷ 1 ∷ 0x0B ∷ 0 ∷ 1 ∷ 0 ∷ 0 ∷ 0 ∷ 5 ∷ []) 9
+    (replicate 120 0)
     (0x81 ∷ 0 ∷ 0 ∷ 0x81 ∷ 0 ∷ 1 ∷ 0x82 ∷ 0 ∷ 0 ∷ 0 ∷ 0 ∷ 0 ∷ 1 ∷ 0x01 ∷ 0 ∷ 1 ∷ 0 ∷ 0 ∷ [])
     (9 ∷ 7 ∷ 3 ∷ 18 ∷ 2 ∷ 1 ∷ [])
     -- 10: 06 or 07 across districts, and no room for the answer
-    ∷ call 2 1 143 6 6 (0x01 ∷ 0x01 ∷ 0x06 ∷ 0 ∷ 0 ∷ 0 ∷ 1 ∷ []) 10
-    (replicate 143 0)
+    ∷ call 2 1 120 6 6 (0x01 ∷ 0x01 ∷ 0x06 ∷ 0 ∷ 0 ∷ 0 ∷ 1 ∷ []) 10
+    (replicate 120 0)
     (0x81 ∷ 0 ∷ 0 ∷ 0x81 ∷ 0 ∷ 1 ∷ [])
     (10 ∷ 2 ∷ 2 ∷ 6 ∷ 2 ∷ 0 ∷ [])
-    ∷ call 2 1 143 6 6 (0x01 ∷ 0x01 ∷ 0x07 ∷ 0 ∷ 0 ∷ 0 ∷ 1 ∷ []) 10
-    (replicate 143 0)
+    ∷ call 2 1 120 6 6 (0x01 ∷ 0x01 ∷ 0x07 ∷ 0 ∷ 0 ∷ 0 ∷ 1 ∷ []) 10
+    (replicate 120 0)
     (0x81 ∷ 0 ∷ 0 ∷ 0x81 ∷ 0 ∷ 1 ∷ [])
     (10 ∷ 2 ∷ 2 ∷ 6 ∷ 2 ∷ 0 ∷ [])
     -- 14: 0C across districts, and across rings of one district, and no room for the answer
-    ∷ call 2 1 143 6 6 (0x01 ∷ 0x01 ∷ 0x0C ∷ 0 ∷ 0 ∷ 0 ∷ 1 ∷ []) 14
-    (replicate 143 0)
+    ∷ call 2 1 120 6 6 (0x01 ∷ 0x01 ∷ 0x0C ∷ 0 ∷ 0 ∷ 0 ∷ 1 ∷ []) 14
+    (replicate 120 0)
     (0x81 ∷ 0 ∷ 0 ∷ 0x81 ∷ 0 ∷ 1 ∷ [])
     (14 ∷ 2 ∷ 2 ∷ 6 ∷ 2 ∷ 0 ∷ [])
-    ∷ call 2 1 143 18 6 (0x01 ∷ 0x01 ∷ 0x02 ∷ 0 ∷ 0 ∷ 0 ∷ 1 ∷ 0x0C ∷ 0 ∷ 1 ∷ 0 ∷ 0 ∷ []) 14
-    (replicate 143 0)
+    ∷ call 2 1 120 18 6 (0x01 ∷ 0x01 ∷ 0x02 ∷ 0 ∷ 0 ∷ 0 ∷ 1 ∷ 0x0C ∷ 0 ∷ 1 ∷ 0 ∷ 0 ∷ []) 14
+    (replicate 120 0)
     (0x81 ∷ 0 ∷ 0 ∷ 0x81 ∷ 0 ∷ 1 ∷ 0x82 ∷ 0 ∷ 0 ∷ 0 ∷ 0 ∷ 0 ∷ 1 ∷ 0x01 ∷ 0 ∷ 1 ∷ 0 ∷ 0 ∷ [])
     (14 ∷ 7 ∷ 3 ∷ 18 ∷ 2 ∷ 1 ∷ [])
     -- 11: the answer is longer, by one byte, than what is left of the answer buffer
-    ∷ call 1 1 111 2 6 (0x01 ∷ []) 11 (replicate 111 0) (7 ∷ 7 ∷ []) (11 ∷ 0 ∷ 0 ∷ 0 ∷ 0 ∷ 0 ∷ [])
-    ∷ call 1 1 111 3 6 (0x01 ∷ 0x09 ∷ 0 ∷ 0 ∷ []) 11 (replicate 111 0) (0x81 ∷ 0 ∷ 0 ∷ []) (11 ∷ 1 ∷ 1 ∷ 3 ∷ 1 ∷ 0 ∷ [])
-    ∷ call 1 1 111 2 6 (0x0F ∷ []) 11 (replicate 111 0) (7 ∷ 7 ∷ []) (11 ∷ 0 ∷ 0 ∷ 0 ∷ 0 ∷ 0 ∷ [])
-    ∷ call 1 1 111 4 6 (0x01 ∷ 0x10 ∷ 0 ∷ 0 ∷ 0 ∷ 0 ∷ []) 11 (replicate 111 0) (0x81 ∷ 0 ∷ 0 ∷ 7 ∷ []) (11 ∷ 1 ∷ 1 ∷ 3 ∷ 1 ∷ 0 ∷ [])
-    ∷ call 1 1 111 7 6 (0x01 ∷ 0x03 ∷ 0 ∷ 0 ∷ []) 11 (replicate 111 0) (0x81 ∷ 0 ∷ 0 ∷ 7 ∷ 7 ∷ 7 ∷ 7 ∷ []) (11 ∷ 1 ∷ 1 ∷ 3 ∷ 1 ∷ 0 ∷ [])
-    ∷ call 1 1 111 7 6 (0x01 ∷ 0x04 ∷ 0 ∷ 0 ∷ []) 11 (replicate 111 0) (0x81 ∷ 0 ∷ 0 ∷ 7 ∷ 7 ∷ 7 ∷ 7 ∷ []) (11 ∷ 1 ∷ 1 ∷ 3 ∷ 1 ∷ 0 ∷ [])
-    ∷ call 2 1 143 17 6 (0x01 ∷ 0x01 ∷ 0x02 ∷ 0 ∷ 0 ∷ 0 ∷ 1 ∷ []) 11
-    (replicate 143 0)
+    ∷ call 1 1 96 2 6 (0x01 ∷ []) 11 (replicate 96 0) (7 ∷ 7 ∷ []) (11 ∷ 0 ∷ 0 ∷ 0 ∷ 0 ∷ 0 ∷ [])
+    ∷ call 1 1 96 3 6 (0x01 ∷ 0x09 ∷ 0 ∷ 0 ∷ []) 11 (replicate 96 0) (0x81 ∷ 0 ∷ 0 ∷ []) (11 ∷ 1 ∷ 1 ∷ 3 ∷ 1 ∷ 0 ∷ [])
+    ∷ call 1 1 96 2 6 (0x0F ∷ []) 11 (replicate 96 0) (7 ∷ 7 ∷ []) (11 ∷ 0 ∷ 0 ∷ 0 ∷ 0 ∷ 0 ∷ [])
+    ∷ call 1 1 96 7 6 (0x01 ∷ 0x03 ∷ 0 ∷ 0 ∷ []) 11 (replicate 96 0) (0x81 ∷ 0 ∷ 0 ∷ 7 ∷ 7 ∷ 7 ∷ 7 ∷ []) (11 ∷ 1 ∷ 1 ∷ 3 ∷ 1 ∷ 0 ∷ [])
+    ∷ call 1 1 96 7 6 (0x01 ∷ 0x04 ∷ 0 ∷ 0 ∷ []) 11 (replicate 96 0) (0x81 ∷ 0 ∷ 0 ∷ 7 ∷ 7 ∷ 7 ∷ 7 ∷ []) (11 ∷ 1 ∷ 1 ∷ 3 ∷ 1 ∷ 0 ∷ [])
+    ∷ call 2 1 120 17 6 (0x01 ∷ 0x01 ∷ 0x02 ∷ 0 ∷ 0 ∷ 0 ∷ 1 ∷ []) 11
+    (replicate 120 0)
     (0x81 ∷ 0 ∷ 0 ∷ 0x81 ∷ 0 ∷ 1 ∷ replicate 11 7)
     (11 ∷ 2 ∷ 2 ∷ 6 ∷ 2 ∷ 0 ∷ [])
-    ∷ call 2 1 143 17 6 (0x01 ∷ 0x01 ∷ 0x0B ∷ 0 ∷ 0 ∷ 0 ∷ 1 ∷ 0 ∷ 5 ∷ []) 11
-    (replicate 143 0)
+    ∷ call 2 1 120 17 6 (0x01 ∷ 0x01 ∷ 0x0B ∷ 0 ∷ 0 ∷ 0 ∷ 1 ∷ 0 ∷ 5 ∷ []) 11
+    (replicate 120 0)
     (0x81 ∷ 0 ∷ 0 ∷ 0x81 ∷ 0 ∷ 1 ∷ replicate 11 7)
     (11 ∷ 2 ∷ 2 ∷ 6 ∷ 2 ∷ 0 ∷ [])
-    ∷ call 2 2 158 38 6 (0x01 ∷ 0x01 ∷ 0x02 ∷ 0 ∷ 0 ∷ 0 ∷ 1 ∷ 0x0B ∷ 0 ∷ 0 ∷ 0 ∷ 1 ∷ 0 ∷ 1 ∷ 0x0C ∷ 0 ∷ 0 ∷ 0 ∷ 1 ∷ []) 11
-    (replicate 158 0)
+    ∷ call 2 2 128 38 6 (0x01 ∷ 0x01 ∷ 0x02 ∷ 0 ∷ 0 ∷ 0 ∷ 1 ∷ 0x0B ∷ 0 ∷ 0 ∷ 0 ∷ 1 ∷ 0 ∷ 1 ∷ 0x0C ∷ 0 ∷ 0 ∷ 0 ∷ 1 ∷ []) 11
+    (replicate 128 0)
     (0x81 ∷ 0 ∷ 0
     ∷ 0x81 ∷ 0 ∷ 1
     ∷ 0x82 ∷ 0 ∷ 0 ∷ 0 ∷ 0 ∷ 0 ∷ 1 ∷ 0x01 ∷ 0 ∷ 1 ∷ 0 ∷ 0
     ∷ 0x82 ∷ 0 ∷ 1 ∷ 0 ∷ 0 ∷ 0 ∷ 1 ∷ 0x02 ∷ 0 ∷ 1 ∷ 0 ∷ 0
     ∷ replicate 8 7)
     (11 ∷ 14 ∷ 4 ∷ 30 ∷ 2 ∷ 2 ∷ [])
-    ∷ call 2 1 143 18 6 (0x01 ∷ 0x01 ∷ 0x02 ∷ 0 ∷ 0 ∷ 0 ∷ 1 ∷ 0x0D ∷ 0 ∷ 0 ∷ 0 ∷ 0 ∷ 0 ∷ 0 ∷ []) 11
-    (replicate 143 0)
+    ∷ call 2 1 120 18 6 (0x01 ∷ 0x01 ∷ 0x02 ∷ 0 ∷ 0 ∷ 0 ∷ 1 ∷ 0x0D ∷ 0 ∷ 0 ∷ 0 ∷ 0 ∷ 0 ∷ 0 ∷ []) 11
+    (replicate 120 0)
     (0x81 ∷ 0 ∷ 0 ∷ 0x81 ∷ 0 ∷ 1 ∷ 0x82 ∷ 0 ∷ 0 ∷ 0 ∷ 0 ∷ 0 ∷ 1 ∷ 0x01 ∷ 0 ∷ 1 ∷ 0 ∷ 0 ∷ [])
     (11 ∷ 7 ∷ 3 ∷ 18 ∷ 2 ∷ 1 ∷ [])
-    ∷ call 2 1 143 21 6 (0x01 ∷ 0x01 ∷ 0x02 ∷ 0 ∷ 0 ∷ 0 ∷ 1 ∷ 0x0E ∷ 0 ∷ 0 ∷ []) 11
-    (replicate 143 0)
+    ∷ call 2 1 120 21 6 (0x01 ∷ 0x01 ∷ 0x02 ∷ 0 ∷ 0 ∷ 0 ∷ 1 ∷ 0x0E ∷ 0 ∷ 0 ∷ []) 11
+    (replicate 120 0)
     (0x81 ∷ 0 ∷ 0 ∷ 0x81 ∷ 0 ∷ 1 ∷ 0x82 ∷ 0 ∷ 0 ∷ 0 ∷ 0 ∷ 0 ∷ 1 ∷ 0x01 ∷ 0 ∷ 1 ∷ 0 ∷ 0 ∷ 7 ∷ 7 ∷ 7 ∷ [])
     (11 ∷ 7 ∷ 3 ∷ 18 ∷ 2 ∷ 1 ∷ [])
     ∷ []
@@ -170,26 +166,21 @@ cabinet_answers (suc k) = cabinet_answers k ++ 0x81 ∷ 0 ∷ k ∷ []
 unfoldable pub accepted_calls : List Call
 accepted_calls =
     -- no command, with room for no answer
-    call 1 1 112 0 6 [] 0 (replicate 111 0 ++ 7 ∷ []) [] (0 ∷ 0 ∷ 0 ∷ 0 ∷ 0 ∷ 0 ∷ [])
+    call 1 1 97 0 6 [] 0 (replicate 96 0 ++ 7 ∷ []) [] (0 ∷ 0 ∷ 0 ∷ 0 ∷ 0 ∷ 0 ∷ [])
     -- 81 that fits to the byte
-    ∷ call 1 1 111 3 6 (0x01 ∷ []) 0 (replicate 111 0) (0x81 ∷ 0 ∷ 0 ∷ []) (0 ∷ 1 ∷ 1 ∷ 3 ∷ 1 ∷ 0 ∷ [])
+    ∷ call 1 1 96 3 6 (0x01 ∷ []) 0 (replicate 96 0) (0x81 ∷ 0 ∷ 0 ∷ []) (0 ∷ 1 ∷ 1 ∷ 3 ∷ 1 ∷ 0 ∷ [])
     -- 89, 8A with 0 and with 1, and 8F, that fit to the byte, with C cabinets present
-    ∷ call 1 1 111 11 6 (0x01 ∷ 0x0A ∷ 0 ∷ 0 ∷ 0x09 ∷ 0 ∷ 0 ∷ 0x0A ∷ 0 ∷ 0 ∷ 0x0F ∷ []) 0
-    (replicate 111 0)
+    ∷ call 1 1 96 11 6 (0x01 ∷ 0x0A ∷ 0 ∷ 0 ∷ 0x09 ∷ 0 ∷ 0 ∷ 0x0A ∷ 0 ∷ 0 ∷ 0x0F ∷ []) 0
+    (replicate 96 0)
     (0x81 ∷ 0 ∷ 0 ∷ 0x8A ∷ 0 ∷ 0x89 ∷ 0x8A ∷ 1 ∷ 0x8F ∷ 0x03 ∷ 0xE8 ∷ [])
     (0 ∷ 11 ∷ 5 ∷ 11 ∷ 1 ∷ 0 ∷ [])
-    -- 90 with 1, for equal cabinets, and with 0, for two districts, that fit to the byte
-    ∷ call 2 1 143 10 6 (0x01 ∷ 0x01 ∷ 0x10 ∷ 0 ∷ 0 ∷ 0 ∷ 0 ∷ 0x10 ∷ 0 ∷ 0 ∷ 0 ∷ 1 ∷ []) 0
-    (replicate 143 0)
-    (0x81 ∷ 0 ∷ 0 ∷ 0x81 ∷ 0 ∷ 1 ∷ 0x90 ∷ 1 ∷ 0x90 ∷ 0 ∷ [])
-    (0 ∷ 12 ∷ 4 ∷ 10 ∷ 2 ∷ 0 ∷ [])
     -- 85 without a mesh
-    ∷ call 2 1 143 10 6 (0x01 ∷ 0x01 ∷ 0x05 ∷ 0 ∷ 0 ∷ 0 ∷ 1 ∷ []) 0
-    (replicate 143 0)
+    ∷ call 2 1 120 10 6 (0x01 ∷ 0x01 ∷ 0x05 ∷ 0 ∷ 0 ∷ 0 ∷ 1 ∷ []) 0
+    (replicate 120 0)
     (0x81 ∷ 0 ∷ 0 ∷ 0x81 ∷ 0 ∷ 1 ∷ 0x85 ∷ 0 ∷ 0 ∷ 0 ∷ [])
     (0 ∷ 7 ∷ 3 ∷ 10 ∷ 2 ∷ 0 ∷ [])
     -- one span: 82 with a district notice, 83 and 84 with their sizes, 85 with a mesh, 86 with the span, 87 with none, 88 with 1
-    ∷ call 2 1 143 42 6
+    ∷ call 2 1 120 42 6
     (0x01
     ∷ 0x01
     ∷ 0x02 ∷ 0 ∷ 0 ∷ 0 ∷ 1
@@ -201,7 +192,7 @@ accepted_calls =
     ∷ 0x08 ∷ 0 ∷ 0
     ∷ [])
     0
-    (replicate 143 0)
+    (replicate 120 0)
     (0x81 ∷ 0 ∷ 0
     ∷ 0x81 ∷ 0 ∷ 1
     ∷ 0x82 ∷ 0 ∷ 0 ∷ 0 ∷ 0 ∷ 0 ∷ 1 ∷ 0x01 ∷ 0 ∷ 1 ∷ 0 ∷ 0
@@ -214,7 +205,7 @@ accepted_calls =
     ∷ [])
     (0 ∷ 31 ∷ 9 ∷ 42 ∷ 2 ∷ 1 ∷ [])
     -- a triangle with a span from it: 82 with ring and mesh notices, 86 and 87 from either side, 88 with 0
-    ∷ call 4 4 252 91 6
+    ∷ call 4 4 192 91 6
     (0x01
     ∷ 0x01
     ∷ 0x01
@@ -229,7 +220,7 @@ accepted_calls =
     ∷ 0x08 ∷ 0 ∷ 1
     ∷ [])
     0
-    (replicate 252 0)
+    (replicate 192 0)
     (0x81 ∷ 0 ∷ 0
     ∷ 0x81 ∷ 0 ∷ 1
     ∷ 0x81 ∷ 0 ∷ 2
@@ -248,8 +239,8 @@ accepted_calls =
     ∷ [])
     (0 ∷ 42 ∷ 12 ∷ 91 ∷ 4 ∷ 4 ∷ [])
     -- 8C that fits to the byte, with C cabinets and S spans present
-    ∷ call 2 2 158 39 6 (0x01 ∷ 0x01 ∷ 0x02 ∷ 0 ∷ 0 ∷ 0 ∷ 1 ∷ 0x0B ∷ 0 ∷ 0 ∷ 0 ∷ 1 ∷ 0 ∷ 1 ∷ 0x0C ∷ 0 ∷ 0 ∷ 0 ∷ 1 ∷ []) 0
-    (replicate 158 0)
+    ∷ call 2 2 128 39 6 (0x01 ∷ 0x01 ∷ 0x02 ∷ 0 ∷ 0 ∷ 0 ∷ 1 ∷ 0x0B ∷ 0 ∷ 0 ∷ 0 ∷ 1 ∷ 0 ∷ 1 ∷ 0x0C ∷ 0 ∷ 0 ∷ 0 ∷ 1 ∷ []) 0
+    (replicate 128 0)
     (0x81 ∷ 0 ∷ 0
     ∷ 0x81 ∷ 0 ∷ 1
     ∷ 0x82 ∷ 0 ∷ 0 ∷ 0 ∷ 0 ∷ 0 ∷ 1 ∷ 0x01 ∷ 0 ∷ 1 ∷ 0 ∷ 0
@@ -258,8 +249,8 @@ accepted_calls =
     ∷ [])
     (0 ∷ 19 ∷ 5 ∷ 39 ∷ 2 ∷ 2 ∷ [])
     -- 8E without a record, 8D, and 8E with one, that fit to the byte, with C cabinets and S spans present
-    ∷ call 2 1 143 27 6 (0x01 ∷ 0x01 ∷ 0x02 ∷ 0 ∷ 0 ∷ 0 ∷ 1 ∷ 0x0E ∷ 0 ∷ 0 ∷ 0x0D ∷ 0 ∷ 0 ∷ 0x12 ∷ 0x34 ∷ 0x56 ∷ 0x78 ∷ 0x0E ∷ 0 ∷ 0 ∷ []) 0
-    (replicate 143 0)
+    ∷ call 2 1 120 27 6 (0x01 ∷ 0x01 ∷ 0x02 ∷ 0 ∷ 0 ∷ 0 ∷ 1 ∷ 0x0E ∷ 0 ∷ 0 ∷ 0x0D ∷ 0 ∷ 0 ∷ 0x12 ∷ 0x34 ∷ 0x56 ∷ 0x78 ∷ 0x0E ∷ 0 ∷ 0 ∷ []) 0
+    (replicate 120 0)
     (0x81 ∷ 0 ∷ 0
     ∷ 0x81 ∷ 0 ∷ 1
     ∷ 0x82 ∷ 0 ∷ 0 ∷ 0 ∷ 0 ∷ 0 ∷ 1 ∷ 0x01 ∷ 0 ∷ 1 ∷ 0 ∷ 0
@@ -269,8 +260,8 @@ accepted_calls =
     ∷ [])
     (0 ∷ 20 ∷ 6 ∷ 27 ∷ 2 ∷ 1 ∷ [])
     -- a number from 256 on, answered and asked for
-    ∷ call 257 1 8303 776 6 (replicate 257 0x01 ++ 0x03 ∷ 1 ∷ 0 ∷ []) 0
-    (replicate 8303 0)
+    ∷ call 257 1 6240 776 6 (replicate 257 0x01 ++ 0x03 ∷ 1 ∷ 0 ∷ []) 0
+    (replicate 6240 0)
     (cabinet_answers 256 ++ 0x81 ∷ 1 ∷ 0 ∷ 0x83 ∷ 1 ∷ 0 ∷ 0 ∷ 1 ∷ [])
     (0 ∷ 260 ∷ 258 ∷ 776 ∷ 257 ∷ 0 ∷ [])
     ∷ []
@@ -322,7 +313,6 @@ forecasts =
     ∷ foretold (0x0D ∷ 0 ∷ 0 ∷ 0 ∷ 1 ∷ 0 ∷ 2 ∷ []) 0 7 1
     ∷ foretold (0x0E ∷ 0 ∷ 0 ∷ []) 0 3 4
     ∷ foretold (0x0F ∷ []) 0 1 3
-    ∷ foretold (0x10 ∷ 0 ∷ 0 ∷ 0 ∷ 1 ∷ []) 0 5 2
     -- two cabinets and a span, and 09, 0A and 0F: 33 and 6
     ∷ foretold (0x01 ∷ 0x01 ∷ 0x02 ∷ 0 ∷ 0 ∷ 0 ∷ 1 ∷ 0x09 ∷ 0 ∷ 0 ∷ 0x0A ∷ 0 ∷ 0 ∷ 0x0F ∷ []) 0 14 39
     -- 06 and 07 before three cabinets and one span: 3 and 2 for the span, 3 and 6 for the cabinets
@@ -340,7 +330,7 @@ forecasts =
     ∷ foretold (replicate 65537 0x00) 3 0 0
     -- 4: an unknown byte, alone, behind a command, and behind one that a run refuses with 7
     ∷ foretold (0x00 ∷ []) 4 0 0
-    ∷ foretold (0x01 ∷ 0x11 ∷ 0x01 ∷ []) 4 1 0
+    ∷ foretold (0x01 ∷ 0x10 ∷ 0x01 ∷ []) 4 1 0
     ∷ foretold (0x08 ∷ 0 ∷ 5 ∷ 0xFF ∷ []) 4 3 0
     -- 5: operands cut off, alone, and behind a command that a run refuses with 8
     ∷ foretold (0x02 ∷ 0 ∷ 0 ∷ []) 5 0 0
@@ -348,7 +338,6 @@ forecasts =
     ∷ foretold (0x0C ∷ 0 ∷ 0 ∷ 0 ∷ []) 5 0 0
     ∷ foretold (0x0D ∷ 0 ∷ 0 ∷ 0 ∷ 0 ∷ 0 ∷ []) 5 0 0
     ∷ foretold (0x0E ∷ 0 ∷ []) 5 0 0
-    ∷ foretold (0x10 ∷ 0 ∷ 0 ∷ 0 ∷ []) 5 0 0
     ∷ foretold (0x01 ∷ 0x02 ∷ 0 ∷ 0 ∷ 0 ∷ 0 ∷ 0x07 ∷ 0 ∷ 0 ∷ 0 ∷ []) 5 6 0
     ∷ []
 
@@ -435,7 +424,7 @@ rewritings =
     ∷ rewrite_call (replicate 65537 0x00) 0 3 0 []
     -- 4: an unknown byte, alone, and behind a command that a run refuses with 7, with room for no byte
     ∷ rewrite_call (0x00 ∷ []) 9 4 0 []
-    ∷ rewrite_call (0x08 ∷ 0 ∷ 5 ∷ 0x11 ∷ []) 0 4 3 []
+    ∷ rewrite_call (0x08 ∷ 0 ∷ 5 ∷ 0x10 ∷ []) 0 4 3 []
     -- 5: operands cut off, alone, and behind a command that a run refuses with 8, with room for no byte
     ∷ rewrite_call (0x02 ∷ 0 ∷ 0 ∷ []) 9 5 0 []
     ∷ rewrite_call (0x01 ∷ 0x02 ∷ 0 ∷ 0 ∷ 0 ∷ 0 ∷ 0x02 ∷ 0 ∷ 0 ∷ 0 ∷ []) 0 5 6 []

@@ -18,14 +18,13 @@ pub data Command : Type 0 where
   record_length : ℕ → ℕ → ℕ → Command
   span_length : ℕ → Command
   exchange_share : Command
-  two_losses : ℕ → ℕ → Command
 
 -- What a command byte makes of what follows it: so many operands, and the command that they give, by their place from 0 on.
 pub data Form : Type 0 where
   unknown : Form
   takes : ℕ → ((ℕ → ℕ) → Command) → Form
 
--- The commands by their byte, from 00 on: 01 to 10.
+-- The commands by their byte, from 00 on: 01 to 0F.
 unfoldable pub forms : List Form
 forms =
     unknown
@@ -44,7 +43,6 @@ forms =
     ∷ takes 3 (λ x. record_length (x 0) (x 1) (x 2))
     ∷ takes 1 (λ x. span_length (x 0))
     ∷ takes 0 (λ x. exchange_share)
-    ∷ takes 2 (λ x. two_losses (x 0) (x 1))
     ∷ []
 
 -- Every byte beyond these is unknown.
@@ -87,4 +85,3 @@ command_byte (routes_between a b) = 0x0C
 command_byte (record_length s day metres) = 0x0D
 command_byte (span_length s) = 0x0E
 command_byte exchange_share = 0x0F
-command_byte (two_losses a b) = 0x10

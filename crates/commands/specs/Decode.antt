@@ -4,7 +4,7 @@ use Rattle.std.proofs.Math.Option.{Option, none, some}
 use Rattle.naming.specs.Lookup.{Group}
 use Rattle.commands.specs.Bytes.{number}
 use Rattle.commands.specs.Field.{Kind, district, ring, mesh}
-use Rattle.commands.specs.Answer.{Notice, Answer, cabinet_added, span_added, plain, district_is, ring_is, mesh_shared, no_mesh_shared, sole_spans_are, cut_cabinets_are, sole_is, exchange_marked, exchange_held, routes_are, length_recorded, length_is, no_length, share_is, two_outlived}
+use Rattle.commands.specs.Answer.{Notice, Answer, cabinet_added, span_added, plain, district_is, ring_is, mesh_shared, no_mesh_shared, sole_spans_are, cut_cabinets_are, sole_is, exchange_marked, exchange_held, routes_are, length_recorded, length_is, no_length, share_is}
 
 -- An answer and the bytes that follow it.
 pub data Decoded : Type 0 where
@@ -54,7 +54,7 @@ nought_then k = field_then (λ n. get_or (k ∷ []) n (λ bytes. malformed))
 unfoldable pub group_then : Then Group → List ℕ → Decoded
 group_then k = field_then (λ name. field_then (λ size. k (record { name = name; size = size })))
 
--- What follows the byte of an answer, by that byte from 80 on: 81 to 8A, and 8C to 90.
+-- What follows the byte of an answer, by that byte from 80 on: 81 to 8A, and 8C to 8F.
 unfoldable pub bodies : List (List ℕ → Decoded)
 bodies =
     (λ bytes. malformed)
@@ -73,7 +73,6 @@ bodies =
     ∷ decoded (plain length_recorded)
     ∷ flag_then (field_then (λ metres. decoded (plain (length_is metres)))) (nought_then (decoded (plain no_length)))
     ∷ field_then (λ n. decoded (plain (share_is n)))
-    ∷ flag_then (decoded (plain (two_outlived true))) (decoded (plain (two_outlived false)))
     ∷ []
 
 -- Every other byte is malformed.

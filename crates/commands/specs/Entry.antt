@@ -13,7 +13,7 @@ use Rattle.commands.specs.Run.{Run, run_within, commands_of, bytes_of_answers, p
 
 -- W, the numbers of the working table that a run uses.
 unfoldable pub work_needed : Capacities → ℕ
-work_needed caps = 32 * caps.cabinets + 15 * caps.spans + 64
+work_needed caps = 24 * caps.cabinets + 8 * caps.spans + 64
 
 -- C is 1 to 4,096, and S is 1 to 8,192.
 unfoldable pub good_capacities : Capacities → Bool

@@ -2,7 +2,7 @@
 use Rattle.std.specs.Prelude.{List, [], ◌∷◌, ℕ, ◌+◌, ◌*◌}
 use Rattle.std.proofs.Math.Option.{Option, none, some}
 use Rattle.graph.specs.Network.{Edge, edge_between, edge_in_duct, edge_count}
-use Rattle.graph.specs.Groups.{bridge, outlive_two}
+use Rattle.graph.specs.Groups.{bridge}
 use Rattle.graph.specs.Block.{shared_block}
 use Rattle.graph.specs.Between.{bridges_between, cuts_between}
 use Rattle.graph.specs.Route.{Routes, Choice}
@@ -12,8 +12,8 @@ use Rattle.naming.specs.Lookup.{component_of, bridge_block_of}
 use Rattle.naming.specs.Survey.{Survey, holding}
 use Rattle.naming.specs.State.{State, after_addition, Recording, records_nothing, records_mark, records_survey, after_recording}
 use Rattle.commands.specs.Field.{Field, cabinet, span, number, byte, fields_bytes}
-use Rattle.commands.specs.Command.{Command, add_cabinet, add_span, district_name, ring_name, shared_mesh, sole_spans, cut_cabinets, is_sole, mark_exchange, holds_exchange, add_duct_span, routes_between, record_length, span_length, exchange_share, two_losses, command_byte}
-use Rattle.commands.specs.Answer.{Plain, district_is, ring_is, mesh_shared, no_mesh_shared, sole_spans_are, cut_cabinets_are, sole_is, exchange_marked, exchange_held, routes_are, length_recorded, length_is, no_length, share_is, two_outlived, Answer, cabinet_added, span_added, plain, notices}
+use Rattle.commands.specs.Command.{Command, add_cabinet, add_span, district_name, ring_name, shared_mesh, sole_spans, cut_cabinets, is_sole, mark_exchange, holds_exchange, add_duct_span, routes_between, record_length, span_length, exchange_share, command_byte}
+use Rattle.commands.specs.Answer.{Plain, district_is, ring_is, mesh_shared, no_mesh_shared, sole_spans_are, cut_cabinets_are, sole_is, exchange_marked, exchange_held, routes_are, length_recorded, length_is, no_length, share_is, Answer, cabinet_added, span_added, plain, notices}
 use Rattle.commands.specs.Exchange.{ring_holds_exchange, share_with_exchange}
 
 -- What must hold of what a command names: two cabinets differ, a cabinet is no exchange, a duct is not 0, two cabinets share a district,
@@ -117,8 +117,6 @@ facts (record_length x day metres) =
     })
 facts (span_length x) = asks (span x ∷ []) [] (λ s. length_answer (holding s.surveys x)) (λ cabinets spans. 4)
 facts exchange_share = asks [] [] (λ s. share_is (share_with_exchange s)) (λ cabinets spans. 3)
-facts (two_losses a b) =
-    asks (cabinet a ∷ cabinet b ∷ []) [] (λ s. two_outlived (outlive_two s.book.network a b)) (λ cabinets spans. 2)
 
 -- The operands, in their order.
 unfoldable pub operands_of : Facts → List Field

@@ -1,9 +1,9 @@
 -- Joins in plain numbers (request 9): journals and seams with what is returned; joined networks with what the second was answered alone and what
 -- the result is answered; and answers with what they are where they are raised. (The longest are in journal/specs/Longest.)
-use Rattle.std.specs.Prelude.{true, false, List, [], ◌∷◌, ◌++◌, ℕ, replicate}
+use Rattle.std.specs.Prelude.{true, List, [], ◌∷◌, ◌++◌, ℕ, replicate}
 use Rattle.commands.specs.Field.{district, ring, mesh, fields_bytes}
-use Rattle.commands.specs.Command.{add_cabinet, add_span, district_name, ring_name, shared_mesh, sole_spans, cut_cabinets, is_sole, mark_exchange, holds_exchange, add_duct_span, routes_between, record_length, span_length, exchange_share, two_losses}
-use Rattle.commands.specs.Answer.{Answer, cabinet_added, span_added, plain, district_is, ring_is, mesh_shared, no_mesh_shared, sole_spans_are, cut_cabinets_are, sole_is, exchange_marked, exchange_held, routes_are, length_recorded, length_is, no_length, share_is, two_outlived, answer_fields}
+use Rattle.commands.specs.Command.{add_cabinet, add_span, district_name, ring_name, shared_mesh, sole_spans, cut_cabinets, is_sole, mark_exchange, holds_exchange, add_duct_span, routes_between, record_length, span_length, exchange_share}
+use Rattle.commands.specs.Answer.{Answer, cabinet_added, span_added, plain, district_is, ring_is, mesh_shared, no_mesh_shared, sole_spans_are, cut_cabinets_are, sole_is, exchange_marked, exchange_held, routes_are, length_recorded, length_is, no_length, share_is, answer_fields}
 use Rattle.commands.specs.Text.{journal_bytes}
 use Rattle.commands.specs.Entry.{ran}
 use Rattle.commands.specs.Register.{register_routes}
@@ -45,11 +45,11 @@ pair = 0x01 ∷ 0x01 ∷ 0x02 ∷ 0 ∷ 0 ∷ 0 ∷ 1 ∷ []
 unfoldable pub joins : List JoinCall
 joins =
     -- nothing and nothing; a seam between them names cabinets that there are not
-    join_call [] [] [] 254016 0 0 []
-    ∷ join_call [] [] (seam 0 0 1 ∷ []) 254016 9 18 []
+    join_call [] [] [] 163904 0 0 []
+    ∷ join_call [] [] (seam 0 0 1 ∷ []) 163904 9 18 []
     -- nothing before a journal, and nothing behind one
-    ∷ join_call [] pair [] 254016 7 0 pair
-    ∷ join_call pair [] [] 254016 7 0 pair
+    ∷ join_call [] pair [] 163904 7 0 pair
+    ∷ join_call pair [] [] 163904 7 0 pair
     -- every command behind two cabinets and a span
     ∷ join_call
     pair
@@ -71,10 +71,9 @@ joins =
     ∷ record_length 1 3 4
     ∷ span_length 0
     ∷ exchange_share
-    ∷ two_losses 0 1
     ∷ []))
     (seam 1 2 9 ∷ seam 0 0 1 ∷ [])
-    254016
+    163904
     100
     0
     (pair
@@ -96,33 +95,30 @@ joins =
     ∷ record_length 2 3 4
     ∷ span_length 1
     ∷ exchange_share
-    ∷ two_losses 2 3
     ∷ add_duct_span 1 4 9
     ∷ add_duct_span 0 2 1
     ∷ []))
     -- equal seams are two spans
-    ∷ join_call (0x01 ∷ []) (0x01 ∷ []) (seam 0 0 1 ∷ seam 0 0 1 ∷ []) 254016 16 0
+    ∷ join_call (0x01 ∷ []) (0x01 ∷ []) (seam 0 0 1 ∷ seam 0 0 1 ∷ []) 163904 16 0
     (0x01 ∷ 0x01 ∷ 0x0B ∷ 0 ∷ 0 ∷ 0 ∷ 1 ∷ 0 ∷ 1 ∷ 0x0B ∷ 0 ∷ 0 ∷ 0 ∷ 1 ∷ 0 ∷ 1 ∷ [])
-    -- 2: a working table too short, of 24 × 4,096 + 8 × 8,192 + 64 numbers; by one, alone, and where the journals, the seam and the buffer are
-    -- refused too
-    ∷ join_call pair pair [] 163904 100 2 []
-    ∷ join_call pair pair [] 254015 100 2 []
-    ∷ join_call (0x00 ∷ []) (replicate 65537 0x0F) (seam 9 9 0 ∷ []) 254015 0 2 []
+    -- 2: a working table too short by one, alone, and where the journals, the seam and the buffer are refused too
+    ∷ join_call pair pair [] 163903 100 2 []
+    ∷ join_call (0x00 ∷ []) (replicate 65537 0x0F) (seam 9 9 0 ∷ []) 163903 0 2 []
     -- 17: an unknown byte, cut-off operands, a command that a run refuses, a journal too long; in the first, in the second, and before 18 and 19
-    ∷ join_call (0x11 ∷ []) [] [] 254016 9 17 []
-    ∷ join_call [] (0x01 ∷ 0x03 ∷ 0 ∷ []) [] 254016 9 17 []
-    ∷ join_call (0x01 ∷ 0x02 ∷ 0 ∷ 0 ∷ 0 ∷ 0 ∷ []) pair (seam 7 7 0 ∷ []) 254016 0 17 []
-    ∷ join_call pair (0x08 ∷ 0 ∷ 0 ∷ []) [] 254016 9 17 []
-    ∷ join_call (replicate 65537 0x0F) [] [] 254016 9 17 []
-    ∷ join_call [] (replicate 65537 0x0F) [] 254016 9 17 []
+    ∷ join_call (0x10 ∷ []) [] [] 163904 9 17 []
+    ∷ join_call [] (0x01 ∷ 0x03 ∷ 0 ∷ []) [] 163904 9 17 []
+    ∷ join_call (0x01 ∷ 0x02 ∷ 0 ∷ 0 ∷ 0 ∷ 0 ∷ []) pair (seam 7 7 0 ∷ []) 163904 0 17 []
+    ∷ join_call pair (0x08 ∷ 0 ∷ 0 ∷ []) [] 163904 9 17 []
+    ∷ join_call (replicate 65537 0x0F) [] [] 163904 9 17 []
+    ∷ join_call [] (replicate 65537 0x0F) [] 163904 9 17 []
     -- 18: a cabinet that the first lacks, one that the second lacks, duct 0; only in the last seam, and before 19
-    ∷ join_call (0x01 ∷ []) pair (seam 1 1 3 ∷ []) 254016 100 18 []
-    ∷ join_call pair (0x01 ∷ []) (seam 1 1 3 ∷ []) 254016 100 18 []
-    ∷ join_call pair pair (seam 1 1 0 ∷ []) 254016 100 18 []
-    ∷ join_call pair pair (seam 1 1 1 ∷ seam 0 0 2 ∷ seam 0 2 2 ∷ []) 254016 0 18 []
+    ∷ join_call (0x01 ∷ []) pair (seam 1 1 3 ∷ []) 163904 100 18 []
+    ∷ join_call pair (0x01 ∷ []) (seam 1 1 3 ∷ []) 163904 100 18 []
+    ∷ join_call pair pair (seam 1 1 0 ∷ []) 163904 100 18 []
+    ∷ join_call pair pair (seam 1 1 1 ∷ seam 0 0 2 ∷ seam 0 2 2 ∷ []) 163904 0 18 []
     -- 19: the result is longer, by one byte, than the output buffer, and one byte more of it suffices
-    ∷ join_call pair (0x01 ∷ []) (seam 1 0 3 ∷ []) 254016 14 19 []
-    ∷ join_call pair (0x01 ∷ []) (seam 1 0 3 ∷ []) 254017 15 0 (pair ++ 0x01 ∷ 0x0B ∷ 0 ∷ 1 ∷ 0 ∷ 2 ∷ 0 ∷ 3 ∷ [])
+    ∷ join_call pair (0x01 ∷ []) (seam 1 0 3 ∷ []) 163904 14 19 []
+    ∷ join_call pair (0x01 ∷ []) (seam 1 0 3 ∷ []) 163905 15 0 (pair ++ 0x01 ∷ 0x0B ∷ 0 ∷ 1 ∷ 0 ∷ 2 ∷ 0 ∷ 3 ∷ [])
     ∷ []
 
 -- A join, and the answers' bytes of runs with ample room, each with the number returned behind them: of the second alone, and of the result.
@@ -141,7 +137,7 @@ joined_of h =
       second = h.second;
       seams = h.seams;
       alone = answers_and_number (ran (run_alone register_routes h.second));
-      joined = answers_and_number (ran (run_alone register_routes (join 254016 65536 h.first h.second h.seams).result));
+      joined = answers_and_number (ran (run_alone register_routes (join 163904 65536 h.first h.second h.seams).result));
     }
 
 -- Behind two cabinets, a span and an exchange: numbers and names are raised; sizes, metres, flags and the 0000 of no shared mesh and of no
@@ -169,8 +165,6 @@ questions_behind =
           ∷ sole_spans 0 1
           ∷ cut_cabinets 0 1
           ∷ is_sole 0
-          ∷ two_losses 0 1
-          ∷ two_losses 2 2
           ∷ []);
       seams = seam 0 1 4 ∷ [];
       alone =
@@ -192,8 +186,6 @@ questions_behind =
           ∷ plain (sole_spans_are (0 ∷ []))
           ∷ plain (cut_cabinets_are [])
           ∷ plain (sole_is true)
-          ∷ plain (two_outlived false)
-          ∷ plain (two_outlived true)
           ∷ [])
           (0 ∷ []);
       joined =
@@ -219,8 +211,6 @@ questions_behind =
           ∷ plain (sole_spans_are (1 ∷ []))
           ∷ plain (cut_cabinets_are [])
           ∷ plain (sole_is true)
-          ∷ plain (two_outlived false)
-          ∷ plain (two_outlived true)
           ∷ span_added 2 2 (notice district 2 0 ∷ notice district 3 0 ∷ [])
           ∷ [])
           (0 ∷ []);
@@ -318,7 +308,6 @@ answers_staying =
     ∷ plain (length_is 7)
     ∷ plain no_length
     ∷ plain (share_is 9)
-    ∷ plain (two_outlived true)
     ∷ []
 
 -- The bytes of an answer that is raised by these counts.

@@ -25,7 +25,6 @@ pub mod DuctHistories
 pub mod RouteHistories
 pub mod SurveyHistories
 pub mod SizeHistories
-pub mod TwoLossHistories
 pub mod RewriteHistories
 pub mod JoinHistories
 pub mod ExactHistories

@@ -2,9 +2,9 @@
 -- has no mate and where spans of 02 lie in one duct.
 use Rattle.std.specs.Prelude.{true, false, List, [], ◌∷◌, ◌++◌, ℕ}
 use Rattle.graph.specs.Network.{Rule, same_duct, one_duct}
-use Rattle.commands.specs.Command.{add_cabinet, add_span, add_duct_span, ring_name, sole_spans, is_sole, routes_between, two_losses}
+use Rattle.commands.specs.Command.{add_cabinet, add_span, add_duct_span, ring_name, sole_spans, is_sole, routes_between}
 use Rattle.commands.specs.Field.{district, ring}
-use Rattle.commands.specs.Answer.{cabinet_added, span_added, plain, ring_is, sole_spans_are, sole_is, routes_are, two_outlived}
+use Rattle.commands.specs.Answer.{cabinet_added, span_added, plain, ring_is, sole_spans_are, sole_is, routes_are}
 use Rattle.commands.specs.Refusal.{refusal_number}
 use Rattle.commands.specs.Text.{journal_bytes}
 use Rattle.commands.specs.Run.{bytes_of_answers}
@@ -113,39 +113,5 @@ doubled_routes =
           (14 ∷ []);
     }
 
--- Three such spans: lost one by one they outlive two losses, and as mates they are lost at once.
-unfoldable pub in_one_class : List ℕ
-in_one_class =
-    output
-    (cabinet_added 0
-    ∷ cabinet_added 1
-    ∷ span_added 0 0 (notice district 1 0 ∷ [])
-    ∷ span_added 1 0 (notice ring 1 0 ∷ [])
-    ∷ span_added 2 0 []
-    ∷ plain (two_outlived true)
-    ∷ [])
-    (0 ∷ [])
-
-unfoldable pub tripled_span : OldReading
-tripled_span =
-    record {
-      journal = journal_bytes (add_cabinet ∷ add_cabinet ∷ add_span 0 1 ∷ add_span 0 1 ∷ add_span 1 0 ∷ two_losses 0 1 ∷ []);
-      rewritten =
-          journal_bytes
-          (add_cabinet ∷ add_cabinet ∷ add_duct_span 0 1 1 ∷ add_duct_span 0 1 2 ∷ add_duct_span 1 0 3 ∷ two_losses 0 1 ∷ []);
-      before = in_one_class;
-      after = in_one_class;
-      otherwise =
-          output
-          (cabinet_added 0
-          ∷ cabinet_added 1
-          ∷ span_added 0 0 (notice district 1 0 ∷ [])
-          ∷ span_added 1 0 []
-          ∷ span_added 2 0 []
-          ∷ plain (two_outlived false)
-          ∷ [])
-          (0 ∷ []);
-    }
-
 unfoldable pub old_readings : List OldReading
-old_readings = doubled_span ∷ doubled_routes ∷ tripled_span ∷ []
+old_readings = doubled_span ∷ doubled_routes ∷ []

@@ -6,7 +6,7 @@ use native.Mathlib.Nat.{add-zero}
 use native.Mathlib.Omega.{arith}
 use Rattle.graph.specs.Network.{Edge}
 use Rattle.commands.specs.Field.{Field}
-use Rattle.commands.specs.Command.{Command, add_cabinet, add_span, district_name, ring_name, shared_mesh, sole_spans, cut_cabinets, is_sole, mark_exchange, holds_exchange, add_duct_span, routes_between, record_length, span_length, exchange_share, two_losses, command_byte}
+use Rattle.commands.specs.Command.{Command, add_cabinet, add_span, district_name, ring_name, shared_mesh, sole_spans, cut_cabinets, is_sole, mark_exchange, holds_exchange, add_duct_span, routes_between, record_length, span_length, exchange_share, command_byte}
 use Rattle.commands.specs.Facts.{Demand, PlainCommand, adds_cabinet, adds_span, adds_nothing, asks, facts, addition_of}
 use Rattle.commands.specs.Forecast.{is_cabinet, is_span, longest_plain}
 use Rattle.reading.specs.Inside.Reads.{entry_of}
@@ -57,27 +57,25 @@ counted_by_byte (routes_between a b) = answer_counted 5 1 0 (omega arith) (omega
 counted_by_byte (record_length x day metres) = answer_counted 1 0 0 (omega arith) (omega arith) (omega arith) (λ c s. omega arith)
 counted_by_byte (span_length x) = answer_counted 4 0 0 (omega arith) (omega arith) (omega arith) (λ c s. omega arith)
 counted_by_byte exchange_share = answer_counted 3 0 0 (omega arith) (omega arith) (omega arith) (λ c s. omega arith)
-counted_by_byte (two_losses a b) = answer_counted 2 0 0 (omega arith) (omega arith) (omega arith) (λ c s. omega arith)
 
 -- and the tables have an entry for it
-pub byte_in_tables : (k : Command) → (1 ≤ command_byte k) × (command_byte k ≤ 16)
+pub byte_in_tables : (k : Command) → command_byte k ≤ 15
 unfolding command_byte
-byte_in_tables add_cabinet = (omega arith, omega arith)
-byte_in_tables (add_span a b) = (omega arith, omega arith)
-byte_in_tables (district_name a) = (omega arith, omega arith)
-byte_in_tables (ring_name a) = (omega arith, omega arith)
-byte_in_tables (shared_mesh a b) = (omega arith, omega arith)
-byte_in_tables (sole_spans a b) = (omega arith, omega arith)
-byte_in_tables (cut_cabinets a b) = (omega arith, omega arith)
-byte_in_tables (is_sole x) = (omega arith, omega arith)
-byte_in_tables (mark_exchange a) = (omega arith, omega arith)
-byte_in_tables (holds_exchange a) = (omega arith, omega arith)
-byte_in_tables (add_duct_span a b d) = (omega arith, omega arith)
-byte_in_tables (routes_between a b) = (omega arith, omega arith)
-byte_in_tables (record_length x day metres) = (omega arith, omega arith)
-byte_in_tables (span_length x) = (omega arith, omega arith)
-byte_in_tables exchange_share = (omega arith, omega arith)
-byte_in_tables (two_losses a b) = (omega arith, omega arith)
+byte_in_tables add_cabinet = omega arith
+byte_in_tables (add_span a b) = omega arith
+byte_in_tables (district_name a) = omega arith
+byte_in_tables (ring_name a) = omega arith
+byte_in_tables (shared_mesh a b) = omega arith
+byte_in_tables (sole_spans a b) = omega arith
+byte_in_tables (cut_cabinets a b) = omega arith
+byte_in_tables (is_sole x) = omega arith
+byte_in_tables (mark_exchange a) = omega arith
+byte_in_tables (holds_exchange a) = omega arith
+byte_in_tables (add_duct_span a b d) = omega arith
+byte_in_tables (routes_between a b) = omega arith
+byte_in_tables (record_length x day metres) = omega arith
+byte_in_tables (span_length x) = omega arith
+byte_in_tables exchange_share = omega arith
 
 -- an entry of a table is one of sixteen numbers
 pub entry_few : (table k : ℕ) → entry_of table k ≤ 15

@@ -131,8 +131,8 @@ module _ {journal : List ℕ} {t : Tally} {place : ℕ} (so_far : CountedTo jour
       own = its_own_byte journal place at_command byte width passed
 
       -- the tables have its byte
-      pub byte_here_lem : (1 ≤ byte) × (byte ≤ 16)
-      byte_here_lem = (omega (arith, own, (byte_in_tables this).0), omega (arith, own, (byte_in_tables this).1))
+      pub byte_here_lem : byte ≤ 15
+      byte_here_lem = omega (arith, own, byte_in_tables this)
 
       -- with it in the tally, the journal is counted up to the place behind it
       pub counted_behind : CountedTo journal (counted_by byte t) (place + 1 + width)

@@ -57,19 +57,19 @@ fn entry_more(t: Tally, spans: u8, bytes: u8, spanlists: u8, cabinetlists: u8) -
     }
 }
 
-// By the byte of a command, from 01 on, the entries of 01 and 02 being 0: the spans that it adds; of the answer to one that adds nothing, the
-// bytes that do not depend on how many cabinets and spans there are, and the lists of spans and of cabinets.
-const SPANS: u64 = 0x0000_0100_0000_0000;
+// By the byte of a command other than 01 and 02: the spans that it adds; of the answer to one that adds nothing, the bytes that do not
+// depend on how many cabinets and spans there are, and the lists of spans and of cabinets.
+const SPANS: u64 = 0x0000_1000_0000_0000;
 
-const BYTES: u64 = 0x2341_5021_2334_5500;
+const BYTES: u64 = 0x3415_0212_3345_5000;
 
-const SPANLISTS: u64 = 0x0000_1000_0010_0000;
+const SPANLISTS: u64 = 0x0001_0000_0100_0000;
 
-const CABINETLISTS: u64 = 0x0000_0000_0100_0000;
+const CABINETLISTS: u64 = 0x0000_0000_1000_0000;
 
 // The tally with one command more, by its byte.
 fn counted(t: Tally, byte: u8) -> Tally
-    requires { Few t × (1 ≤ byte) × (byte ≤ 16) }
+    requires { Few t × (byte ≤ 15) }
     ensures { result ≡ counted_by byte t }
 {
     let mut next = t;
@@ -82,16 +82,13 @@ fn counted(t: Tally, byte: u8) -> Tally
             next.spans = t.spans + 1;
             next
         }
-        _ => {
-            let k = byte - 1;
-            entry_more(
-                t,
-                entry_of(SPANS, k),
-                entry_of(BYTES, k),
-                entry_of(SPANLISTS, k),
-                entry_of(CABINETLISTS, k),
-            )
-        }
+        _ => entry_more(
+            t,
+            entry_of(SPANS, byte),
+            entry_of(BYTES, byte),
+            entry_of(SPANLISTS, byte),
+            entry_of(CABINETLISTS, byte),
+        ),
     }
 }
 

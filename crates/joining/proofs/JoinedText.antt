@@ -14,7 +14,7 @@ use Rattle.graph.proofs.Members.{all_in-append}
 use Rattle.naming.specs.State.{State}
 use Rattle.commands.specs.Bytes.{two_bytes, all_bytes}
 use Rattle.commands.specs.Field.{Field, cabinet, span, name, number, byte, field_bytes, fields_bytes}
-use Rattle.commands.specs.Command.{Command, add_cabinet, add_span, district_name, ring_name, shared_mesh, sole_spans, cut_cabinets, is_sole, mark_exchange, holds_exchange, add_duct_span, routes_between, record_length, span_length, exchange_share, two_losses, command_byte}
+use Rattle.commands.specs.Command.{Command, add_cabinet, add_span, district_name, ring_name, shared_mesh, sole_spans, cut_cabinets, is_sole, mark_exchange, holds_exchange, add_duct_span, routes_between, record_length, span_length, exchange_share, command_byte}
 use Rattle.commands.specs.Facts.{facts, asks, operands_of, command_bytes, after}
 use Rattle.commands.specs.Refusal.{Refusal, Capacities, cabinet_known, span_known, cabinets_known, spans_known}
 use Rattle.commands.specs.Text.{Read, text_of, commands_in, place_behind, journal_bytes}
@@ -55,7 +55,6 @@ command_is (routes_between a b) = (omega arith, refl)
 command_is (record_length x day metres) = (omega arith, refl)
 command_is (span_length x) = (omega arith, refl)
 command_is exchange_share = (omega arith, refl)
-command_is (two_losses a b) = (omega arith, refl)
 
 -- bytes behind bytes are bytes
 pub all_bytes_both : (xs ys : List ℕ) → all_bytes xs ≡ true → all_bytes ys ≡ true → all_bytes (xs ++ ys) ≡ true

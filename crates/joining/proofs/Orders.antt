@@ -7,7 +7,7 @@ use lib.Seq.{sets}
 use Rattle.graph.specs.Network.{edge_between, edge_in_duct}
 use Rattle.commands.specs.Bytes.{two_bytes}
 use Rattle.commands.specs.Field.{field_bytes, fields_bytes}
-use Rattle.commands.specs.Command.{Command, add_cabinet, district_name, ring_name, shared_mesh, sole_spans, cut_cabinets, is_sole, mark_exchange, holds_exchange, routes_between, record_length, span_length, exchange_share, two_losses, forms, form, command_byte}
+use Rattle.commands.specs.Command.{Command, add_cabinet, district_name, ring_name, shared_mesh, sole_spans, cut_cabinets, is_sole, mark_exchange, holds_exchange, routes_between, record_length, span_length, exchange_share, forms, form, command_byte}
 use Rattle.commands.specs.Facts.{facts, asks, operands_of, command_bytes}
 use Rattle.commands.specs.Surveys.{number_in}
 use Rattle.commands.proofs.Bytes.{FieldsFit}
@@ -40,7 +40,6 @@ order_bytes (O.RoutesBetween a b) = 0x0C ∷ two_bytes a.0 ++ two_bytes b.0
 order_bytes (O.RecordLength s measure) = 0x0D ∷ two_bytes s.0 ++ two_bytes measure.day ++ two_bytes measure.metres
 order_bytes (O.SpanLength s) = 0x0E ∷ two_bytes s.0
 order_bytes O.ExchangeShare = 0x0F ∷ []
-order_bytes (O.TwoLosses a b) = 0x10 ∷ two_bytes a.0 ++ two_bytes b.0
 
 -- such they are
 span_spelled : (a b : ℕ) (lay : Lay) → command_bytes (span_command a b lay) ≡ span_bytes a b lay
@@ -64,7 +63,6 @@ order_spelled (O.RoutesBetween a b) = refl
 order_spelled (O.RecordLength s measure) = refl
 order_spelled (O.SpanLength s) = refl
 order_spelled O.ExchangeShare = refl
-order_spelled (O.TwoLosses a b) = refl
 
 -- also of a lay or an order that is known to be this one
 pub span_spelled_as : {lay this : Lay} → lay ≡ this → (a b : ℕ) → command_bytes (span_command a b lay) ≡ span_bytes a b this
@@ -102,7 +100,6 @@ order_fits (O.RoutesBetween a b) fit = (fit.0, fit.1.0)
 order_fits (O.RecordLength s measure) fit = fit.0
 order_fits (O.SpanLength s) fit = fit.0
 order_fits O.ExchangeShare fit = tt
-order_fits (O.TwoLosses a b) fit = (fit.0, fit.1.0)
 
 -- the command of an order, raised
 abbrev pub raised_order : Counts → Order → Command
@@ -120,7 +117,6 @@ raised_order by (O.RoutesBetween a b) = routes_between (by.cabinets + a.0) (by.c
 raised_order by (O.RecordLength s measure) = record_length (by.spans + s.0) measure.day measure.metres
 raised_order by (O.SpanLength s) = span_length (by.spans + s.0)
 raised_order by O.ExchangeShare = exchange_share
-raised_order by (O.TwoLosses a b) = two_losses (by.cabinets + a.0) (by.cabinets + b.0)
 
 order_raised : (by : Counts) (order : Order) → raised_order by order ≡ raise_command by (meaning order)
 unfolding meaning span_command raise_command with_operands raise_fields raise_field number_in forms form command_byte facts asks operands_of edge_between edge_in_duct
@@ -139,7 +135,6 @@ order_raised by (O.RoutesBetween a b) = refl
 order_raised by (O.RecordLength s measure) = refl
 order_raised by (O.SpanLength s) = refl
 order_raised by O.ExchangeShare = refl
-order_raised by (O.TwoLosses a b) = refl
 
 -- so a command that is this one is the order's, raised
 pub raised_as : {order this : Order} → order ≡ this → (by : Counts) {c : Command} → c ≡ raised_order by this → c ≡ raise_command by (meaning order)

@@ -10,7 +10,7 @@ use Rattle.graph.specs.Network.{edge_between, edge_in_duct}
 use Rattle.graph.proofs.SideBySide.{raise_edge}
 use Rattle.commands.specs.Bytes.{two_bytes}
 use Rattle.commands.specs.Field.{Field, cabinet, span, name, number, byte, field_bytes, fields_bytes}
-use Rattle.commands.specs.Command.{Command, add_cabinet, add_span, district_name, ring_name, shared_mesh, sole_spans, cut_cabinets, is_sole, mark_exchange, holds_exchange, add_duct_span, routes_between, record_length, span_length, exchange_share, two_losses, forms, form, command_byte}
+use Rattle.commands.specs.Command.{Command, add_cabinet, add_span, district_name, ring_name, shared_mesh, sole_spans, cut_cabinets, is_sole, mark_exchange, holds_exchange, add_duct_span, routes_between, record_length, span_length, exchange_share, forms, form, command_byte}
 use Rattle.commands.specs.Facts.{Demand, differ, no_exchange, some_duct, share_district, share_ring, facts, asks, operands_of, demands_of, addition_of, addition, recording_of, recording, command_bytes}
 use Rattle.commands.specs.Surveys.{number_in}
 use Rattle.commands.specs.Join.{Counts, raise_field, raise_fields, with_operands, raise_command}
@@ -59,7 +59,6 @@ raised by (routes_between a b) = (refl, refl, refl, refl, refl)
 raised by (record_length x day metres) = (refl, refl, refl, refl, refl)
 raised by (span_length x) = (refl, refl, refl, refl, refl)
 raised by exchange_share = (refl, refl, refl, refl, refl)
-raised by (two_losses a b) = (refl, refl, refl, refl, refl)
 
 module _ (by : Counts) (c : Command) where
   -- the byte is the same

@@ -13,7 +13,7 @@ use lib.ListN.{length, length-map}
 use Rattle.graph.specs.Lists.{all_in}
 use Rattle.graph.specs.Below.{any_below, count}
 use Rattle.graph.specs.Network.{Network, Edge, MateRule, Proper, edge_between, edge_in_duct, edge_count, add_edge}
-use Rattle.graph.specs.Groups.{bridge_block, bridge, outlive_two}
+use Rattle.graph.specs.Groups.{bridge_block, bridge}
 use Rattle.graph.specs.Block.{shared_block}
 use Rattle.graph.specs.Between.{bridges_between, cuts_between}
 use Rattle.graph.specs.Route.{Routes, Choice, Serves}
@@ -23,7 +23,7 @@ use Rattle.graph.proofs.Joined.{edge_count_more}
 use Rattle.graph.proofs.BelowSum.{any_front, any_behind, count-sum}
 use Rattle.graph.proofs.BridgeBlock.{bridge_block_swap}
 use Rattle.graph.proofs.SharedBlock.{shared_block_some}
-use Rattle.graph.proofs.SideBySide.{raise_edge, beside, Beside, eqb_raised, count_beside, bridge_block-apart, bridge_block_of_first, bridge_block_of_second, outlive_two_of_second, beside_proper}
+use Rattle.graph.proofs.SideBySide.{raise_edge, beside, Beside, eqb_raised, count_beside, bridge_block-apart, bridge_block_of_first, bridge_block_of_second, beside_proper}
 use Rattle.graph.proofs.SideBySideLists.{bridges_of_second, cuts_of_second, bridge_of_second, shared_block_of_second, ServeBack, serve_back}
 use Rattle.graph.proofs.RoutesImage.{routes_image}
 use Rattle.naming.specs.Rename.{name_of, Change, changes_between}
@@ -34,8 +34,8 @@ use Rattle.naming.specs.State.{State, after_addition, after_recording}
 use Rattle.naming.proofs.SideBySideNames.{names_behind, name_of_second, group_of_second, raise_change, changes_beside}
 use Rattle.naming.proofs.SideBySideBooks.{beside_book, components_beside, bridge_blocks_beside, networks, feed_edge_beside}
 use Rattle.commands.specs.Field.{Kind, district, ring, mesh, Field, cabinet, span, name, number, byte}
-use Rattle.commands.specs.Command.{Command, add_cabinet, add_span, district_name, ring_name, shared_mesh, sole_spans, cut_cabinets, is_sole, mark_exchange, holds_exchange, add_duct_span, routes_between, record_length, span_length, exchange_share, two_losses, forms, form, command_byte}
-use Rattle.commands.specs.Answer.{kind_byte, Notice, notice_fields, notices_fields, item_field, change_notice, changes, notices, Plain, district_is, ring_is, sole_spans_are, cut_cabinets_are, sole_is, exchange_held, share_is, two_outlived, span_added, plain, plain_fields, answer_fields}
+use Rattle.commands.specs.Command.{Command, add_cabinet, add_span, district_name, ring_name, shared_mesh, sole_spans, cut_cabinets, is_sole, mark_exchange, holds_exchange, add_duct_span, routes_between, record_length, span_length, exchange_share, forms, form, command_byte}
+use Rattle.commands.specs.Answer.{kind_byte, Notice, notice_fields, notices_fields, item_field, change_notice, changes, notices, Plain, district_is, ring_is, sole_spans_are, cut_cabinets_are, sole_is, exchange_held, share_is, span_added, plain, plain_fields, answer_fields}
 use Rattle.commands.specs.Exchange.{ring_holds_exchange, with_exchange, thousandths, share_with_exchange}
 use Rattle.commands.specs.Facts.{facts, asks, mesh_answer, routes_answer, length_answer, operands_of, addition_of, addition, after, span_answer, answer_to, answer}
 use Rattle.commands.specs.Refusal.{Capacities, cabinet_known, span_known, cabinets_known, spans_known, refusal_of}
@@ -412,7 +412,3 @@ module _ {caps : Capacities} {one s s' : State} (w : BesideSound caps one s) (q 
           share = λ b. ap (λ (n : ℕ). plain (share_is n)) share_of_both;
           routes = λ b. absurd (omega (arith, b));
         }
-    told_raised serves (two_losses a b) e =
-        ordinary (two_losses a b) (λ b. absurd (omega (arith, b))) (λ b. absurd (omega (arith, b)))
-        (ap (λ b. answer_fields (plain (two_outlived b)))
-        (ap (λ (h : Network). outlive_two h (m + a) (m + b)) (network_is w q) ∙ outlive_two_of_second two rule a b))

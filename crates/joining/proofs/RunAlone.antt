@@ -13,7 +13,8 @@ use Rattle.graph.proofs.Truth.{or_left, or_right, or_neither, lt-ltb, ge_ltb}
 use Rattle.commands.specs.Bytes.{all_bytes}
 use Rattle.commands.specs.Refusal.{Refusal}
 use Rattle.commands.specs.Text.{text_of}
-use Rattle.commands.specs.Entry.{work_needed, number_of}
+use Rattle.commands.specs.Run.{commands_of}
+use Rattle.commands.specs.Entry.{work_needed, book_after, number_of, report_of}
 use Rattle.commands.specs.Register.{register_rule, register_routes, ample_run}
 use Rattle.commands.specs.Join.{join_capacities, run_alone, is_some, is_refused, state_behind, counts_of, counts_in, joined_work}
 use Rattle.commands.proofs.Returned.{zero_exactly}
@@ -21,9 +22,8 @@ use Rattle.commands.proofs.WholeRun.{register-mates}
 use Rattle.numbers.specs.declared.Limits.{Limits}
 use Rattle.forest.specs.Promise.{words_needed, SameBeyond, same_beyond_trans}
 use Rattle.run.specs.declared.Progress.{Progress}
-use Rattle.run.specs.Promise.{capacities_of, UnansweredPromise}
+use Rattle.run.specs.Promise.{capacities_of, six_numbers, UnansweredPromise}
 use Rattle.run.proofs.Needed.{work_is_words, cleared_over}
-use Rattle.run.proofs.Reported.{Reported, reported}
 use Rattle.joining.specs.declared.alone.Alone.{Alone}
 use Rattle.joining.specs.declared.alone.Alone.TheVariants as A
 use Rattle.joining.specs.declared.seams.Joining.{Joining}
@@ -80,9 +80,18 @@ module _ (journal : List ℕ) where
     unfolding greatest capacities_of join_capacities run_alone
     ends_as_told = subst (λ l. UnansweredPromise l (ample_run register_routes (capacities_of l) journal) p old new) is promise
 
-    -- what it reports
-    told : Reported (run_alone register_routes journal) p
-    told = reported ends_as_told.numbers_are
+    -- what it reports: how it ended, and the size of its network
+    refusal_told : p.refusal ≡ number_of (run_alone register_routes journal).refusal
+    unfolding six_numbers report_of
+    refusal_told = cc ends_as_told.numbers_are
+
+    vertices_told : p.shape.vertices ≡ (book_after register_rule (commands_of (run_alone register_routes journal))).network.vertices
+    unfolding six_numbers report_of
+    vertices_told = cc ends_as_told.numbers_are
+
+    edges_told : p.shape.edges ≡ edge_count (book_after register_rule (commands_of (run_alone register_routes journal))).network
+    unfolding six_numbers report_of
+    edges_told = cc ends_as_told.numbers_are
 
     -- the words beyond the table's are as before
     pub beyond_alone : SameBeyond greatest old new
@@ -93,22 +102,22 @@ module _ (journal : List ℕ) where
     unfolding is_refused
     refused_alone n =
         is_refused_lem
-        (or_right (ltb 65536 (length journal)) (refused_by_number (run_alone register_routes journal).refusal (λ e. n (told.refusal_told ∙ e))))
+        (or_right (ltb 65536 (length journal)) (refused_by_number (run_alone register_routes journal).refusal (λ e. n (refusal_told ∙ e))))
 
     -- and where it does not, the table holds the network behind the journal's commands
     module _ (none_told : p.refusal ≡ 0) where
       ends_well : (run_alone register_routes journal).refusal ≡ none
-      ends_well = (zero_exactly (run_alone register_routes journal).refusal).0 (sym told.refusal_told ∙ none_told)
+      ends_well = (zero_exactly (run_alone register_routes journal).refusal).0 (sym (refusal_told) ∙ none_told)
 
       cabinets_are : p.shape.vertices ≡ (counts_in journal).cabinets
       unfolding counts_in counts_of state_behind run_alone ample_run
       cabinets_are =
-          told.vertices_told ∙ ap (λ b. b.network.vertices) (accepted_book register_rule register_routes join_capacities (text_of journal) ends_well)
+          vertices_told ∙ ap (λ b. b.network.vertices) (accepted_book register_rule register_routes join_capacities (text_of journal) ends_well)
 
       spans_are : p.shape.edges ≡ (counts_in journal).spans
       unfolding counts_in counts_of state_behind run_alone ample_run
       spans_are =
-          told.edges_told ∙ ap (λ b. edge_count b.network) (accepted_book register_rule register_routes join_capacities (text_of journal) ends_well)
+          edges_told ∙ ap (λ b. edge_count b.network) (accepted_book register_rule register_routes join_capacities (text_of journal) ends_well)
 
       -- which is within the greatest capacities
       pub few_cabinets : p.shape.vertices ≤ 4096

@@ -55,7 +55,6 @@ fn raise(by: Counts, order: Order) -> Order
         Order::RecordLength(s, measure) => Order::RecordLength(raise_edge(by, s), measure),
         Order::SpanLength(s) => Order::SpanLength(raise_edge(by, s)),
         Order::ExchangeShare => Order::ExchangeShare,
-        Order::TwoLosses(a, b) => Order::TwoLosses(raise_vertex(by, a), raise_vertex(by, b)),
     }
 }
 
@@ -125,7 +124,6 @@ pub(crate) fn put_order(out: &mut [u8], at: usize, order: Order)
         Order::RecordLength(s, measure) => put_measure(out, at, s, measure),
         Order::SpanLength(s) => put_one(out, at, 14, s.0),
         Order::ExchangeShare => put_byte(out, at, 15),
-        Order::TwoLosses(a, b) => put_pair(out, at, 16, a.0, b.0),
     }
 }
 

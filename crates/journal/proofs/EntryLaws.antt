@@ -1,6 +1,6 @@
 -- The entry in code: refused at the start, or run, cleared and reported, it leaves what the register leaves.
 use mathlib.Core.Bool.{true, not}
-use mathlib.Core.List.{List, ◌++◌}
+use mathlib.Core.List.{List, [], ◌++◌}
 use mathlib.Core.Logic.{◌⊎◌, inl, inr}
 use mathlib.Core.Option.{Option, none, some}
 use mathlib.Core.Path.{◌≡◌, refl, sym, ◌∙◌, ap}
@@ -11,10 +11,10 @@ use lib.ListN.{length, drop, replicate}
 use Rattle.graph.proofs.Truth.{le-leb, lt-ltb, ltb_ge, ge_ltb, or_neither_left, or_neither_right}
 use Rattle.commands.specs.Bytes.{all_bytes}
 use Rattle.commands.specs.Refusal.{Refusal, Capacities, first_that_applies}
-use Rattle.commands.specs.Entry.{work_needed, short_buffers, start_lines, ran, whole_unless, whole_run, number_of, over, Buffers, Outcome, outcome, entry_under}
+use Rattle.commands.specs.Entry.{work_needed, short_buffers, start_lines, ran, whole_unless, whole_run, number_of, report_of, over, Buffers, Outcome, outcome, entry_under}
 use Rattle.commands.specs.Register.{register_rule, register_routes, register}
 use Rattle.commands.proofs.Cases.{le_or_gt, gt_leb}
-use Rattle.commands.proofs.Start.{good_exactly, starts_exactly}
+use Rattle.commands.proofs.Start.{good_exactly, ran_exactly}
 use Rattle.commands.proofs.Returned.{zero_exactly}
 use Rattle.commands.proofs.WholeRun.{register_serves, register-whole_run}
 use Rattle.numbers.specs.declared.Limits.{Limits}
@@ -22,7 +22,6 @@ use Rattle.forest.specs.Promise.{words_needed}
 use Rattle.run.specs.declared.Progress.{Progress}
 use Rattle.run.specs.Promise.{capacities_of, whole_of, six_numbers, RunPromise}
 use Rattle.run.proofs.Needed.{work_is_words, cleared_over}
-use Rattle.run.proofs.Reported.{reported}
 use Rattle.journal.specs.Promise.{RegisterPromise}
 
 -- below is not at most, the other way round
@@ -63,63 +62,67 @@ pub run_asks : (limits : Limits) {journal_length work_length report_length : ℕ
 unfolding capacities_of
 run_asks limits b = (b.few_cabinets, b.few_spans, omega (arith, b.long_work, work_is_words limits), b.short_journal)
 
--- the number of a start's refusal is 0 where no line of it applies: then the capacities and lengths are those that a run asks for
-pub begins : {caps : Capacities} {journal_length work_length report_length number : ℕ}
-    → number ≡ number_of (first_that_applies (start_lines caps journal_length work_length report_length)) → number ≡ 0
-    → Begins caps journal_length work_length report_length
-unfolding short_buffers
-begins {caps = caps} {journal_length = journal_length} {work_length = work_length} {report_length = report_length} e z =
-    let well = (starts_exactly caps journal_length work_length report_length).0 ((zero_exactly _).0 (sym e ∙ z)) in
-    let range = (good_exactly caps).0 well.good_capacities_lem in
-    let work_short = ltb work_length (work_needed caps) in
-    let report_short = ltb report_length 6 in
-    record {
-      few_cabinets = range.few_cabinets;
-      few_spans = range.few_spans;
-      long_work = ltb_ge _ _ (or_neither_left work_short report_short well.long_buffers);
-      long_report = ltb_ge _ _ (or_neither_right work_short report_short well.long_buffers);
-      short_journal = ltb_ge _ _ well.short_journal;
-    }
+-- A journal, and the lengths of a working table and of a report.
+module _ (caps : Capacities) (journal : List ℕ) (work_length report_length : ℕ) where
+  -- the refusal at the start
+  abbrev pub first_line : Option Refusal
+  first_line = first_that_applies (start_lines caps (length journal) work_length report_length)
 
--- The refusal at the start of a run of a journal with these buffers.
-abbrev pub first_line : Capacities → List ℕ → Buffers → Option Refusal
-first_line caps journal lent = first_that_applies (start_lines caps (length journal) (length lent.work) (length lent.report))
+  -- where there is none the journal is run, within any answer buffer
+  ran_whole : (answers : List ℕ) (number : ℕ) → number ≡ number_of first_line → number ≡ 0
+      → whole_run register_rule register_routes caps journal work_length (length answers) report_length ≡ ran (whole_of caps journal answers)
+  unfolding whole_run whole_unless
+  ran_whole answers number e z = rw ((zero_exactly first_line).0 (sym e ∙ z))
 
--- where there is none the journal is run
-ran_whole : (caps : Capacities) (journal : List ℕ) (lent : Buffers) (number : ℕ) → number ≡ number_of (first_line caps journal lent) → number ≡ 0
-    → whole_run register_rule register_routes caps journal (length lent.work) (length lent.answers) (length lent.report)
-    ≡ ran (whole_of caps journal lent.answers)
-unfolding whole_run whole_unless
-ran_whole caps journal lent number e z = rw ((zero_exactly (first_line caps journal lent)).0 (sym e ∙ z))
+  -- and the capacities and lengths are those that a run asks for
+  pub begins : (number : ℕ) → number ≡ number_of first_line → number ≡ 0 → Begins caps (length journal) work_length report_length
+  unfolding short_buffers
+  begins number e z =
+      let well = (ran_exactly register_rule register_routes caps journal work_length 0 report_length).0 (ran_whole [] number e z) in
+      let range = (good_exactly caps).0 well.good_capacities_lem in
+      let work_short = ltb work_length (work_needed caps) in
+      let report_short = ltb report_length 6 in
+      record {
+        few_cabinets = range.few_cabinets;
+        few_spans = range.few_spans;
+        long_work = ltb_ge _ _ (or_neither_left work_short report_short well.long_buffers);
+        long_report = ltb_ge _ _ (or_neither_right work_short report_short well.long_buffers);
+        short_journal = ltb_ge _ _ well.short_journal;
+      }
 
 -- a refusal at the start leaves the buffers as they were lent
 pub promised_at_start : (caps : Capacities) (journal : List ℕ) → all_bytes journal ≡ true → (lent : Buffers) (number : ℕ)
-    → number ≡ number_of (first_line caps journal lent) → (number ≡ 0 → ⊥)
+    → number ≡ number_of (first_line caps journal (length lent.work) (length lent.report)) → (number ≡ 0 → ⊥)
     → RegisterPromise caps journal lent number lent
 unfolding register entry_under whole_run whole_unless outcome number_of
-promised_at_start caps journal are lent number e n = go (first_line caps journal lent) refl e
+promised_at_start caps journal are lent number e n = go first refl e
   where
-    go : (o : Option Refusal) → first_line caps journal lent ≡ o → number ≡ number_of o → RegisterPromise caps journal lent number lent
+    first : Option Refusal
+    first = first_line caps journal (length lent.work) (length lent.report)
+
+    go : (o : Option Refusal) → first ≡ o → number ≡ number_of o → RegisterPromise caps journal lent number lent
     go none d e = absurd (n e)
     go (some r) d e = promised caps journal are lent number lent (rw (d, e))
 
 -- a run that was cleared behind and reported leaves what the register leaves
 pub promised_by_run : (limits : Limits) (journal : List ℕ) → all_bytes journal ≡ true → (lent : Buffers) (number : ℕ)
-    → number ≡ number_of (first_line (capacities_of limits) journal lent) → number ≡ 0
+    → number ≡ number_of (first_line (capacities_of limits) journal (length lent.work) (length lent.report)) → number ≡ 0
     → (p : Progress) (work new_work new_answers report : List ℕ)
     → RunPromise limits (whole_of (capacities_of limits) journal lent.answers) p lent.work work lent.answers new_answers
     → new_work ≡ replicate (min (work_needed (capacities_of limits)) (length work)) 0 ++ drop (work_needed (capacities_of limits)) work
     → report ≡ over (six_numbers p) lent.report
     → RegisterPromise (capacities_of limits) journal lent p.refusal (record { work = new_work; answers = new_answers; report = report })
-unfolding register entry_under outcome
-promised_by_run limits journal are lent number e z p work new_work new_answers report w worked filled =
+unfolding register entry_under outcome report_of six_numbers
+promised_by_run limits journal are lent number e z p work new_work new_answers report w worked reported =
+    let whole = whole_of (capacities_of limits) journal lent.answers in
+    let refusal_is : p.refusal ≡ number_of whole.refusal = cc w.numbers_are in
     promised (capacities_of limits) journal are lent p.refusal (record { work = new_work; answers = new_answers; report = report })
     (rw (
-      ran_whole (capacities_of limits) journal lent number e z,
+      ran_whole (capacities_of limits) journal (length lent.work) (length lent.report) lent.answers number e z,
       worked,
-      cleared_over limits lent.work work w.same_beyond (begins e z).long_work,
+      cleared_over limits lent.work work w.same_beyond (begins (capacities_of limits) journal (length lent.work) (length lent.report) number e z).long_work,
       w.answers_are,
-      filled,
+      reported,
       w.numbers_are,
-      (reported w.numbers_are).refusal_told,
+      refusal_is,
     ))

@@ -9,9 +9,9 @@ use native.Mathlib.Omega.{arith}
 use lib.Dec.{eqb}
 use lib.ListN.{length, drop, replicate}
 use Rattle.graph.proofs.Truth.{ne_eqb}
-use Rattle.commands.specs.Refusal.{Refusal, refusal_number, Capacities, first_that_applies}
-use Rattle.commands.specs.Run.{Run, place_after}
-use Rattle.commands.specs.Entry.{ran, whole_unless, start_lines, work_needed, number_of, report_of, outcome}
+use Rattle.commands.specs.Refusal.{Refusal, refusal_number, Capacities}
+use Rattle.commands.specs.Run.{Run, bytes_of_answers, place_after}
+use Rattle.commands.specs.Entry.{ran, whole_unless, work_needed, number_of, report_of, outcome}
 use Rattle.commands.specs.Register.{register_rule, register_routes, ample_run}
 use Rattle.commands.specs.Forecast.{no_forecast}
 use Rattle.commands.specs.Forecast as Paper
@@ -23,10 +23,9 @@ use Rattle.numbers.specs.declared.Limits.{Limits}
 use Rattle.run.specs.declared.Progress.{Progress}
 use Rattle.run.specs.Promise.{capacities_of, six_numbers, UnansweredPromise}
 use Rattle.run.proofs.Needed.{cleared_over}
-use Rattle.run.proofs.Reported.{Reported, reported}
 use Rattle.journal.specs.Promise.{ExactPromise}
 use Rattle.journal.specs.Inside.Counted.{told_of, Counts}
-use Rattle.journal.proofs.EntryLaws.{begins}
+use Rattle.journal.proofs.EntryLaws.{first_line, begins}
 use Rattle.journal.proofs.ExactRoom.{exact_to_the_byte, exact_refused_alike, exact_no_longer, exact_before}
 
 -- What is told of a run: a refusal with its place and no length,
@@ -45,20 +44,25 @@ tells_bytes p accepted number_is place_is told_is = rw (number_is, place_is, tol
 told_exactly : (end : ℕ) (run : Run) (p : Progress) → six_numbers p ≡ report_of register_rule run
     → (run.refusal ≡ none → place_after run.accepted ≡ end)
     → told_of p ≡ exact_of end (ran run)
-unfolding told_of exact_of number_of no_forecast
+unfolding told_of exact_of six_numbers report_of number_of no_forecast
 told_exactly end run p numbers read = go run.refusal refl
   where
-    told : Reported run p
-    told = reported numbers
+    refusal_is : p.refusal ≡ number_of run.refusal
+    refusal_is = cc numbers
+
+    place_is : p.place ≡ place_after run.accepted
+    place_is = cc numbers
 
     go : (o : Option Refusal) → run.refusal ≡ o → told_of p ≡ exact_of end (ran run)
     go none d =
-        let refusal : p.refusal ≡ 0 = rw d at told.refusal_told in
-        rw (d, refusal, told.place-told ∙ read d, told.written_told)
+        let refusal : p.refusal ≡ 0 = rw d at refusal_is in
+        let place : p.place ≡ end = place_is ∙ read d in
+        let written : p.written ≡ length (bytes_of_answers run.accepted) = cc numbers in
+        rw (d, refusal, place, written)
     go (some r) d =
-        let refusal : p.refusal ≡ refusal_number r = rw d at told.refusal_told in
+        let refusal : p.refusal ≡ refusal_number r = rw d at refusal_is in
         let stopped : eqb (refusal_number r) 0 ≡ false = ne_eqb (refusal_number r) 0 (λ z. omega (arith, number_above_zero r, z)) in
-        rw (d, refusal, told.place-told, stopped)
+        rw (d, refusal, place_is, stopped)
 
 -- a run with ample room that is not refused has read the whole journal
 read_whole : (caps : Capacities) (journal : List ℕ) → (ample_run register_routes caps journal).refusal ≡ none
@@ -70,7 +74,7 @@ read_whole caps journal = journal_is_read_whole register_routes caps _ journal
 module _ (caps : Capacities) (journal work : List ℕ) where
   -- the refusal at the start, as with a report of six numbers
   abbrev pub starts_with : Option Refusal
-  starts_with = first_that_applies (start_lines caps (length journal) (length work) 6)
+  starts_with = first_line caps journal (length work) 6
 
   -- it is told with place 0, and the table is as it was
   pub counts_at_start : {number place told : ℕ} → number ≡ number_of starts_with → number ≢ 0 → place ≡ 0 → told ≡ 0
@@ -89,7 +93,7 @@ pub counts_by_run : (limits : Limits) (journal work : List ℕ) {number : ℕ} �
     → {told : Paper.Forecast} → told ≡ told_of p
     → Counts (capacities_of limits) journal told work new
 unfolding exact_forecast exact_work exact_run whole_unless outcome
-counts_by_run limits journal work is z {p = p} {between = between} w cleared told =
+counts_by_run limits journal work {number = number} is z {p = p} {between = between} w cleared told =
     let caps = capacities_of limits in
     let none_applies : starts_with caps journal work ≡ none = (zero_exactly (starts_with caps journal work)).0 (sym is ∙ z) in
     record {
@@ -97,7 +101,7 @@ counts_by_run limits journal work is z {p = p} {between = between} w cleared tol
       work_is =
           cleared
           ∙ rw (none_applies, exact_work)
-          (cleared_over limits work between w.same_beyond (begins is z).long_work);
+          (cleared_over limits work between w.same_beyond (begins caps journal (length work) 6 number is z).long_work);
     }
 
 -- so what is counted is promised

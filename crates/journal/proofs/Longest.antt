@@ -1,4 +1,5 @@
--- The examples that take longest have these forecasts, rewritings and joinings: each table is computed at once.
+-- The longest journals have these forecasts, rewritings and joinings, and other journals these forecasts to the byte: each table is computed at
+-- once.
 use mathlib.Core.List.{map}
 use mathlib.Core.Path.{◌≡◌, refl}
 use Rattle.commands.specs.Forecast.{forecast}

@@ -4,7 +4,7 @@ use mathlib.Core.List.{List}
 use mathlib.Core.Logic.{◌⊎◌, inl, inr, ⊎_elim, ◌≢◌}
 use mathlib.Core.Option.{none, some}
 use mathlib.Core.Path.{◌≡◌, refl, ap, ap₂, ◌∙◌}
-use Prim.Native.Nat.{ℕ, ◌+◌, ◌-◌, ◌*◌, ◌≤◌, ◌<◌}
+use Prim.Native.Nat.{ℕ, ◌+◌, ◌*◌, ◌≤◌, ◌<◌}
 use native.Mathlib.Omega.{arith}
 use lib.Dec.{eqb, leb}
 use lib.ListN.{length, get_or, drop}
@@ -15,7 +15,7 @@ use Rattle.commands.specs.Command.{Command, Form, unknown, takes, forms, form, o
 use Rattle.commands.proofs.Cases.{le_or_gt, gt_leb, impossible}
 use Rattle.commands.proofs.ByPlace.{each_at, ◌also◌}
 use Rattle.commands.proofs.Reading.{width_of, long_enough, too_short, cut_off_lem, unknown_byte_lem, unknown_exactly, known_bytes}
-use Rattle.reading.specs.Inside.Reads.{OneOperand, TwoOperands, ThreeOperands, made, form_width, entry_of, widths, no_command, cut_short, whole, pass_over}
+use Rattle.reading.specs.Inside.Reads.{OneOperand, TwoOperands, ThreeOperands, made, form_width, entry_of, widths, entryWidth, no_command, cut_short, whole, pass_over}
 
 -- a number from low on that is not low is above it
 pub above : (low n : ℕ) → low ≤ n → n ≢ low → low < n
@@ -48,8 +48,7 @@ width_two byte (inl e) = rw e refl
 width_two byte (inr (inl e)) = rw e refl
 width_two byte (inr (inr (inl e))) = rw e refl
 width_two byte (inr (inr (inr (inl e)))) = rw e refl
-width_two byte (inr (inr (inr (inr (inl e))))) = rw e refl
-width_two byte (inr (inr (inr (inr (inr e))))) = rw e refl
+width_two byte (inr (inr (inr (inr e)))) = rw e refl
 
 pub width_three : (byte : ℕ) → ThreeOperands byte → width_of (form byte) ≡ 2 * 3
 unfolding forms form width_of
@@ -82,13 +81,13 @@ module _ (byte : ℕ) (bytes : List ℕ) where
               impossible (cc)
 
   -- a byte that is no command's
-  pub read_unknown : (byte < 1) ⊎ (16 < byte) → read_command byte bytes ≡ unknown_byte
+  pub read_unknown : (byte < 1) ⊎ (15 < byte) → read_command byte bytes ≡ unknown_byte
   unfolding read_command
   read_unknown k = (unknown_byte_lem (form byte) bytes).1 ((unknown_exactly byte).1 (known_bytes byte ∙ outside k))
     where
-      outside : (byte < 1) ⊎ (16 < byte) → (leb 1 byte && leb byte 16) ≡ false
+      outside : (byte < 1) ⊎ (15 < byte) → (leb 1 byte && leb byte 15) ≡ false
       outside (inl h) = rw (gt_leb 1 byte h)
-      outside (inr h) = rw (gt_leb byte 16 h) (and-false (leb 1 byte))
+      outside (inr h) = rw (gt_leb byte 15 h) (and-false (leb 1 byte))
 
 -- an operand of the bytes from a place on
 pub operand_at : (journal : List ℕ) (from k place : ℕ) → place ≡ from + 2 * k
@@ -123,33 +122,50 @@ module _ (byte : ℕ) (bytes : List ℕ) (width : ℕ) (wide : form_width (form 
           let same : 2 * n ≡ width = cc in
           rw (too_short n make bytes (omega arith))
 
--- the table has an entry for each command's byte
-pub widths_are : (byte : ℕ) → 1 ≤ byte → byte ≤ 16 → form_width (form byte) ≡ some (entry_of widths (byte - 1))
-unfolding form forms form_width entry_of
+-- a byte that is no command's is found so
+pub passed-unknown : (byte : ℕ) (bytes : List ℕ) → form_width (form byte) ≡ none → pass_over byte (read_command byte bytes) ≡ no_command
+unfolding read_command form_width pass_over
+passed-unknown byte bytes = go (form byte)
+  where
+    go : (f : Form) → form_width f ≡ none → pass_over byte (read_form f bytes) ≡ no_command
+    go unknown e = unfold read_form in refl
+    go (takes n make) e = impossible (cc)
+
+-- an entry of the table of widths tells that the byte is no command's, or a width
+pub entry-none : (entry : ℕ) → entry ≡ 15 → entryWidth entry ≡ none
+unfolding entryWidth
+entry-none entry e = rw (eq-eqb entry 15 e)
+
+pub entry-some : (entry : ℕ) → entry ≢ 15 → entryWidth entry ≡ some entry
+unfolding entryWidth
+entry-some entry d = rw (ne_eqb entry 15 d)
+
+-- the table has an entry for each byte up to 0F
+pub widths_are : (byte : ℕ) → byte ≤ 15 → form_width (form byte) ≡ entryWidth (entry_of widths byte)
+unfolding form forms form_width entry_of entryWidth
 widths_are =
     each_at
-    (λ byte f. 1 ≤ byte → byte ≤ 16 → form_width f ≡ some (entry_of widths (byte - 1)))
+    (λ byte f. byte ≤ 15 → form_width f ≡ entryWidth (entry_of widths byte))
     forms
     unknown
-    ((λ h k. absurd (omega arith))
-    also (λ h k. refl)
-    also (λ h k. refl)
-    also (λ h k. refl)
-    also (λ h k. refl)
-    also (λ h k. refl)
-    also (λ h k. refl)
-    also (λ h k. refl)
-    also (λ h k. refl)
-    also (λ h k. refl)
-    also (λ h k. refl)
-    also (λ h k. refl)
-    also (λ h k. refl)
-    also (λ h k. refl)
-    also (λ h k. refl)
-    also (λ h k. refl)
-    also (λ h k. refl)
+    ((λ h. refl)
+    also (λ h. refl)
+    also (λ h. refl)
+    also (λ h. refl)
+    also (λ h. refl)
+    also (λ h. refl)
+    also (λ h. refl)
+    also (λ h. refl)
+    also (λ h. refl)
+    also (λ h. refl)
+    also (λ h. refl)
+    also (λ h. refl)
+    also (λ h. refl)
+    also (λ h. refl)
+    also (λ h. refl)
+    also (λ h. refl)
     also tt)
-    (λ byte l h k. absurd (omega arith))
+    (λ byte k h. absurd (omega arith))
 
 -- a command whose operands were passed over: it was read, and has the byte
 pub record CommandPassed (byte : ℕ) (reading : Reading) (passed width : ℕ) : Type 0 where

@@ -1,10 +1,9 @@
 // Reading a command from the journal's bytes. The command byte decides everything that follows it.
-ghost use Rattle.std.proofs.Math.Option.{some};
 ghost use Rattle.std.specs.Prelude.{◌≡◌, ◌+◌, ◌<◌, ◌≤◌, length, get_or, drop};
 ghost use Rattle.commands.specs.Bytes.{number};
 ghost use Rattle.commands.specs.Command.{read_command};
 ghost use Rattle.commands.specs.Command.{form};
-ghost use Rattle.reading.specs.Inside.Reads.{meaning, reading_of, OneOperand, TwoOperands, ThreeOperands, MadeOfOne, MadeOfTwo, MadeOfThree, form_width, entry_of, passing_of, pass_over};
+ghost use Rattle.reading.specs.Inside.Reads.{meaning, reading_of, OneOperand, TwoOperands, ThreeOperands, MadeOfOne, MadeOfTwo, MadeOfThree, form_width, entry_of, entryWidth, passing_of, pass_over};
 
 use numbers::{Duct, Edge, Measure, Vertex};
 
@@ -32,7 +31,6 @@ pub enum Order {
     RecordLength(Edge, Measure),
     SpanLength(Edge),
     ExchangeShare,
-    TwoLosses(Vertex, Vertex),
 }
 
 // What stands at a place of the journal: an unknown byte, a command whose operands are cut off by the journal's end, or a command with the
@@ -67,7 +65,7 @@ fn one_operand(byte: u8, x: u32) -> Order
     }
 }
 
-// The command of 02, 05, 06, 07, 0C or 10.
+// The command of 02, 05, 06, 07 or 0C.
 fn two_operands(byte: u8, x: u32, y: u32) -> Order
     requires { TwoOperands byte }
     ensures { MadeOfTwo byte x y (meaning result) }
@@ -77,8 +75,7 @@ fn two_operands(byte: u8, x: u32, y: u32) -> Order
         5 => Order::SharedMesh(Vertex(x), Vertex(y)),
         6 => Order::SoleSpans(Vertex(x), Vertex(y)),
         7 => Order::CutCabinets(Vertex(x), Vertex(y)),
-        12 => Order::RoutesBetween(Vertex(x), Vertex(y)),
-        _ => Order::TwoLosses(Vertex(x), Vertex(y)),
+        _ => Order::RoutesBetween(Vertex(x), Vertex(y)),
     }
 }
 
@@ -111,7 +108,7 @@ fn take_one(journal: &[u8], byte: u8, from: usize) -> Taken
     Taken::Command(one_operand(byte, x), 2)
 }
 
-// The command of 02, 05, 06, 07, 0C or 10 whose operands stand from a place on.
+// The command of 02, 05, 06, 07 or 0C whose operands stand from a place on.
 fn take_two(journal: &[u8], byte: u8, from: usize) -> Taken
     requires { TwoOperands byte × (from ≤ length journal.now) }
     ensures { reading_of result ≡ read_command byte (drop from journal.now) }
@@ -146,7 +143,7 @@ pub(crate) fn take_at(journal: &[u8], at: usize) -> Taken
     let byte = journal[at];
     match byte {
         1 => Taken::Command(Order::AddCabinet, 0),
-        2 | 5..=7 | 12 | 16 => take_two(journal, byte, at + 1),
+        2 | 5..=7 | 12 => take_two(journal, byte, at + 1),
         3..=4 | 8..=10 | 14 => take_one(journal, byte, at + 1),
         11 | 13 => take_three(journal, byte, at + 1),
         15 => Taken::Command(Order::ExchangeShare, 0),
@@ -172,15 +169,21 @@ pub fn entry_of(table: u64, k: u8) -> u8
     ((table >> low) % 16) as u8
 }
 
-// The number of the operands' bytes, by the command byte from 01 on.
-const WIDTHS: u64 = 0x4026_4622_2444_2240;
+// The entry of a byte that is no command's.
+const NONE: u8 = 15;
 
-// Passes over so many bytes of operands of a command, which stand from a place on.
-fn pass_over(journal: &[u8], byte: u8, from: usize, bytes: u8) -> Passed
-    requires { (form_width (form byte) ≡ some bytes) × (from ≤ length journal.now) }
+// The number of the operands' bytes, by the command byte, or NONE.
+const WIDTHS: u64 = 0x0264_6222_4442_240F;
+
+// What a byte is, by its entry in the table; if a command's, its operands stand from a place on.
+fn pass_over(journal: &[u8], byte: u8, from: usize, entry: u8) -> Passed
+    requires { (form_width (form byte) ≡ entryWidth entry) × (from ≤ length journal.now) }
     ensures { passing_of result ≡ pass_over byte (read_command byte (drop from journal.now)) }
 {
-    let width = bytes as usize;
+    if entry == NONE {
+        return Passed::Unknown;
+    }
+    let width = entry as usize;
     if journal.len() - from < width {
         return Passed::CutOff;
     }
@@ -196,7 +199,7 @@ pub(crate) fn pass_at(journal: &[u8], at: usize) -> Passed
     match byte {
         1 => Passed::Command(byte, 0),
         2 => pass_over(journal, byte, at + 1, 4),
-        3..=16 => pass_over(journal, byte, at + 1, entry_of(WIDTHS, byte - 1)),
+        3..=15 => pass_over(journal, byte, at + 1, entry_of(WIDTHS, byte)),
         _ => Passed::Unknown,
     }
 }

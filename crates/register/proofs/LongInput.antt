@@ -18,7 +18,7 @@ use Rattle.commands.proofs.Start.{long_journal_exactly}
 pub long_input_refused : (input : List ℕ) → 65536 < length input → program input ≡ ending (some long_journal) 0
 unfolding program program_output program_run program_capacities work_needed good_capacities short_buffers
 long_input_refused input h =
-    rw ((long_journal_exactly register_rule register_routes program_capacities input 15936 65536 6).1 (refl, (refl, lt-ltb 65536 (length input) h)))
+    rw ((long_journal_exactly register_rule register_routes program_capacities input 10304 65536 6).1 (refl, (refl, lt-ltb 65536 (length input) h)))
 
 -- what the program writes for an input is what it writes for its first 65,537 bytes
 pub first_bytes_suffice : (input : List ℕ) → program (take 65537 input) ≡ program input

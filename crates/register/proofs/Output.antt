@@ -61,7 +61,7 @@ outcome_outputs input lent zeros (ran run) e =
     }
 
 -- and so with what the entry promises, for the program's capacities and buffers
-pub promised_outputs : (input : List ℕ) (lent : Buffers) (returned : ℕ) (left : Buffers) → length lent.work ≡ 15936
+pub promised_outputs : (input : List ℕ) (lent : Buffers) (returned : ℕ) (left : Buffers) → length lent.work ≡ 10304
     → length lent.answers ≡ 65536 → lent.report ≡ replicate 6 0 → RegisterPromise program_capacities input lent returned left
     → Outputs input returned left.answers left.report
 unfolding register entry_under program_run work_needed program_capacities

@@ -65,7 +65,7 @@ fn run_input(input: &[u8], output: &mut [u8]) -> usize
     requires { 65542 ≤ length output.old }
     ensures { ProgramOutput input.now output.new result }
 {
-    let mut work = [0u32; 15936];
+    let mut work = [0u32; 10304];
     let mut report = [0u32; 6];
     let refusal = journal::register_run(
         CABINETS,

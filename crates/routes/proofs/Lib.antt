@@ -15,4 +15,3 @@ pub mod WalksWay
 pub mod WalksWritten
 pub mod WalksBack
 pub mod Passes
-pub mod LossesTold

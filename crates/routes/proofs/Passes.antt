@@ -12,13 +12,12 @@ use Rattle.graph.specs.Network.{Network, MateRule, Proper, edge_count}
 use Rattle.graph.specs.Groups.{bridge_block}
 use Rattle.graph.proofs.Truth.{true_of_not_false, false_of_not_true, or_neither_left, or_neither_right}
 use Rattle.graph.proofs.Routes.{walk_is_route, route_known}
-use Rattle.graph.proofs.Outlives.{fewer_losses, bridge_block_exactly}
 use Rattle.ways.specs.Search.{search, way}
-use Rattle.ways.specs.Used.{Used, unused, one_more, along_used, way_taken, Usable, WayFits}
+use Rattle.ways.specs.Used.{Used, unused, one_more, along_used, way_taken, WayFits}
 use Rattle.ways.specs.TwoRoutes.{edges_of, way_more, with_one_more, none_back, way_used, routes_used, two_routes}
 use Rattle.ways.proofs.SearchWay.{way_short}
 use Rattle.ways.proofs.UsedSteps.{more_fits, along_fits}
-use Rattle.ways.proofs.WaysCarried.{Carries, unused_carries, WayFound, more_found_lem, one_more_lem, along_found, one_less}
+use Rattle.ways.proofs.TwoRoutes.{Carries, unused_carries, WayFound, more_found_lem, one_more_lem, along_found, one_less}
 use Rattle.forest.specs.declared.Shape.{Shape}
 use Rattle.forest.specs.Promise.{Holds, state_of, network_in, SameBeyond, vertices_held, vertices_fit, same_beyond_trans, vertex_scratch}
 use Rattle.routes.specs.declared.search.Allowance.{Allowance}
@@ -109,29 +108,6 @@ module _ (shape : Shape) (allowance : Allowance) (a b : ℕ) (old : List ℕ) (h
             (p.written g u is listed usable reached);
       }
 
--- One way more, where one is found.
-module _ {g : Network} {a b : ℕ} (rule : MateRule g.rule) (u : Used) (more : WayFound g (one_more g u) a b) where
-  -- the search reaches a
-  more_reached : is_in a (search g (allowed_by g u A.OneMore) b).order ≡ true
-  unfolding allowed_by
-  more_reached = more.reached
-
-  -- each of its steps fits when its turn comes
-  more_way_fits : WayFits g u a (way_more g a b u)
-  unfolding way_more
-  more_way_fits = more_fits g rule u a b _ more.lead more.all_allowed_lem more.differ
-
-  -- when it is taken, the lists stand with what is then used
-  pub more_listed : {shape : Shape} {t new : List ℕ} {count : ℕ} → network_in shape t ≡ g → Listed shape g u t → Usable g u
-      → PassTaken shape A.OneMore a b t new count → Listed shape g (with_one_more g a b u) new
-  unfolding allowed_by with_one_more way_more
-  more_listed is listed usable p = p.taken g u is listed usable more_reached more_way_fits
-
-  -- its edges are known
-  more_known : (s : ℕ) → is_in s (edges_of (way_more g a b u)) ≡ true → s < edge_count g
-  unfolding way_more edges_of
-  more_known = route_known g a b _ (walk_is_route g _ a b more.lead more.differ)
-
 -- The passes between two vertices of one bridge-block.
 module _ (shape : Shape) (a b : ℕ) (old : List ℕ) (holds : Holds shape old) (known : b < shape.vertices)
     (share : bridge_block (network_in shape old) a b ≡ true) where
@@ -146,6 +122,30 @@ module _ (shape : Shape) (a b : ℕ) (old : List ℕ) (holds : Holds shape old) 
 
   abbrev goal_known : b < g.vertices
   goal_known = held_known shape g old refl b known
+
+  -- one way more, where at most one is taken
+  module _ (u : Used) (k : ℕ) (few : k ≤ 1) (c : Carries g u a b k) where
+    more : WayFound g (one_more g u) a b
+    more = more_found_lem g proper rule a b goal_known share u k few c
+
+    more_reached : is_in a (search g (allowed_by g u A.OneMore) b).order ≡ true
+    unfolding allowed_by
+    more_reached = more.reached
+
+    more_way_fits : WayFits g u a (way_more g a b u)
+    unfolding way_more
+    more_way_fits = more_fits g rule u a b _ more.lead more.all_allowed_lem more.differ
+
+    -- when it is taken
+    more_listed : {t new : List ℕ} {count : ℕ} → network_in shape t ≡ g → Listed shape g u t
+        → PassTaken shape A.OneMore a b t new count → Listed shape g (with_one_more g a b u) new
+    unfolding allowed_by with_one_more way_more
+    more_listed is listed p = p.taken g u is listed c.usable more_reached more_way_fits
+
+    -- its edges are known
+    more_known : (s : ℕ) → is_in s (edges_of (way_more g a b u)) ≡ true → s < edge_count g
+    unfolding way_more edges_of
+    more_known = route_known g a b _ (walk_is_route g _ a b more.lead more.differ)
 
   -- a route along used edges, where at least one way is taken
   module _ (u : Used) (k : ℕ) (c : Carries g u a b (suc k)) where
@@ -166,24 +166,15 @@ module _ (shape : Shape) (a b : ℕ) (old : List ℕ) (holds : Holds shape old) 
   abbrev one : Used
   one = with_one_more g a b unused
 
-  -- the first way is found and carried
-  first_more : WayFound g (one_more g unused) a b
-  first_more = more_found_lem g proper rule a b goal_known unused 0 (unused_carries g a b)
-      (fewer_losses g a b 0 1 (omega arith) ((bridge_block_exactly g a b).0 share))
-
   carries_one : Carries g one a b 1
-  carries_one = one_more_lem g proper rule a b goal_known unused 0 (unused_carries g a b) first_more
+  carries_one = one_more_lem g proper rule a b goal_known share unused 0 (omega arith) (unused_carries g a b)
 
   -- and by two
   abbrev two : Used
   two = with_one_more g a b one
 
-  -- and then the second
-  second_more : WayFound g (one_more g one) a b
-  second_more = more_found_lem g proper rule a b goal_known one 1 carries_one ((bridge_block_exactly g a b).0 share)
-
   carries_two : Carries g two a b 2
-  carries_two = one_more_lem g proper rule a b goal_known one 1 carries_one second_more
+  carries_two = one_more_lem g proper rule a b goal_known share one 1 (omega arith) carries_one
 
   module _ {t₁ t₂ t₃ : List ℕ} {m n : ℕ} (built : ListsBuilt shape old t₁) (first : PassTaken shape A.OneMore a b t₁ t₂ m)
       (second : PassWritten shape A.OneMore order_column a b t₂ t₃ n) where
@@ -204,7 +195,7 @@ module _ (shape : Shape) (a b : ℕ) (old : List ℕ) (holds : Holds shape old) 
         same_beyond_trans built.only.same_beyond (same_beyond_trans first.only.same_beyond second.only.same_beyond)
 
     listed₂ : Listed shape g one t₂
-    listed₂ = more_listed rule unused first_more is₁ built.listed (unused_carries g a b).usable first
+    listed₂ = more_listed unused 0 (omega arith) (unused_carries g a b) is₁ built.listed first
 
     listed₃ : Listed shape g one t₃
     unfolding pass_only
@@ -214,23 +205,23 @@ module _ (shape : Shape) (a b : ℕ) (old : List ℕ) (holds : Holds shape old) 
     first_way : Written shape first_column m t₂ (edges_of (way_more g a b unused))
     unfolding allowed_by way_more
     first_way =
-        first.written g unused is₁ built.listed (unused_carries g a b).usable (more_reached rule unused first_more)
+        first.written g unused is₁ built.listed (unused_carries g a b).usable (more_reached unused 0 (omega arith) (unused_carries g a b))
 
     first_stays : Written shape first_column m t₃ (edges_of (way_more g a b unused))
     unfolding pass_only way_more allowed_by
     first_stays =
         written_only second.only first_column m _ (omega arith) refl
         (few_written shape A.OneMore a b old holds known g unused refl
-        (more_reached rule unused first_more) first_column m t₂ first_way)
+        (more_reached unused 0 (omega arith) (unused_carries g a b)) first_column m t₂ first_way)
         first_way
 
     second_way : Written shape order_column n t₃ (edges_of (way_more g a b one))
     unfolding allowed_by way_more
-    second_way = second.written g one is₂ listed₂ carries_one.usable (more_reached rule one second_more)
+    second_way = second.written g one is₂ listed₂ carries_one.usable (more_reached one 1 (omega arith) carries_one)
 
     -- whether the second goes back along the first
     goes_back : (answer : Bool) → TakesBack shape order_column n t₃ answer → answer ≡ not (none_back one (way_more g a b one))
-    goes_back answer back = back.told g one (way_more g a b one) listed₃ (more_known rule one second_more) second_way
+    goes_back answer back = back.told g one (way_more g a b one) listed₃ (more_known one 1 (omega arith) carries_one) second_way
 
     -- where it does not, the two ways are the routes
     pub two_ways_found : TakesBack shape order_column n t₃ false → RoutesFound shape a b old t₃ (record { first = m; second = n })
@@ -255,8 +246,8 @@ module _ (shape : Shape) (a b : ℕ) (old : List ℕ) (holds : Holds shape old) 
         let is₄ = same-network done.only ∙ is₃ in
         let is₅ = same-network third.only ∙ is₄ in
         let listed₄ =
-        done.taken g one (way_more g a b one) is₃ listed₃ carries_one.usable (more_way_fits rule one second_more)
-        (way_short_in shape A.OneMore a b old holds known g one refl (more_reached rule one second_more)) second_way
+        done.taken g one (way_more g a b one) is₃ listed₃ carries_one.usable (more_way_fits one 1 (omega arith) carries_one)
+        (way_short_in shape A.OneMore a b old holds known g one refl (more_reached one 1 (omega arith) carries_one)) second_way
         in
         let listed₅ = along_listed two 1 carries_two is₄ listed₄ third in
         let rest = way_taken two a (way_used g a b two) in

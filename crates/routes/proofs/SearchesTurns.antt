@@ -1,10 +1,9 @@
 -- The turns of a search.
-use mathlib.Core.Bool.{true, not}
+use mathlib.Core.Bool.{true}
 use mathlib.Core.List.{List, [], ◌∷◌}
 use mathlib.Core.Path.{◌≡◌, sym, ◌∙◌, ap, subst}
 use Prim.Native.Nat.{ℕ, suc, ◌≤◌, ◌<◌}
 use native.Mathlib.Omega.{arith}
-use lib.Dec.{eqb}
 use lib.ListN.{length, get_or}
 use Rattle.graph.specs.Below.{tabulate}
 use Rattle.graph.specs.Lists.{is_in}
@@ -13,7 +12,7 @@ use Rattle.graph.proofs.Truth.{not_of_false, ne_eqb, lt-ltb, ge_ltb}
 use Rattle.naming.proofs.Listed.{get_d_tabulate}
 use Rattle.ways.specs.Search.{Allowed, Found, at_goal, look_below, turn, turns, search, way, step_of, starts}
 use Rattle.ways.specs.Used.{Used, Usable}
-use Rattle.ways.proofs.SearchOrder.{at_place_in, grown_reached, later_turns_grow}
+use Rattle.ways.proofs.SearchOrder.{at_place_in, later_turns_grow}
 use Rattle.ways.proofs.SearchClosed.{reached_known}
 use Rattle.ways.proofs.SearchWay.{grown_way}
 use Rattle.forest.specs.declared.Shape.{Shape}
@@ -126,30 +125,19 @@ module _ (shape : Shape) (allowance : Allowance) (a b n found : ℕ) (old t new 
           same_way = sym (grown_way (later_turns_grow g allowed n g.vertices (at_goal b) (omega (arith, h, vertices_are turned))) a reached);
         }
 
-    -- and a is reached by the whole search
-    reached_then : n ≤ shape.vertices → is_in a (turns g allowed n (at_goal b)).order ≡ true → is_in a (search g allowed b).order ≡ true
-    unfolding search
-    reached_then h = grown_reached (later_turns_grow g allowed n g.vertices (at_goal b) (omega (arith, h, vertices_are turned))) a
-
   -- a search may end when a is reached
   pub turning_stops : n ≤ shape.vertices → (word : ℕ) → word ≡ vertex_scratch shape new next_column a → (word ≡ 0 → ⊥)
       → Searched shape allowance a b old new
   turning_stops h word word_is ne =
       record {
         only = only_trans begun.only v.only;
-        told = λ g u is l usable inside. reached_then g u is l usable h (by_word g u is l usable inside) ∙ sym not_zero;
         found = λ g u is l usable reached.
             let w = turned g u is l usable in
             let inside = reached_known g (proper_is w v.only.holds) (allowed_by g u allowance) b w.goal_known a reached in
-            stands g u is l usable h (by_word g u is l usable (omega (arith, inside, vertices_are w)));
+            stands g u is l usable h
+            (word_reached w a (omega (arith, inside, vertices_are w))
+            ∙ not_of_false (ne_eqb (vertex_scratch shape new next_column a) 0 (λ e. ne (word_is ∙ e))));
       }
-    where
-      not_zero : not (eqb (vertex_scratch shape new next_column a) 0) ≡ true
-      not_zero = not_of_false (ne_eqb (vertex_scratch shape new next_column a) 0 (λ e. ne (word_is ∙ e)))
-
-      by_word : (g : Network) (u : Used) → network_in shape old ≡ g → Listed shape g u old → Usable g u → a < shape.vertices
-          → is_in a (turns g (allowed_by g u allowance) n (at_goal b)).order ≡ true
-      by_word g u is l usable inside = word_reached (turned g u is l usable) a inside ∙ not_zero
 
   -- and ends with the last turn
   pub turning_last : n ≡ shape.vertices → Searched shape allowance a b old new
@@ -157,11 +145,6 @@ module _ (shape : Shape) (allowance : Allowance) (a b n found : ℕ) (old t new 
   turning_last e =
       record {
         only = only_trans begun.only v.only;
-        told = λ g u is l usable inside.
-            let w = turned g u is l usable in
-            subst
-            (λ k. is_in a (turns g (allowed_by g u allowance) k (at_goal b)).order ≡ not (eqb (vertex_scratch shape new next_column a) 0))
-            (omega (arith, e, vertices_are w)) (word_reached w a inside);
         found = λ g u is l usable reached.
             let w = turned g u is l usable in
             stands g u is l usable (omega (arith, e))

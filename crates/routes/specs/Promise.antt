@@ -1,7 +1,6 @@
--- What a caller may say of the two routes that are written down in the table, and of two vertices that outlive two losses or do not.
-use Rattle.std.specs.Prelude.{Bool, List, ◌≡◌, ℕ}
+-- What a caller may say of the two routes that are written down in the table.
+use Rattle.std.specs.Prelude.{List, ◌≡◌, ℕ}
 use Rattle.graph.specs.Below.{tabulate}
-use Rattle.graph.specs.Groups.{outlive_two}
 use Rattle.ways.specs.TwoRoutes.{two_routes}
 use Rattle.forest.specs.declared.Shape.{Shape}
 use Rattle.forest.specs.Promise.{Holds, state_of, network_in, SameBeyond, vertex_scratch}
@@ -21,11 +20,4 @@ pub record RoutesFound (shape : Shape) (a b : ℕ) (old new : List ℕ) (lengths
   pub state_is : state_of shape new ≡ state_of shape old
   pub first_is : tabulate lengths.first (edge_at shape new R.First) ≡ (two_routes (network_in shape old) a b).first
   pub second_is : tabulate lengths.second (edge_at shape new R.Second) ≡ (two_routes (network_in shape old) a b).second
-  pub same_beyond : SameBeyond shape.limits old new
-
--- Whether a and b outlive two losses is told. The state is as before.
-pub record TwoLossesTold (shape : Shape) (a b : ℕ) (old new : List ℕ) (answer : Bool) : Type 0 where
-  pub holds : Holds shape new
-  pub state_is : state_of shape new ≡ state_of shape old
-  pub answer_is : answer ≡ outlive_two (network_in shape old) a b
   pub same_beyond : SameBeyond shape.limits old new

@@ -1,6 +1,5 @@
 // The two routes between two vertices of one bridge-block, searched for in the scratch words of the working table: two ways, the second of
-// which may go back along steps of the first, and then, where it does, two routes along what the two ways use. Whether two vertices
-// outlive two losses is told by three such ways.
+// which may go back along steps of the first, and then, where it does, two routes along what the two ways use.
 ghost use Rattle.std.specs.Prelude.{true, ◌≡◌, ◌<◌};
 ghost use Rattle.graph.specs.Groups.{bridge_block};
 ghost use Rattle.forest.specs.Promise.{Holds, network_in};
@@ -8,7 +7,6 @@ ghost use Rattle.routes.specs.Promise.{edge_at, RoutesFound};
 ghost use Rattle.routes.specs.Inside.Passes.{PassWritten, PassTaken};
 
 pub mod lists;
-pub mod losses;
 pub mod search;
 pub mod walk;
 

@@ -6,5 +6,4 @@ pub mod FurtherUnanswered
 pub mod Whole
 pub mod WholeAnswered
 pub mod WholeUnanswered
-pub mod Reported
 pub mod Needed

@@ -3,20 +3,17 @@ use mathlib.Core.Bool.{true, false}
 use mathlib.Core.List.{List}
 use mathlib.Core.Path.{◌≡◌, refl, sym, ◌∙◌, ap}
 use Prim.Native.Nat.{ℕ, ◌≤◌, ◌<◌}
-use native.Mathlib.Nat.{zero-add}
 use native.Mathlib.Omega.{arith}
 use lib.Dec.{eqb, ltb}
 use lib.ListN.{length}
 use Rattle.graph.proofs.Truth.{and_left, and_right, eqb_eq, eq-eqb, ltb_lt, ltb_ge}
 use Rattle.naming.specs.State.{empty_state}
-use Rattle.commands.specs.Run.{Run, bytes_of_answers, place_after}
-use Rattle.commands.specs.Entry.{report_of, book_after}
 use Rattle.commands.specs.Register.{register_rule}
 use Rattle.numbers.specs.declared.Limits.{Limits}
 use Rattle.forest.specs.declared.Shape.{Shape}
 use Rattle.forest.specs.Promise.{table_rule_lem, state_of, same_beyond_refl, same_beyond_trans, Begun}
 use Rattle.run.specs.declared.Progress.{Progress}
-use Rattle.run.specs.Inside.Runs.{numbers_after, Account, Going, Underway, Leads, goes_on, is_refused_lem, SoFar, goes_further, OneOn}
+use Rattle.run.specs.Inside.Runs.{Account, Going, Underway, Leads, goes_on, is_refused_lem, SoFar, goes_further, OneOn}
 use Rattle.run.proofs.Course.{AtEnds}
 
 -- The progress of a run that has not begun.
@@ -40,13 +37,6 @@ begun_own b =
       holds = b.holds;
       state_is = b.state_is;
     }
-
--- the numbers that a run comes to from its start are those that it reports
-pub numbers_from_start : {limits : Limits} {t : List ℕ} {shape : Shape} → Begun limits t shape → (run : Run)
-    → numbers_after (at_start shape) t run ≡ report_of register_rule run
-unfolding at_start numbers_after report_of book_after empty_state
-numbers_from_start begun run =
-    rw (same_rule begun, zero-add (place_after run.accepted), zero-add (length run.accepted), zero-add (length (bytes_of_answers run.accepted)))
 
 -- a run that goes on is not refused, and has more of the journal before it
 goes_on_tells : (p : Progress) (end : ℕ) → goes_further p end ≡ true → (p.refusal ≡ 0) × (p.place < end)

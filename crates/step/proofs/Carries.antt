@@ -18,8 +18,8 @@ use Rattle.naming.specs.State.{State, after_addition, records_nothing, marks_aft
 use Rattle.naming.proofs.Listed.{map_tabulate}
 use Rattle.naming.proofs.Agree.{agree_of_equal}
 use Rattle.commands.specs.Field.{Kind, district, ring, mesh, Field}
-use Rattle.commands.specs.Command.{Command, add_cabinet, add_span, district_name, ring_name, shared_mesh, sole_spans, cut_cabinets, is_sole, mark_exchange, holds_exchange, add_duct_span, routes_between, record_length, span_length, exchange_share, two_losses}
-use Rattle.commands.specs.Answer.{change_notice, changes, notices, plain, district_is, ring_is, sole_is, exchange_held, routes_are, share_is, two_outlived}
+use Rattle.commands.specs.Command.{Command, add_cabinet, add_span, district_name, ring_name, shared_mesh, sole_spans, cut_cabinets, is_sole, mark_exchange, holds_exchange, add_duct_span, routes_between, record_length, span_length, exchange_share}
+use Rattle.commands.specs.Answer.{change_notice, changes, notices, plain, district_is, ring_is, sole_is, exchange_held, routes_are, share_is}
 use Rattle.commands.specs.Exchange.{ring_holds_exchange, share_with_exchange}
 use Rattle.commands.specs.Facts.{Demand, adds_span, asks, mesh_answer, routes_answer, length_answer, facts, addition_of, addition, recording_of, recording, after, span_answer, answer_to, answer}
 use Rattle.commands.specs.Register.{register_routes}
@@ -35,7 +35,7 @@ use Rattle.forest.specs.declared.VertexGroups.{VertexGroups}
 use Rattle.forest.specs.declared.VertexGroups.TheVariants as G
 use Rattle.forest.specs.Promise.{Holds, state_of, book_in, network_in, vertices_held, edges_held, few_vertices, few_edges, same_beyond_refl, one_edge_more, VertexAdded, EdgeAdded, VertexMarked, SurveyEntered, ListWritten, vertex_names, vertex_groups, length_given, shared_name}
 use Rattle.routes.specs.declared.Lengths.{Lengths}
-use Rattle.routes.specs.Promise.{RoutesFound, TwoLossesTold}
+use Rattle.routes.specs.Promise.{RoutesFound}
 use Rattle.step.specs.declared.Listed.{Listed}
 use Rattle.step.specs.declared.Listed.TheVariants as M
 use Rattle.step.specs.declared.Finding.{Finding}
@@ -205,19 +205,6 @@ pub share_carried : (shape : Shape) (t : List ℕ) (share : ℕ) → Holds shape
 unfolding addition addition_of recording recording_of facts asks finding_answer answer answer_to
 share_carried shape t share holds e =
     question_carried shape exchange_share refl refl t (F.Share share) holds (ap (λ x. plain (share_is x)) e)
-
--- 10: whether the two cabinets outlive two losses
-pub two_losses_carried : (shape : Shape) (a b : ℕ) (old new : List ℕ) (outlived : Bool) → TwoLossesTold shape a b old new outlived
-    → Carried shape (two_losses a b) old new (R.Found (F.Outlived outlived))
-unfolding addition addition_of recording recording_of facts asks finding_answer reply_answer shape_after answer answer_to
-two_losses_carried shape a b old new outlived found =
-    record {
-      holds = found.holds;
-      agrees = agree_of_equal (found.state_is ∙ sym (leaves shape (two_losses a b) refl refl (state_of shape old)));
-      answer_is = ap (λ x. plain (two_outlived x)) found.answer_is;
-      fits = tt;
-      same_beyond = found.same_beyond;
-    }
 
 -- changes that the table has written down, as notices of a kind, are the paper's changes of that kind
 kind_notices : (kind : Kind) (at : ℕ → Change) (k : ℕ) (old new : List ℕ) → tabulate k at ≡ changes_between old new

@@ -46,12 +46,6 @@ unfolding number_of first_that_applies refusal_number
 span_line true = refl
 span_line false = refl
 
-pair-lines : (a b : Bool) → first_of (cond a 0 6) (cond b 0 6) ≡ table (line (not (a && (b && true))) unknown_cabinet ∷ [])
-unfolding first_of number_of first_that_applies refusal_number
-pair-lines false b = refl
-pair-lines true false = refl
-pair-lines true true = refl
-
 different_lines : (a b same : Bool) → first_of (first_of (cond a 0 6) (cond b 0 6)) (cond same 8 0)
     ≡ table (line (not (a && (b && true))) unknown_cabinet ∷ line (not (not same && true)) equal_cabinets ∷ [])
 unfolding first_of number_of first_that_applies refusal_number
@@ -140,7 +134,6 @@ judged shape t (O.RoutesBetween a b) =
 judged shape t (O.RecordLength s measure) = rw (edges_held shape t) (span_line (ltb s.0 shape.edges))
 judged shape t (O.SpanLength s) = rw (edges_held shape t) (span_line (ltb s.0 shape.edges))
 judged shape t O.ExchangeShare = refl
-judged shape t (O.TwoLosses a b) = rw (vertices_held shape t) (pair-lines (ltb a.0 shape.vertices) (ltb b.0 shape.vertices))
 
 -- a test that refuses or passes has passed where it gives 0
 test_passed : (b : Bool) {number : ℕ} → (number ≡ 0 → ⊥) → cond b 0 number ≡ 0 → b ≡ true

@@ -92,7 +92,6 @@ finding_counted shape t (F.Routes lengths) =
 finding_counted shape t F.Recorded = refl
 finding_counted shape t (F.Measured kept) = length_told_lem kept
 finding_counted shape t (F.Share share) = refl
-finding_counted shape t (F.Outlived outlived) = refl
 
 -- the answer that a reply is has as many bytes as are counted for it
 pub reply_counted : (shape : Shape) (t : List ℕ) (reply : Reply) → length (answer_bytes (reply_answer shape t reply)) ≡ reply_size reply

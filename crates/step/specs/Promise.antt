@@ -6,7 +6,7 @@ use Rattle.naming.specs.Lookup as Paper
 use Rattle.naming.specs.State.{Agree}
 use Rattle.commands.specs.Field.{Kind, district, ring, mesh}
 use Rattle.commands.specs.Command.{Command}
-use Rattle.commands.specs.Answer.{Notice, change_notice, Plain, district_is, ring_is, mesh_shared, no_mesh_shared, sole_spans_are, cut_cabinets_are, sole_is, exchange_marked, exchange_held, routes_are, length_recorded, length_is, no_length, share_is, two_outlived, Answer, cabinet_added, span_added, plain}
+use Rattle.commands.specs.Answer.{Notice, change_notice, Plain, district_is, ring_is, mesh_shared, no_mesh_shared, sole_spans_are, cut_cabinets_are, sole_is, exchange_marked, exchange_held, routes_are, length_recorded, length_is, no_length, share_is, Answer, cabinet_added, span_added, plain}
 use Rattle.commands.specs.Facts.{after, answer}
 use Rattle.commands.specs.Refusal.{Refusal, refusal_number, Capacities, refusal_of}
 use Rattle.commands.specs.Register.{register_routes}
@@ -102,7 +102,6 @@ finding_answer shape t (F.Routes lengths) = routes_told shape t lengths
 finding_answer shape t F.Recorded = length_recorded
 finding_answer shape t (F.Measured length) = length_told length
 finding_answer shape t (F.Share share) = share_is share
-finding_answer shape t (F.Outlived outlived) = two_outlived outlived
 
 unfoldable pub reply_answer : Shape → List ℕ → Reply → Answer
 reply_answer shape t (R.Cabinet a) = cabinet_added a.0
@@ -121,7 +120,6 @@ finding_size (F.Routes lengths) = 5 + 2 * (lengths.first + lengths.second)
 finding_size F.Recorded = 1
 finding_size (F.Measured length) = 4
 finding_size (F.Share share) = 3
-finding_size (F.Outlived outlived) = 2
 
 unfoldable pub reply_size : Reply → ℕ
 reply_size (R.Cabinet a) = 3

@@ -1,7 +1,7 @@
 // Carrying out a command that meets no refusal: what becomes of the table, and what is to be answered.
 ghost use Rattle.std.specs.Prelude.{true, false, ◌≡◌, ◌<◌};
 ghost use Rattle.graph.specs.Groups.{component, bridge_block};
-ghost use Rattle.commands.specs.Command.{add_cabinet, shared_mesh, sole_spans, cut_cabinets, is_sole, mark_exchange, holds_exchange, routes_between, record_length, span_length, exchange_share, two_losses};
+ghost use Rattle.commands.specs.Command.{add_cabinet, shared_mesh, sole_spans, cut_cabinets, is_sole, mark_exchange, holds_exchange, routes_between, record_length, span_length, exchange_share};
 ghost use Rattle.forest.specs.Promise.{Holds, state_of, network_in};
 ghost use Rattle.reading.specs.Inside.Reads.{span_command, meaning};
 ghost use Rattle.step.specs.Inside.Judged.{judgement};
@@ -17,7 +17,6 @@ use forest::{
 use numbers::{Duct, Edge, Measure, Vertex};
 use reading::read::{Lay, Order};
 use routes::find;
-use routes::losses::outlive_two;
 
 // 01: add a cabinet.
 fn add_cabinet(t: &mut [u32], shape: Shape) -> Reply
@@ -146,15 +145,6 @@ fn exchange_share(t: &[u32], shape: Shape) -> Reply
     Reply::Found(Finding::Share(share))
 }
 
-// 10: whether two cabinets outlive two losses.
-fn two_losses(t: &mut [u32], shape: Shape, a: Vertex, b: Vertex) -> Reply
-    requires { Holds shape t.old × (a.0 < shape.vertices) × (b.0 < shape.vertices) }
-    ensures { Carried shape (two_losses a.0 b.0) t.old t.new result }
-{
-    let outlived = outlive_two(t, shape, a, b);
-    Reply::Found(Finding::Outlived(outlived))
-}
-
 // A command that meets no refusal.
 pub(crate) fn carry_out(t: &mut [u32], shape: Shape, order: Order) -> Reply
     requires { Holds shape t.old × (judgement shape t.old order ≡ 0) }
@@ -175,6 +165,5 @@ pub(crate) fn carry_out(t: &mut [u32], shape: Shape, order: Order) -> Reply
         Order::RecordLength(s, measure) => record_length(t, shape, s, measure),
         Order::SpanLength(s) => span_length(t, shape, s),
         Order::ExchangeShare => exchange_share(t, shape),
-        Order::TwoLosses(a, b) => two_losses(t, shape, a, b),
     }
 }

@@ -149,6 +149,5 @@ pub(crate) fn judge(t: &[u32], shape: Shape, order: Order) -> u32
         Order::RecordLength(s, _measure) => span_refusal(shape, s),
         Order::SpanLength(s) => span_refusal(shape, s),
         Order::ExchangeShare => 0,
-        Order::TwoLosses(a, b) => pair_refusal(shape, a, b),
     }
 }

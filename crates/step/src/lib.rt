@@ -23,10 +23,9 @@ pub enum Listed {
     Cabinets,
 }
 
-// What a command that adds nothing is answered with: a cabinet's district or ring, by its name and size; a shared mesh; a list, by its
-// length; whether a span is sole; that a cabinet is marked; whether a ring holds an exchange; two routes, by their lengths; that a length is
-// recorded; a span's length; a share in thousandths; whether two cabinets outlive two losses. A list and the routes stand in the table until
-// the next command.
+// What a command that adds nothing is answered with: a cabinet's district or ring, by its name and size; a shared mesh; a list, by its length;
+// whether a span is sole; that a cabinet is marked; whether a ring holds an exchange; two routes, by their lengths; that a length is recorded; a span's
+// length; a share in thousandths. A list and the routes stand in the table until the next command.
 #[derive(Drop)]
 pub enum Finding {
     Group(VertexGroups, Group),
@@ -39,7 +38,6 @@ pub enum Finding {
     Recorded,
     Measured(Length),
     Share(u32),
-    Outlived(bool),
 }
 
 // What is to be answered: a new cabinet; a new span with the names that it changed, which stand in the table until the next command; or what a
@@ -73,7 +71,6 @@ fn finding_size(finding: Finding) -> usize
         Finding::Recorded => 1,
         Finding::Measured(_length) => 4,
         Finding::Share(_share) => 3,
-        Finding::Outlived(_outlived) => 2,
     }
 }
 

@@ -5,10 +5,10 @@ ghost use Rattle.table.specs.Inside.Layout.{place, cell, put, vertex_area, bridg
 
 use numbers::Limits;
 
-// How many words each vertex takes, and each edge. Behind the columns that are named below, these have columns that hold nothing.
-pub const WORDS_PER_VERTEX: u32 = 32;
+// How many words each vertex takes, and each edge.
+pub const WORDS_PER_VERTEX: u32 = 24;
 
-pub const WORDS_PER_EDGE: u32 = 15;
+pub const WORDS_PER_EDGE: u32 = 8;
 
 // The columns of each kind of group: an item's name; by a name, the range of its group's items; the items that changed their name; by a
 // name, its group's size. From SIZE on, up to the last column of the kind, merging adds up what groups have.

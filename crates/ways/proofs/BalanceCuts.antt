@@ -1,6 +1,6 @@
 -- What balance says of the ways from a to b: while some way is carried the used edges lead on to b; where no step of one way more leaves
 -- a set, the loss of as many edges as ways are carried parts a and b; and the loss of fewer does not.
-use mathlib.Core.Bool.{Bool, true, false, not, ◌&&◌, false≢true}
+use mathlib.Core.Bool.{Bool, true, false, not, cond, ◌&&◌, false≢true}
 use mathlib.Core.List.{List, [], ◌∷◌}
 use mathlib.Core.Logic.{◌⊎◌, inl, inr, ⊎_elim, Equivalence}
 use mathlib.Core.Path.{◌≡◌, refl, sym, ◌∙◌, ap, subst}
@@ -11,22 +11,20 @@ use lib.ListN.{length}
 use Rattle.graph.specs.Below.{any_below, count, listed}
 use Rattle.graph.specs.Lists.{is_in}
 use Rattle.graph.specs.Network.{Network, Loss, MateRule, edge, edge_count, touches, other_end, mates, nothing, joined}
-use Rattle.graph.specs.EdgeConnected.{loss_of_all}
 use Rattle.graph.specs.Cycle.{joins}
 use Rattle.graph.proofs.Truth.{true_or_false, false_of_not, not_both, bool_ext, not_of_false, false_of_not_true, true_of_not_false}
 use Rattle.graph.proofs.Truth.{and_left, and_right, and_both, or_cases, or_right, or_neither_left, eqb_eq, eqb_ne, eq-eqb, lt-ltb}
 use Rattle.graph.proofs.Below.{Below, any_below_lem, some_below, count_same, count_none}
-use Rattle.graph.proofs.Members.{is_in-listed}
+use Rattle.graph.proofs.Members.{is_in_cases, is_in-listed}
 use Rattle.graph.proofs.Places.{length-listed-count}
 use Rattle.graph.proofs.Joined.{joined_refl, joined_trans, joined_least}
-use Rattle.graph.proofs.Outlives.{lost_with}
 use Rattle.graph.proofs.Mates.{mates_sym, mates_trans}
 use Rattle.graph.proofs.Ends.{touches_left, touches_right, other_end-touches}
 use Rattle.graph.proofs.Walks.{joins-joined, joins-ends, joins_swap}
 use Rattle.graph.proofs.Joins.{joins_back, joins-touches, joins_other, touches-joins, touches_no_third, other_end_back}
 use Rattle.graph.proofs.MateEdges.{mates-joins}
 use Rattle.ways.specs.Used.{Used, is_used, mate_used, one_more, Usable}
-use Rattle.ways.specs.Balance.{Set, used_from, used_to, leaves, enters, leaving, entering, Balanced}
+use Rattle.ways.specs.Balance.{Set, used_from, used_to, leaves, enters, leaving, entering, Balanced, loss_of_all}
 use Rattle.ways.proofs.Balance.{count_change, used_from_is}
 
 -- three tests that all hold
@@ -66,6 +64,18 @@ module _ (g : Network) (u : Used) (a b : ℕ) where
       none : leaving g u set ≡ 0
       none = count_none (edge_count g) (leaves g u set) (λ s h. false_of_not (leaves g u set s) (λ e.
           let l = leaving-facts g u set s e in not_both (shut s l.0 l.1) l.2))
+
+-- an edge is lost with any edge of a list that it is a mate of
+lost_with : (g : Network) (ss : List ℕ) (s t : ℕ) → is_in s ss ≡ true → mates g s t ≡ true → loss_of_all g ss t ≡ true
+unfolding loss_of_all is_in
+lost_with g [] s t i m = absurd (false≢true i)
+lost_with g (r ∷ ss) s t i m = go (mates g r t) refl (is_in_cases s r ss i) (lost_with g ss s t)
+  where
+    go : (c : Bool) → mates g r t ≡ c → (s ≡ r) ⊎ (is_in s ss ≡ true) → (is_in s ss ≡ true → mates g s t ≡ true → loss_of_all g ss t ≡ true)
+        → cond c true (loss_of_all g ss t) ≡ true
+    go true e k f = refl
+    go false e (inl q) f = absurd (not_both (rw q at m) e)
+    go false e (inr k) f = f k m
 
 -- as many used edges as ways are carried, whose loss parts a and b
 pub record UsedCut (g : Network) (u : Used) (a b k : ℕ) : Type 0 where

@@ -1,7 +1,7 @@
 -- Balance: how many used edges leave a set of vertices more than enter it.
-use Rattle.std.specs.Prelude.{Bool, true, false, not, cond, ◌&&◌, ◌≡◌, ℕ, ◌+◌, ◌-◌}
+use Rattle.std.specs.Prelude.{Bool, true, false, not, cond, ◌&&◌, List, [], ◌∷◌, ◌≡◌, ℕ, ◌+◌, ◌-◌}
 use Rattle.graph.specs.Below.{count}
-use Rattle.graph.specs.Network.{Network, edge, edge_count, other_end}
+use Rattle.graph.specs.Network.{Network, Loss, edge, edge_count, other_end, mates, nothing}
 use Rattle.ways.specs.Used.{Used, is_used}
 
 -- A set of vertices.
@@ -41,3 +41,8 @@ Balanced g u a b k = (set : Set) → set a ≡ true → set b ≡ false → leav
 abbrev pub Move : Network → Used → Used → ℕ → ℕ → Type 0
 Move g u u' x y =
     (set : Set) → leaving g u' set + entering g u set + inside set y ≡ leaving g u set + entering g u' set + inside set x
+
+-- The loss of edges, each with its mates.
+unfoldable pub loss_of_all : Network → List ℕ → Loss
+loss_of_all g [] = nothing
+loss_of_all g (s ∷ ss) = λ t. cond (mates g s t) true (loss_of_all g ss t)

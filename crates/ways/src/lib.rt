@@ -1,1 +1,1 @@
-// Ways over steps that are allowed: the search for one, sets of them in balance, how many are found one after another and how many losses two vertices then outlive, and the two routes that this register gives. Definitions in specs/, laws in proofs/, no code.
+// Ways over steps that are allowed: the search for one, sets of them in balance, and the two routes that this register gives. Definitions in specs/, laws in proofs/, no code.

@@ -45,7 +45,6 @@ fn write_finding(t: &[u32], shape: Shape, out: &mut [u8], finding: Finding)
         Finding::Recorded => write_code(out, 0x8D),
         Finding::Measured(length) => write_length(out, length),
         Finding::Share(share) => write_number(out, 0x8F, share),
-        Finding::Outlived(outlived) => write_flag(out, 0x90, outlived as u8),
     }
 }
 

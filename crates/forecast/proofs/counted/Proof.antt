@@ -1,5 +1,4 @@
 -- `counted` counts a command by its byte.
-use Prim.Native.Nat.{◌-◌}
 use native.Mathlib.Omega.{arith}
 use Rattle.graph.proofs.Truth.{ne_eqb}
 use Rattle.forecast.specs.Inside.Tallies.{counted_by, spans_of, bytes_of, spanlists_of, cabinetlists_of}
@@ -13,9 +12,6 @@ add-next c = search rules
 
 add-next-2 : tie.Need-overflow-add-next-2
 add-next-2 c = search rules
-
-sub-k : tie.Need-overflow-sub-k
-sub-k c = search rules
 
 entry-of-requires : tie.Need-entry-of-requires
 entry-of-requires c κs = search rules
@@ -32,12 +28,12 @@ entry-of-requires-4 c κs = search rules
 entry-more-requires : tie.Need-entry-more-requires
 entry-more-requires c κs =
     let s = c.before.before.before.before.before in
-    let k = s.args.byte - 1 in (
+    let byte = s.args.byte in (
       s.requires.0,
-      omega (arith, entry_few spans_of k, c.before.before.before.entry_of.ensures),
-      omega (arith, entry_few bytes_of k, c.before.before.entry-of2.ensures),
-      omega (arith, entry_few spanlists_of k, c.before.entry-of3.ensures),
-      omega (arith, entry_few cabinetlists_of k, c.entry-of4.ensures),
+      omega (arith, entry_few spans_of byte, c.before.before.before.entry_of.ensures),
+      omega (arith, entry_few bytes_of byte, c.before.before.entry-of2.ensures),
+      omega (arith, entry_few spanlists_of byte, c.before.entry-of3.ensures),
+      omega (arith, entry_few cabinetlists_of byte, c.entry-of4.ensures),
     )
 
 returns : tie.Need-returns
@@ -73,7 +69,6 @@ counted_spec =
     (tie.spec
     add-next
     add-next-2
-    sub-k
     entry-of-requires
     entry-of-requires-2
     entry-of-requires-3

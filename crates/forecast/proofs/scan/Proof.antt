@@ -69,11 +69,15 @@ unfolding passing_of
 counted-requires c κs =
     let at-passed = c.before in
     let at-passed-at = at-passed.before.before in
-    let at-loop = at-passed-at.before.before in
-    let in_tables =
-    byte_here_lem at-loop.loop.invariant (omega arith) _ _ (sym (ap passing_of at-passed.passed.given.1) ∙ at-passed-at.passed_at.ensures)
-    in
-    (omega (arith, at-loop.loop.invariant.few), in_tables.0, in_tables.1)
+    let at-loop = at-passed-at.before.before in (
+      omega (arith, at-loop.loop.invariant.few),
+      byte_here_lem
+          at-loop.loop.invariant
+          (omega arith)
+          _
+          _
+          (sym (ap passing_of at-passed.passed.given.1) ∙ at-passed-at.passed_at.ensures),
+    )
 
 place-after-requires : tie.Need-place-after-requires invariant-loop decreases-loop
 unfolding passing_of

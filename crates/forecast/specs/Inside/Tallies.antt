@@ -1,5 +1,5 @@
 -- The tally of the commands of a journal: what is counted at each command, and the length that it comes to.
-use Rattle.std.specs.Prelude.{cond, List, map, ◌≡◌, ℕ, suc, ◌+◌, ◌-◌, ◌*◌, ◌≤◌, eqb, length, drop}
+use Rattle.std.specs.Prelude.{cond, List, map, ◌≡◌, ℕ, suc, ◌+◌, ◌*◌, ◌≤◌, eqb, length, drop}
 use Rattle.std.proofs.Math.Option.{none, some}
 use Rattle.commands.specs.Command.{Command}
 use Rattle.commands.specs.Facts.{Facts, addition_of}
@@ -41,19 +41,19 @@ entry_more spans n spanlists cabinetlists t =
       cabinetlists = t.cabinetlists + cabinetlists;
     }
 
--- By the byte of a command, from 01 on, the entries of 01 and 02 being 0: the spans that it adds; of the answer to one that adds nothing,
--- the bytes, the lists of spans and the lists of cabinets.
+-- By the byte of a command other than 01 and 02: the spans that it adds; of the answer to one that adds nothing, the bytes, the lists of
+-- spans and the lists of cabinets.
 abbrev pub spans_of : ℕ
-spans_of = 0x0000010000000000
+spans_of = 0x0000100000000000
 
 abbrev pub bytes_of : ℕ
-bytes_of = 0x2341502123345500
+bytes_of = 0x3415021233455000
 
 abbrev pub spanlists_of : ℕ
-spanlists_of = 0x0000100000100000
+spanlists_of = 0x0001000001000000
 
 abbrev pub cabinetlists_of : ℕ
-cabinetlists_of = 0x0000000001000000
+cabinetlists_of = 0x0000000010000000
 
 -- A command more, by its byte.
 unfoldable pub counted_by : ℕ → Tally → Tally
@@ -64,7 +64,7 @@ counted_by byte t =
     (cond
     (eqb byte 2)
     (span_more t)
-    (let k = byte - 1 in entry_more (entry_of spans_of k) (entry_of bytes_of k) (entry_of spanlists_of k) (entry_of cabinetlists_of k) t))
+    (entry_more (entry_of spans_of byte) (entry_of bytes_of byte) (entry_of spanlists_of byte) (entry_of cabinetlists_of byte) t))
 
 -- The greatest lengths of the answers to the commands that add nothing, with c cabinet and s span commands.
 unfoldable pub plain_length : ℕ → ℕ → Tally → ℕ

@@ -24,7 +24,6 @@ Fits (O.RoutesBetween a b) = (a.0 < 65536) × (b.0 < 65536)
 Fits (O.RecordLength s measure) = s.0 < 65536
 Fits (O.SpanLength s) = s.0 < 65536
 Fits O.ExchangeShare = Unit
-Fits (O.TwoLosses a b) = (a.0 < 65536) × (b.0 < 65536)
 
 -- The bytes of the commands from a place of a journal on, raised.
 abbrev pub raised_from : Counts → List ℕ → ℕ → List ℕ

@@ -13,7 +13,17 @@ use Rattle.journal.proofs.count_answers.Tie as tie
 begun : (c : tie.Else1)
     → let s = c.before.before.before.before in
     Begins (record { cabinets = s.args.c; spans = s.args.s }) (length s.args.journal.now) (length s.args.work.now) 6
-begun c = begins c.before.start-refusal.ensures (omega (arith, c.if1.false))
+begun c =
+    let at-start-refusal = c.before in
+    let s = at-start-refusal.before.before.before in
+    begins
+    (record { cabinets = s.args.c; spans = s.args.s })
+    s.args.journal.now
+    (length s.args.work.now)
+    6
+    at-start-refusal.start-refusal.result
+    at-start-refusal.start-refusal.ensures
+    (omega (arith, c.if1.false))
 
 start-refusal-requires : tie.Need-start-refusal-requires
 start-refusal-requires c κs = search rules

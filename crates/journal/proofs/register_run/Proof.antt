@@ -28,7 +28,17 @@ begun : (c : tie.Else1)
     (length s.args.journal.now)
     (length s.args.work.now)
     (length s.args.report.now)
-begun c = begins c.before.start-refusal.ensures (omega (arith, c.if1.false))
+begun c =
+    let at-start-refusal = c.before in
+    let s = at-start-refusal.before.before.before.before.before in
+    begins
+    (record { cabinets = s.args.c; spans = s.args.s })
+    s.args.journal.now
+    (length s.args.work.now)
+    (length s.args.report.now)
+    at-start-refusal.start-refusal.result
+    at-start-refusal.start-refusal.ensures
+    (omega (arith, c.if1.false))
 
 start-refusal-requires : tie.Need-start-refusal-requires
 start-refusal-requires c κs = search rules

@@ -1,7 +1,7 @@
 -- What reading a command gives: the paper's value for each case of the code's answer.
 use Rattle.std.specs.Prelude.{cond, ◌⊎◌, ◌≡◌, ℕ, ◌*◌, ◌/◌, ◌%◌, ◌^◌, eqb}
 use Rattle.std.proofs.Math.Option.{Option, none, some}
-use Rattle.commands.specs.Command.{Command, add_cabinet, add_span, district_name, ring_name, shared_mesh, sole_spans, cut_cabinets, is_sole, mark_exchange, holds_exchange, add_duct_span, routes_between, record_length, span_length, exchange_share, two_losses, Form, unknown, takes, form, Reading, unknown_byte, cut_off, command}
+use Rattle.commands.specs.Command.{Command, add_cabinet, add_span, district_name, ring_name, shared_mesh, sole_spans, cut_cabinets, is_sole, mark_exchange, holds_exchange, add_duct_span, routes_between, record_length, span_length, exchange_share, Form, unknown, takes, form, Reading, unknown_byte, cut_off, command}
 use Rattle.reading.specs.declared.read.Lay.{Lay}
 use Rattle.reading.specs.declared.read.Lay.TheVariants as L
 use Rattle.reading.specs.declared.read.Order.{Order}
@@ -32,7 +32,6 @@ meaning (O.RoutesBetween a b) = routes_between a.0 b.0
 meaning (O.RecordLength s measure) = record_length s.0 measure.day measure.metres
 meaning (O.SpanLength s) = span_length s.0
 meaning O.ExchangeShare = exchange_share
-meaning (O.TwoLosses a b) = two_losses a.0 b.0
 
 -- What was read: an unknown byte is refusal 4, cut-off operands are refusal 5.
 unfoldable pub reading_of : Taken → Reading
@@ -45,7 +44,7 @@ abbrev pub OneOperand : ℕ → Type 0
 OneOperand byte = (byte ≡ 3) ⊎ ((byte ≡ 4) ⊎ ((byte ≡ 8) ⊎ ((byte ≡ 9) ⊎ ((byte ≡ 10) ⊎ (byte ≡ 14)))))
 
 abbrev pub TwoOperands : ℕ → Type 0
-TwoOperands byte = (byte ≡ 2) ⊎ ((byte ≡ 5) ⊎ ((byte ≡ 6) ⊎ ((byte ≡ 7) ⊎ ((byte ≡ 12) ⊎ (byte ≡ 16)))))
+TwoOperands byte = (byte ≡ 2) ⊎ ((byte ≡ 5) ⊎ ((byte ≡ 6) ⊎ ((byte ≡ 7) ⊎ (byte ≡ 12))))
 
 abbrev pub ThreeOperands : ℕ → Type 0
 ThreeOperands byte = (byte ≡ 11) ⊎ (byte ≡ 13)
@@ -74,9 +73,13 @@ form_width (takes n make) = some (2 * n)
 unfoldable pub entry_of : ℕ → ℕ → ℕ
 entry_of table k = table / 2 ^ (k * 4) % 16
 
--- The number of the operands' bytes by the command byte, from 01 on.
+-- The number of the operands' bytes by the command byte, from 00 on; 15 where the byte is no command's.
 abbrev pub widths : ℕ
-widths = 0x4026462224442240
+widths = 0x026462224442240F
+
+-- What an entry of the table says.
+unfoldable pub entryWidth : ℕ → Option ℕ
+entryWidth entry = cond (eqb entry 15) none (some entry)
 
 -- What is known of a reading where the operands are passed over: of a command its byte and the number of its operands' bytes.
 pub data Passing : Type 0 where

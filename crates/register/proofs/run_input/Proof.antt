@@ -30,7 +30,7 @@ register-run-requires c κs = search rules
 -- the buffers that are lent
 abbrev lent : tie.After-work → Buffers
 lent c =
-    record { work = replicate 15936 0; answers = take 65536 c.before.before.before.args.output.now; report = replicate 6 0 }
+    record { work = replicate 10304 0; answers = take 65536 c.before.before.before.args.output.now; report = replicate 6 0 }
 
 -- what the entry leaves gives the program's output
 outputs : (c : tie.After-register-run)
@@ -44,7 +44,7 @@ outputs c =
     (lent c.before.before.before)
     c.register-run.result
     (record { work = last.0; answers = last.1.0; report = last.1.1.0 })
-    (length-replicate {A = ℕ} 15936 0)
+    (length-replicate {A = ℕ} 10304 0)
     (length-take-le 65536 c.before.before.before.before.before.before.args.output.now (omega arith))
     refl
     c.register-run.ensures

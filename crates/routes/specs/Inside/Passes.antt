@@ -1,11 +1,10 @@
 -- A search, and what becomes of the way that it finds.
-use Rattle.std.specs.Prelude.{Bool, true, false, ◌||◌, List, ◌≡◌, ℕ, eqb}
+use Rattle.std.specs.Prelude.{true, false, ◌||◌, List, ◌≡◌, ℕ, eqb}
 use Rattle.graph.specs.Lists.{is_in}
 use Rattle.graph.specs.Network.{Network}
 use Rattle.ways.specs.Search.{search, way}
 use Rattle.ways.specs.Used.{Used, way_taken, Usable, WayFits}
-use Rattle.ways.specs.TwoRoutes.{edges_of, with_one_more}
-use Rattle.ways.specs.WaysFound.{more_found}
+use Rattle.ways.specs.TwoRoutes.{edges_of}
 use Rattle.forest.specs.declared.Shape.{Shape}
 use Rattle.forest.specs.Promise.{network_in}
 use Rattle.routes.specs.declared.search.Allowance.{Allowance}
@@ -36,10 +35,3 @@ pub record PassTaken (shape : Shape) (allowance : Allowance) (a b : ℕ) (old ne
   pub taken : (g : Network) (u : Used) → network_in shape old ≡ g → Listed shape g u old → Usable g u
       → is_in a (search g (allowed_by g u allowance) b).order ≡ true → WayFits g u a (way g (allowed_by g u allowance) a b)
       → Listed shape g (way_taken u a (way g (allowed_by g u allowance) a b)) new
-
--- One way more from a to b is searched for, and taken where there is one; it is told whether there is.
-pub record MoreTaken (shape : Shape) (a b : ℕ) (old new : List ℕ) (answer : Bool) : Type 0 where
-  pub only : Only shape taken_only old new
-  pub told : (g : Network) (u : Used) → network_in shape old ≡ g → Listed shape g u old → Usable g u → answer ≡ more_found g a b u
-  pub taken : (g : Network) (u : Used) → network_in shape old ≡ g → Listed shape g u old → Usable g u → more_found g a b u ≡ true
-      → Listed shape g (with_one_more g a b u) new

@@ -83,10 +83,8 @@ pub record WayStands (shape : Shape) (g : Network) (allowed : Allowed) (a b : �
   pub reached : is_in a so_far.order ≡ true
   pub same_way : way_by so_far.links a ≡ way g allowed a b
 
--- A search for a way from a to b, which may end as soon as a is reached: then the way stands. The word of a tells whether it is.
+-- A search for a way from a to b, which may end as soon as a is reached.
 pub record Searched (shape : Shape) (allowance : Allowance) (a b : ℕ) (old new : List ℕ) : Type 0 where
   pub only : Only shape search_only old new
-  pub told : (g : Network) (u : Used) → network_in shape old ≡ g → Listed shape g u old → Usable g u → a < shape.vertices
-      → is_in a (search g (allowed_by g u allowance) b).order ≡ not (eqb (vertex_scratch shape new next_column a) 0)
   pub found : (g : Network) (u : Used) → network_in shape old ≡ g → Listed shape g u old → Usable g u
       → is_in a (search g (allowed_by g u allowance) b).order ≡ true → WayStands shape g (allowed_by g u allowance) a b new

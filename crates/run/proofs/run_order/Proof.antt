@@ -4,7 +4,7 @@ use Rattle.commands.proofs.TextAt.{operands_stand}
 use Rattle.forest.specs.Promise.{few_vertices, few_edges}
 use Rattle.reading.specs.Inside.Reads.{meaning}
 use Rattle.run.proofs.Course.{ends-with_answers}
-use Rattle.run.proofs.Further.{CarriedOut, was_done, step_refused_on}
+use Rattle.run.proofs.Further.{was_done, step_refused_on}
 use Rattle.run.proofs.FurtherAnswered.{answered_on}
 use borrow.Author.Rules.{rules}
 use Rattle.run.proofs.run_order.Statement.{statement}
@@ -33,22 +33,23 @@ refuse-requires c κs = search rules
 enum-known-stepped-2 : tie.Need-enum-known-stepped-2
 enum-known-stepped-2 c = search rules
 
--- the command was carried out
-done : (c : tie.After-stepped2)
-    → let at-step = c.before.before.before.before in
-    let s = at-step.before.before.before.before.before.before.before in
-    CarriedOut s.args.p.shape (meaning s.args.order) s.args.work.now at-step.step.new.0 c.stepped2.given.0.0
-done c =
-    let at-step = c.before.before.before.before in
-    was_done _ _ _ _ _ (rw c.stepped2.given.1 at at-step.step.ensures)
-
 answer-requires : tie.Need-answer-requires
 answer-requires c κs =
     let at-stepped2 = c.before.before.before in
-    let s = at-stepped2.before.before.before.before.before.before.before.before.before.before.before in
+    let g = at-stepped2.stepped2.given in
+    let at-step = at-stepped2.before.before.before.before in
+    let s = at-step.before.before.before.before.before.before.before in
     let under = s.requires.underway in
+    let done =
+    was_done
+    s.args.p.shape
+    (meaning s.args.order)
+    s.args.work.now
+    at-step.step.new.0
+    g.0.0
+    (rw g.1 at at-step.step.ensures) in
     record {
-      fits = (done at-stepped2).carried.ranges;
+      fits = done.carried.fits;
       few_cabinets = few_vertices s.args.p.shape s.args.work.now under.going.holds;
       few_spans = few_edges s.args.p.shape s.args.work.now under.going.holds;
       written_fits = under.going.written_fits;
@@ -84,12 +85,20 @@ returns-2 : tie.Need-returns-2
 returns-2 c =
     let at-answer = c.before.before in
     let at-stepped2 = at-answer.before.before.before.before in
-    let at-place-after = at-stepped2.before.before.before.before.before.before in
+    let g = at-stepped2.stepped2.given in
+    let at-step = at-stepped2.before.before.before.before in
+    let at-place-after = at-step.before.before in
     let s = at-place-after.before.before.before.before.before in
     answered_on
     s.requires.underway
     s.requires.reads
-    (done at-stepped2)
+    (was_done
+    s.args.p.shape
+    (meaning s.args.order)
+    s.args.work.now
+    at-step.step.new.0
+    g.0.0
+    (rw g.1 at at-step.step.ensures))
     (rw at-place-after.place_after.ensures at at-answer.answer.ensures)
     at-answer.answer.auto.1.0
 

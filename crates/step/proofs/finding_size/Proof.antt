@@ -58,9 +58,6 @@ enum-known-finding-7 c = search rules
 enum-known-finding-8 : tie.Need-enum-known-finding-8
 enum-known-finding-8 c = search rules
 
-enum-known-finding-9 : tie.Need-enum-known-finding-9
-enum-known-finding-9 c = search rules
-
 returns : tie.Need-returns
 unfolding finding_size
 returns c = rw c.before.finding.given.1
@@ -101,10 +98,6 @@ returns-10 : tie.Need-returns-10
 unfolding finding_size
 returns-10 c = rw c.before.finding8.given.1
 
-returns-11 : tie.Need-returns-11
-unfolding finding_size
-returns-11 c = rw c.before.finding9.given.1
-
 pub finding-size-spec : {M : Type 1} → statement M
 finding-size-spec =
     tie.close
@@ -127,7 +120,6 @@ finding-size-spec =
     enum-told-2
     enum-known-finding-7
     enum-known-finding-8
-    enum-known-finding-9
     returns
     returns-2
     returns-3
@@ -137,5 +129,4 @@ finding-size-spec =
     returns-7
     returns-8
     returns-9
-    returns-10
-    returns-11)
+    returns-10)

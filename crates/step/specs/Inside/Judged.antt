@@ -60,4 +60,3 @@ judgement shape t (O.RoutesBetween a b) = ring_refusal shape t a.0 b.0
 judgement shape t (O.RecordLength s measure) = span_refusal shape s.0
 judgement shape t (O.SpanLength s) = span_refusal shape s.0
 judgement shape t O.ExchangeShare = 0
-judgement shape t (O.TwoLosses a b) = pair_refusal shape a.0 b.0

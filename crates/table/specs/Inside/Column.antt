@@ -2,13 +2,12 @@
 -- (src/words.rt).
 use Rattle.std.specs.Prelude.{ℕ, ◌+◌}
 
--- How many columns the vertices have, and the edges: so many words each vertex takes, and each edge. Behind the columns that are named
--- below, these have columns that hold nothing.
+-- How many columns the vertices have, and the edges: so many words each vertex takes, and each edge.
 abbrev pub per_vertex : ℕ
-per_vertex = 32
+per_vertex = 24
 
 abbrev pub per_edge : ℕ
-per_edge = 15
+per_edge = 8
 
 -- The columns of each kind of group: an item's name; by a name, the range of its group's items; the items that changed their name; by a
 -- name, its group's size. From the size on, up to the last column of the kind, merging adds up what groups have.

@@ -95,15 +95,6 @@ write-number-requires c κs =
     let s = c.before.before.before.before.before.before in
     rw c.before.before.finding8.given.1 at s.requires
 
-enum-known-finding-9 : tie.Need-enum-known-finding-9
-enum-known-finding-9 c = search rules
-
-cast-write-flag-3 : tie.Need-overflow-cast-write-flag-3
-cast-write-flag-3 c = search rules
-
-write-flag-requires-3 : tie.Need-write-flag-requires-3
-write-flag-requires-3 c κs = search rules
-
 same_length : tie.Need-same-length
 same_length c = search rules
 
@@ -197,15 +188,6 @@ returns-10 c =
     let at-write-number = c.before.before in
     rw at-write-number.before.before.before.finding8.given.1 at-write-number.write-number.ensures
 
-same-length-11 : tie.Need-same-length-11
-same-length-11 c = search rules
-
-returns-11 : tie.Need-returns-11
-unfolding finding_answer answer_bytes answer_fields plain_fields fields_bytes field_bytes two_bytes
-returns-11 c =
-    let at-write-flag3 = c.before.before in
-    rw (at-write-flag3.before.before.before.finding9.given.1, ← flag_byte _) at-write-flag3.write-flag3.ensures
-
 pub write-finding-spec : {M : Type 1} → statement M
 write-finding-spec =
     tie.close
@@ -233,9 +215,6 @@ write-finding-spec =
     write-length-requires
     enum-known-finding-8
     write-number-requires
-    enum-known-finding-9
-    cast-write-flag-3
-    write-flag-requires-3
     same_length
     returns
     same-length-2
@@ -255,6 +234,4 @@ write-finding-spec =
     same-length-9
     returns-9
     same-length-10
-    returns-10
-    same-length-11
-    returns-11)
+    returns-10)

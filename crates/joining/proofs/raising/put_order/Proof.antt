@@ -137,16 +137,6 @@ enum-told-2 c = search rules
 put-byte-requires-2 : tie.Need-put-byte-requires-2
 put-byte-requires-2 c κs = search rules
 
-enum-known-order-13 : tie.Need-enum-known-order-13
-enum-known-order-13 c = search rules
-
-put-pair-requires-5 : tie.Need-put-pair-requires-5
-unfolding two_bytes
-put-pair-requires-5 c κs =
-    let at-known = c.before.before in
-    let s = at-known.before.before.before in
-    room_for_bytes _ (order_spelled_as at-known.order13.given.1) s.args.at (length s.args.out.now) s.requires
-
 same_length : tie.Need-same-length
 same_length c = search rules
 
@@ -285,16 +275,6 @@ returns-14 c =
     let s = at-known.before.before.before in
     bytes_stored _ (order_spelled_as at-known.enum-told2.given.1) s.args.out.now s.args.at at_call.put-byte2.ensures (omega arith)
 
-same-length-15 : tie.Need-same-length-15
-same-length-15 c = search rules
-
-returns-15 : tie.Need-returns-15
-returns-15 c =
-    let at_call = c.before.before in
-    let at-known = at_call.before.before.before in
-    let s = at-known.before.before.before in
-    bytes_stored _ (order_spelled_as at-known.order13.given.1) s.args.out.now s.args.at at_call.put-pair5.ensures (omega arith)
-
 pub put-order-spec : {M : Type 1} → statement M
 put-order-spec =
     tie.close
@@ -327,8 +307,6 @@ put-order-spec =
     put-one-requires-6
     enum-told-2
     put-byte-requires-2
-    enum-known-order-13
-    put-pair-requires-5
     same_length
     returns
     same-length-2
@@ -356,6 +334,4 @@ put-order-spec =
     same-length-13
     returns-13
     same-length-14
-    returns-14
-    same-length-15
-    returns-15)
+    returns-14)

@@ -1,7 +1,7 @@
 -- `raise` raises each cabinet and each span that an order names.
 use mathlib.Core.Path.{refl, ap, ap₂, subst}
 use borrow.Author.Rules.{rules}
-use Rattle.commands.specs.Command.{district_name, ring_name, shared_mesh, sole_spans, cut_cabinets, is_sole, mark_exchange, holds_exchange, routes_between, record_length, span_length, two_losses}
+use Rattle.commands.specs.Command.{district_name, ring_name, shared_mesh, sole_spans, cut_cabinets, is_sole, mark_exchange, holds_exchange, routes_between, record_length, span_length}
 use Rattle.reading.specs.Inside.Reads.{span_command, meaning}
 use Rattle.joining.specs.Inside.Seams.{one_of}
 use Rattle.joining.specs.Inside.Raising.{Fits}
@@ -102,15 +102,6 @@ raise-edge-requires-3 c κs = subst Fits c.before.order12.given.1 c.before.befor
 enum-told-2 : tie.Need-enum-told-2
 enum-told-2 c = search rules
 
-enum-known-order-13 : tie.Need-enum-known-order-13
-enum-known-order-13 c = search rules
-
-raise-vertex-requires-15 : tie.Need-raise-vertex-requires-15
-raise-vertex-requires-15 c κs = (subst Fits c.before.order13.given.1 c.before.before.before.requires).0
-
-raise-vertex-requires-16 : tie.Need-raise-vertex-requires-16
-raise-vertex-requires-16 c κs = (subst Fits c.before.before.order13.given.1 c.before.before.before.before.requires).1
-
 returns : tie.Need-returns
 unfolding meaning
 returns c = raised_as c.enum_told.given.1 _ refl
@@ -171,10 +162,6 @@ returns-14 : tie.Need-returns-14
 unfolding meaning
 returns-14 c = raised_as c.enum-told2.given.1 _ refl
 
-returns-15 : tie.Need-returns-15
-unfolding meaning one_of
-returns-15 c = raised_as c.before.before.before.order13.given.1 _ (ap₂ two_losses c.before.raise-vertex15.ensures c.raise-vertex16.ensures)
-
 pub raise-spec : {M : Type 1} → statement M
 raise-spec =
     tie.close
@@ -210,9 +197,6 @@ raise-spec =
     enum-known-order-12
     raise-edge-requires-3
     enum-told-2
-    enum-known-order-13
-    raise-vertex-requires-15
-    raise-vertex-requires-16
     returns
     returns-2
     returns-3
@@ -226,5 +210,4 @@ raise-spec =
     returns-11
     returns-12
     returns-13
-    returns-14
-    returns-15)
+    returns-14)

@@ -1,12 +1,11 @@
 -- `read::pass_at` reads what stands at a place of the journal, and passes over the operands.
 use mathlib.Core.Logic.{inl, inr}
-use mathlib.Core.Option.{some}
 use mathlib.Core.Path.{refl, sym, ap, ◌∙◌}
 use Prim.Native.Nat.{◌+◌}
 use native.Mathlib.Omega.{arith}
 use lib.ListN.{get_or, drop}
 use Rattle.commands.specs.Command.{forms, form}
-use Rattle.reading.specs.Inside.Reads.{form_width, passing_of, pass_over}
+use Rattle.reading.specs.Inside.Reads.{form_width, entryWidth, passing_of, pass_over}
 use Rattle.reading.proofs.ReadSteps.{read_unknown, passed_whole, widths_are}
 use borrow.Author.Rules.{rules}
 use Rattle.reading.proofs.read.pass_at.Statement.{statement}
@@ -19,7 +18,7 @@ add-pass-over : tie.Need-overflow-add-pass-over
 add-pass-over c = search rules
 
 pass-over-requires : tie.Need-pass-over-requires
-unfolding form forms form_width
+unfolding form forms form_width entryWidth
 pass-over-requires c κs = (rw c.match.keys2 refl, omega arith)
 
 add-pass-over-2 : tie.Need-overflow-add-pass-over-2
@@ -33,7 +32,7 @@ pass-over-requires-2 c κs =
     let at_entry_lem = c.before in
     let s = at_entry_lem.before.before.before.before.before in
     let byte = get_or s.args.journal.now s.args.at 0 in
-    (widths_are byte (omega arith) (omega arith) ∙ ap some (sym c.entry_of.ensures), omega arith)
+    (widths_are byte (omega arith) ∙ ap entryWidth (sym c.entry_of.ensures), omega arith)
 
 returns : tie.Need-returns
 unfolding form forms form_width passing_of

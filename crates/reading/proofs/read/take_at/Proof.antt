@@ -84,10 +84,9 @@ returns-5 c =
     let a = rest.before.before.before.args in
     let byte = get_or a.journal.now a.at 0 in
     let not = rest.match.rest in
-    let above-12 = above 12 byte (above 11 byte c.if4.false (λ e. not.0.1 (inl e))) (λ e. not.0.0.0.1 (inr (inl e))) in
+    let above-12 = above 12 byte (above 11 byte c.if4.false (λ e. not.0.1 (inl e))) (λ e. not.0.0.0.1 (inr e)) in
     let above-14 = above 14 byte (above 13 byte above-12 (λ e. not.0.1 (inr e))) not.0.0.1 in
-    let above-16 = above 16 byte (above 15 byte above-14 not.1) (λ e. not.0.0.0.1 (inr (inr e))) in
-    sym (read_unknown byte (drop (a.at + 1) a.journal.now) (inr above-16))
+    sym (read_unknown byte (drop (a.at + 1) a.journal.now) (inr (above 15 byte above-14 not.1)))
 
 returns-6 : tie.Need-returns-6
 returns-6 c = search rules

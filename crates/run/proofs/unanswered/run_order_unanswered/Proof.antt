@@ -53,7 +53,15 @@ done : (c : tie.After-stepped2)
     CarriedOut s.args.p.shape (meaning s.args.order) s.args.work.now at-step.step.new.0 c.stepped2.given.0.0
 done c =
     let at-step = c.before.before.before.before in
-    was_done _ _ _ _ _ (rw c.stepped2.given.1 at at-step.step.ensures)
+    let s = at-step.before.before.before.before.before.before in
+    let g = c.stepped2.given in
+    was_done
+    s.args.p.shape
+    (meaning s.args.order)
+    s.args.work.now
+    at-step.step.new.0
+    g.0.0
+    (rw g.1 at at-step.step.ensures)
 
 add-t17 : tie.Need-overflow-add-t17
 add-t17 c =

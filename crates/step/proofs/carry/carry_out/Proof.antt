@@ -155,17 +155,6 @@ enum-told-2 c = search rules
 exchange-share-requires : tie.Need-exchange-share-requires
 exchange-share-requires c κs = let s = c.before.before.before.before in s.requires.0
 
-enum-known-order-13 : tie.Need-enum-known-order-13
-enum-known-order-13 c = search rules
-
-two-losses-requires : tie.Need-two-losses-requires
-unfolding judgement
-two-losses-requires c κs =
-    let s = c.before.before.before.before.before in
-    let passed = rw c.before.before.order13.given.1 at s.requires.1 in
-    let known = pair_passes s.args.shape _ _ passed in
-    (s.requires.0, known.0, known.1)
-
 same_length : tie.Need-same-length
 same_length c = search rules
 
@@ -278,15 +267,6 @@ returns-14 : tie.Need-returns-14
 unfolding meaning
 returns-14 c = rw c.before.before.enum-told2.given.1 c.exchange-share.ensures
 
-same-length-15 : tie.Need-same-length-15
-same-length-15 c = search rules
-
-returns-15 : tie.Need-returns-15
-unfolding meaning
-returns-15 c =
-    let at-losses = c.before.before in
-    rw at-losses.before.before.before.order13.given.1 at-losses.two_losses_lem.ensures
-
 pub carry-out-spec : {M : Type 1} → statement M
 carry-out-spec =
     tie.close
@@ -319,8 +299,6 @@ carry-out-spec =
     span-length-requires
     enum-told-2
     exchange-share-requires
-    enum-known-order-13
-    two-losses-requires
     same_length
     returns
     same-length-2
@@ -348,6 +326,4 @@ carry-out-spec =
     same-length-13
     returns-13
     same-length-14
-    returns-14
-    same-length-15
-    returns-15)
+    returns-14)

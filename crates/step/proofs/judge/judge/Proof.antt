@@ -85,12 +85,6 @@ span-refusal-requires-3 c κs = search rules
 enum-told-2 : tie.Need-enum-told-2
 enum-told-2 c = search rules
 
-enum-known-order-13 : tie.Need-enum-known-order-13
-enum-known-order-13 c = search rules
-
-pair-refusal-requires : tie.Need-pair-refusal-requires
-pair-refusal-requires c κs = search rules
-
 returns : tie.Need-returns
 unfolding judgement
 returns c = rw c.before.enum_told.given.1 c.new-cabinet-refusal.ensures
@@ -147,10 +141,6 @@ returns-14 : tie.Need-returns-14
 unfolding judgement
 returns-14 c = rw c.enum-told2.given.1
 
-returns-15 : tie.Need-returns-15
-unfolding judgement
-returns-15 c = rw c.before.before.order13.given.1 c.pair-refusal.ensures
-
 pub judge-spec : {M : Type 1} → statement M
 judge-spec =
     tie.close
@@ -182,8 +172,6 @@ judge-spec =
     enum-known-order-12
     span-refusal-requires-3
     enum-told-2
-    enum-known-order-13
-    pair-refusal-requires
     returns
     returns-2
     returns-3
@@ -197,5 +185,4 @@ judge-spec =
     returns-11
     returns-12
     returns-13
-    returns-14
-    returns-15)
+    returns-14)
