@@ -1,4 +1,5 @@
 // The forecast: a length of the answer buffer that suffices, counted in one pass over the caller's journal.
+#![tactic(auto)]
 ghost use Rattle.std.specs.Prelude.{◌≡◌, ◌<◌, ◌≤◌, length};
 ghost use Rattle.naming.specs.Log.{highest_bit};
 ghost use Rattle.commands.specs.Forecast.{forecast};
@@ -9,7 +10,7 @@ use reading::read::{Passed, entry_of};
 use reading::reader::{passed_at, place_after};
 
 // What is forecast: 0 or the number of the refusal, a place in the journal, and the length.
-#[derive(Drop)]
+#[derive(Clone, Copy)]
 pub struct Forecast {
     pub number: u32,
     pub place: u32,
@@ -18,7 +19,7 @@ pub struct Forecast {
 
 // What is counted of the commands: those that add a cabinet and those that add a span; of the answers to the others, the bytes that do not
 // depend on how many cabinets and spans there are, and the lists of spans and of cabinets.
-#[derive(Drop)]
+#[derive(Clone, Copy)]
 pub struct Tally {
     pub cabinets: u32,
     pub spans: u32,

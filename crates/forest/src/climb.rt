@@ -13,7 +13,7 @@ use table::words::{
 const NESTED: u32 = 12;
 
 // Two vertices on their ways up, and how many steps each side has made.
-#[derive(Drop)]
+#[derive(Clone, Copy)]
 pub struct Trail {
     pub a: Vertex,
     pub b: Vertex,
@@ -22,7 +22,7 @@ pub struct Trail {
 }
 
 // A path of blocks: how many steps it has, and the vertex where its two sides met.
-#[derive(Drop)]
+#[derive(Clone, Copy)]
 pub struct Route {
     pub steps: u32,
     pub top: Vertex,

@@ -1,6 +1,7 @@
 // The working table of the register: names and sizes of components, bridge-blocks and blocks, the marks of vertices, the surveys of edges,
 // and one block forest, in words that the caller lends. The operations below are all that a caller needs; what they promise stands in
 // specs/Promise.
+#![tactic(auto)]
 ghost use Rattle.std.specs.Prelude.{◌≡◌, ◌<◌, ◌≤◌, min, true, false, ◌++◌, length, drop, replicate, ◌≢◌};
 ghost use Rattle.graph.specs.Network.{edge, mates};
 ghost use Rattle.graph.specs.Groups.{component, bridge, bridge_block};
@@ -26,7 +27,7 @@ use table::words::{
 };
 
 // How many vertices and edges the table has words for, and how many it holds.
-#[derive(Drop)]
+#[derive(Clone, Copy)]
 pub struct Shape {
     pub limits: Limits,
     pub vertices: u32,
@@ -34,35 +35,35 @@ pub struct Shape {
 }
 
 // The two kinds of groups of vertices.
-#[derive(Drop)]
+#[derive(Clone, Copy)]
 pub enum VertexGroups {
     Components,
     BridgeBlocks,
 }
 
 // A group of vertices: its name and its size.
-#[derive(Drop)]
+#[derive(Clone, Copy)]
 pub struct Group {
     pub name: Vertex,
     pub size: u32,
 }
 
 // A vertex and its new name.
-#[derive(Drop)]
+#[derive(Clone, Copy)]
 pub struct VertexChange {
     pub item: Vertex,
     pub name: Vertex,
 }
 
 // An edge and its new name.
-#[derive(Drop)]
+#[derive(Clone, Copy)]
 pub struct EdgeChange {
     pub item: Edge,
     pub name: Edge,
 }
 
 // What one edge more did: how many items of each kind changed their name, and the new edge's block name.
-#[derive(Drop)]
+#[derive(Clone, Copy)]
 pub struct Growth {
     pub components: u32,
     pub bridge_blocks: u32,
@@ -71,21 +72,21 @@ pub struct Growth {
 }
 
 // The block that two vertices share, by its name, or that there is none.
-#[derive(Drop)]
+#[derive(Clone, Copy)]
 pub enum Shared {
     Block(Edge),
     Nothing,
 }
 
 // The length of an edge in metres, or that there is none.
-#[derive(Drop)]
+#[derive(Clone, Copy)]
 pub enum Length {
     Metres(u32),
     Nothing,
 }
 
 // The two ends of an edge.
-#[derive(Drop)]
+#[derive(Clone, Copy)]
 pub struct Ends {
     pub left: Vertex,
     pub right: Vertex,

@@ -16,7 +16,7 @@ use table::words::{
 };
 
 // A vertex on a way up that is turned round: what to store as its way up and its depth, and how many steps are left.
-#[derive(Drop)]
+#[derive(Clone, Copy)]
 pub struct Turning {
     pub at: Vertex,
     pub up: u32,

@@ -13,7 +13,7 @@ use run::unanswered::run_unanswered;
 use run::work_needed;
 
 // What comes of a journal that is run alone: refused, or a network of so many cabinets and spans.
-#[derive(Drop)]
+#[derive(Clone, Copy)]
 pub enum Alone {
     Refused,
     Holds(u16, u16),

@@ -11,7 +11,7 @@ use reading::read::{Lay, Order};
 
 // A seam: a cabinet of the first network, a cabinet of the second, and the duct of the span between them.
 #[repr(C)]
-#[derive(Drop)]
+#[derive(Clone, Copy)]
 pub struct Seam {
     pub first: u16,
     pub second: u16,
@@ -19,7 +19,7 @@ pub struct Seam {
 }
 
 // What is known of the two networks: the first's cabinets and spans, and the second's cabinets.
-#[derive(Drop)]
+#[derive(Clone, Copy)]
 pub struct Counts {
     pub cabinets: u16,
     pub spans: u16,
@@ -27,7 +27,7 @@ pub struct Counts {
 }
 
 // How far a join has come: refused; both journals accepted; or stored up to a place of the output buffer.
-#[derive(Drop)]
+#[derive(Clone, Copy)]
 pub enum Joining {
     Refused(u32),
     Counted(Counts),

@@ -1,6 +1,7 @@
 // The entries that a planner calls. Of a run: the refusals before the journal is read, the run, and the report. Of the forecast: its three numbers.
 // Of the forecast to the byte: the refusals before the journal is read, the run without answers, and the three numbers. Of rewriting: its three
 // numbers, and the result. Of joining: its two numbers, and the result.
+#![tactic(auto)]
 ghost use Rattle.std.specs.Prelude.{not, map, ◌≡◌, ◌<◌};
 ghost use Rattle.commands.specs.Refusal.{first_that_applies};
 ghost use Rattle.commands.specs.Entry.{good_capacities, start_lines, number_of, over};

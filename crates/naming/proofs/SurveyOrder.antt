@@ -97,14 +97,15 @@ days_differ_arranged (Permᴰ.cons {a = a} {b = b} {l₁ = l} {l₂ = k} e d) p 
     and_both
     (subst (λ r. apart_from r k ≡ true) e (all_arranged (λ q. not (same_day a q)) d (and_left (apart_from a l) (days_differ l) p)))
     (days_differ_arranged d (and_right (apart_from a l) (days_differ l) p))
-days_differ_arranged (Permᴰ.swap {a = a} {b = b} {l = l} e₁ e₂) p =
+days_differ_arranged (Permᴰ.swap {a = a} {b = b} {a' = a'} {l = l} e₁ e₂) p =
     let first = and_left (not (same_day a b) && apart_from a l) (apart_from b l && days_differ l) p in
     let swapped : not (same_day b a) ≡ true = rw (same_day_swap b a) (and_left (not (same_day a b)) (apart_from a l) first) in
     let rest = and_right (not (same_day a b) && apart_from a l) (apart_from b l && days_differ l) p in
-    rw (sym e₁, sym e₂)
+    subst (λ x. days_differ (a' ∷ x ∷ l) ≡ true) e₁
+    (subst (λ y. days_differ (y ∷ a ∷ l) ≡ true) e₂
     (and_both
     (and_both swapped (and_left (apart_from b l) (days_differ l) rest))
-    (and_both (and_right (not (same_day a b)) (apart_from a l) first) (and_right (apart_from b l) (days_differ l) rest)))
+    (and_both (and_right (not (same_day a b)) (apart_from a l) first) (and_right (apart_from b l) (days_differ l) rest))))
 days_differ_arranged (Permᴰ.trans d₁ d₂) p = days_differ_arranged d₂ (days_differ_arranged d₁ p)
 
 -- what is kept of records of different days is the same however they are arranged

@@ -1,4 +1,5 @@
 // Runs the operations of the working table on a few networks, and prints what they tell.
+#![tactic(auto)]
 ghost use Rattle.std.specs.Prelude.{◌<◌};
 ghost use Rattle.forest.specs.Promise.{Holds};
 
@@ -6,7 +7,7 @@ use forest::{Growth, Shape, Shared, VertexGroups};
 use numbers::{Duct, Edge, Limits, Vertex};
 
 // The lists that an operation leaves in the table: the items that changed their name, and what lies between two vertices.
-#[derive(Drop)]
+#[derive(Clone, Copy)]
 enum List {
     VertexChanges(VertexGroups),
     EdgeChanges,

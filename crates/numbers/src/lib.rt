@@ -1,27 +1,28 @@
 // The numbers of vertices, of edges and of ducts, and lengths with their days, so that none is taken for another; and how many vertices and
 // edges a table has words for.
+#![tactic(auto)]
 
 // The number of a vertex. Component and bridge-block names are vertices.
-#[derive(Drop)]
+#[derive(Clone, Copy)]
 pub struct Vertex(pub u32);
 
 // The number of an edge. Block names are edges.
-#[derive(Drop)]
+#[derive(Clone, Copy)]
 pub struct Edge(pub u32);
 
 // The number of a duct; 0 where none is told.
-#[derive(Drop)]
+#[derive(Clone, Copy)]
 pub struct Duct(pub u16);
 
 // A length in metres, and the day on which it was measured.
-#[derive(Drop)]
+#[derive(Clone, Copy)]
 pub struct Measure {
     pub day: u16,
     pub metres: u16,
 }
 
 // The most vertices and edges that a table has words for.
-#[derive(Drop)]
+#[derive(Clone, Copy)]
 pub struct Limits {
     pub vertices: u16,
     pub edges: u16,

@@ -8,14 +8,14 @@ ghost use Rattle.reading.specs.Inside.Reads.{meaning, reading_of, OneOperand, Tw
 use numbers::{Duct, Edge, Measure, Vertex};
 
 // Where a new span lies: in no duct (02), or in a duct (0B).
-#[derive(Drop)]
+#[derive(Clone, Copy)]
 pub enum Lay {
     NoDuct,
     InDuct(Duct),
 }
 
 // A command with its operands: cabinets are vertices, spans are edges.
-#[derive(Drop)]
+#[derive(Clone, Copy)]
 pub enum Order {
     AddCabinet,
     AddSpan(Vertex, Vertex, Lay),
@@ -35,7 +35,7 @@ pub enum Order {
 
 // What stands at a place of the journal: an unknown byte, a command whose operands are cut off by the journal's end, or a command with the
 // number of its operands' bytes.
-#[derive(Drop)]
+#[derive(Clone, Copy)]
 pub enum Taken {
     Unknown,
     CutOff,
@@ -153,7 +153,7 @@ pub(crate) fn take_at(journal: &[u8], at: usize) -> Taken
 
 // What stands at a place of the journal where the operands are not looked at: as above, but of a command its byte and the number of its
 // operands' bytes.
-#[derive(Drop)]
+#[derive(Clone, Copy)]
 pub enum Passed {
     Unknown,
     CutOff,

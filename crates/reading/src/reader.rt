@@ -7,7 +7,7 @@ ghost use Rattle.reading.specs.Inside.Reads.{reading_of, passing_of, pass_over};
 
 use crate::read::{Passed, Taken, pass_at, take_at};
 
-#[derive(Drop)]
+#[derive(Clone, Copy)]
 pub struct Reader<'a> {
     pub journal: &'a [u8],
     pub at: usize,

@@ -1,4 +1,5 @@
 // The plant register as a program: standard input to standard output, with capacities of 256 cabinets and 512 spans.
+#![tactic(auto)]
 ghost use Rattle.std.proofs.Math.Option.{Option};
 ghost use Rattle.std.specs.Prelude.{◌≡◌, ◌≤◌, length};
 ghost use Rattle.commands.specs.Refusal.{Refusal};
@@ -14,7 +15,7 @@ const CABINETS: u32 = 256;
 const SPANS: u32 = 512;
 
 // How many bytes were read, or that reading failed.
-#[derive(Drop)]
+#[derive(Clone, Copy)]
 pub enum Input {
     Bytes(usize),
     Failed,

@@ -1,5 +1,6 @@
 // Rewriting a journal of the old reading, by which a span of 02 has no mate: each 02 becomes a 0B in a duct of its own. Into a buffer that the
 // caller lends; nothing is stored before it is known that the whole result fits.
+#![tactic(auto)]
 ghost use Rattle.std.specs.Prelude.{◌∷◌, ◌++◌, ◌≡◌, ◌+◌, ◌≤◌, ◌<◌, length, get_or, drop};
 ghost use Rattle.std.proofs.Math.Option.{none};
 ghost use Rattle.std.proofs.lemmas.List.Edits.{sets};
@@ -19,7 +20,7 @@ use reading::reader::{passed_at, place_after};
 use storing::{copy, put_byte, put_two};
 
 // What rewriting tells: 0 or the number of the refusal, a place in the journal, and the length of the result.
-#[derive(Drop)]
+#[derive(Clone, Copy)]
 pub struct Rewriting {
     pub number: u32,
     pub place: u32,
@@ -27,14 +28,14 @@ pub struct Rewriting {
 }
 
 // What is measured of a journal: the place of its first 0B, or the length of the result.
-#[derive(Drop)]
+#[derive(Clone, Copy)]
 pub enum Measured {
     DuctTold(usize),
     Length(usize),
 }
 
 // A command of the journal by its byte and the number of its operands' bytes.
-#[derive(Drop)]
+#[derive(Clone, Copy)]
 pub struct Head {
     pub byte: u8,
     pub width: usize,

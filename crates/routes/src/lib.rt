@@ -1,5 +1,6 @@
 // The two routes between two vertices of one bridge-block, searched for in the scratch words of the working table: two ways, the second of
 // which may go back along steps of the first, and then, where it does, two routes along what the two ways use.
+#![tactic(auto)]
 ghost use Rattle.std.specs.Prelude.{true, ◌≡◌, ◌<◌};
 ghost use Rattle.graph.specs.Groups.{bridge_block};
 ghost use Rattle.forest.specs.Promise.{Holds, network_in};
@@ -27,14 +28,14 @@ pub(crate) const ORDER: u8 = 2;
 pub(crate) const FIRST: u8 = 3;
 
 // Which of the two routes.
-#[derive(Drop)]
+#[derive(Clone, Copy)]
 pub enum Route {
     First,
     Second,
 }
 
 // How many edges each of them has.
-#[derive(Drop)]
+#[derive(Clone, Copy)]
 pub struct Lengths {
     pub first: u32,
     pub second: u32,

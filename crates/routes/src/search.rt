@@ -11,7 +11,7 @@ use forest::{Shape, edge_scratch, ends_of, set_vertex_scratch, vertex_scratch};
 use numbers::{Edge, Vertex};
 
 // Which steps a search may take: those of one way more, or those along used edges.
-#[derive(Drop)]
+#[derive(Clone, Copy)]
 pub enum Allowance {
     OneMore,
     AlongUsed,

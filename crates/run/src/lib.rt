@@ -1,4 +1,5 @@
 // The run of a journal, from an empty network to its end or to the command that is refused.
+#![tactic(auto)]
 ghost use Rattle.std.specs.Prelude.{◌≡◌, ◌≤◌, length};
 ghost use Rattle.commands.specs.Entry.{work_needed};
 ghost use Rattle.forest.specs.Promise.{words_needed};
@@ -17,7 +18,7 @@ use writing::write_reply;
 
 // How far a run has come: the network's size, the place of the next command, the commands accepted, the bytes of their answers, and the
 // number of the refusal that ended the run, 0 if none did.
-#[derive(Drop)]
+#[derive(Clone, Copy)]
 pub struct Progress {
     pub shape: Shape,
     pub place: usize,

@@ -1,5 +1,6 @@
 // One command over the working table: the refusal that it meets, or what it does to the table and what is to be answered. Nothing is written
 // here, and the room for the answer is not looked at.
+#![tactic(auto)]
 ghost use Rattle.std.specs.Prelude.{◌≡◌, ◌≤◌};
 ghost use Rattle.forest.specs.Promise.{Holds};
 ghost use Rattle.reading.specs.Inside.Reads.{meaning};
@@ -17,7 +18,7 @@ use reading::read::Order;
 use routes::Lengths;
 
 // Which list the table has written down.
-#[derive(Drop)]
+#[derive(Clone, Copy)]
 pub enum Listed {
     Spans,
     Cabinets,
@@ -26,7 +27,7 @@ pub enum Listed {
 // What a command that adds nothing is answered with: a cabinet's district or ring, by its name and size; a shared mesh; a list, by its length;
 // whether a span is sole; that a cabinet is marked; whether a ring holds an exchange; two routes, by their lengths; that a length is recorded; a span's
 // length; a share in thousandths. A list and the routes stand in the table until the next command.
-#[derive(Drop)]
+#[derive(Clone, Copy)]
 pub enum Finding {
     Group(VertexGroups, Group),
     Mesh(Shared),
@@ -42,7 +43,7 @@ pub enum Finding {
 
 // What is to be answered: a new cabinet; a new span with the names that it changed, which stand in the table until the next command; or what a
 // command that adds nothing has found.
-#[derive(Drop)]
+#[derive(Clone, Copy)]
 pub enum Reply {
     Cabinet(Vertex),
     Span(Edge, Growth),
@@ -50,7 +51,7 @@ pub enum Reply {
 }
 
 // What a command gives: the number of the refusal that it meets, or what is to be answered.
-#[derive(Drop)]
+#[derive(Clone, Copy)]
 pub enum Stepped {
     Refused(u32),
     Done(Reply),

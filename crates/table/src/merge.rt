@@ -7,7 +7,7 @@ ghost use Rattle.table.specs.Inside.Merge.{rename_table, rename_count, rename_pa
 use crate::words::{Area, CHANGED, NAME, RANGE, SIZE, set_word, word};
 
 // Items written down in a column, one to a word.
-#[derive(Drop)]
+#[derive(Clone, Copy)]
 pub struct Listing {
     pub area: Area,
     pub column: u8,
@@ -15,14 +15,14 @@ pub struct Listing {
 }
 
 // The items from `from` up to and not including `to`.
-#[derive(Drop)]
+#[derive(Clone, Copy)]
 pub struct Pass {
     pub from: u32,
     pub to: u32,
 }
 
 // What merging gives: the name of the new group, and how many items changed their name.
-#[derive(Drop)]
+#[derive(Clone, Copy)]
 pub struct Merged {
     pub name: u32,
     pub changed: u32,

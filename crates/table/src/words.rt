@@ -58,7 +58,7 @@ pub const MARK: u8 = UP + 6;
 
 // The columns of a kind of group, and those behind them: where they begin, how many items each has a word for, and how many are of the
 // kind.
-#[derive(Drop)]
+#[derive(Clone, Copy)]
 pub struct Area {
     pub base: u32,
     pub size: u16,

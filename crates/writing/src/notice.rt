@@ -14,7 +14,7 @@ use numbers::Edge;
 use storing::{put_byte, put_two};
 
 // The kinds of notices.
-#[derive(Drop)]
+#[derive(Clone, Copy)]
 pub enum Told {
     Districts,
     Rings,
@@ -22,7 +22,7 @@ pub enum Told {
 }
 
 // A notice: a cabinet's new district or ring name, or a span's new mesh name.
-#[derive(Drop)]
+#[derive(Clone, Copy)]
 pub enum Notice {
     District(VertexChange),
     Ring(VertexChange),
