@@ -76,8 +76,7 @@ fn fill_report(report: &mut [u32], p: Progress)
 }
 
 // Runs a journal with capacities c and s, with the caller's own working table, answer buffer and report.
-#[unsafe(no_mangle)]
-pub extern "C" fn register_run(
+pub fn register_run(
     c: u32,
     s: u32,
     journal: &[u8],
@@ -103,8 +102,7 @@ pub extern "C" fn register_run(
 
 // Forecasts a length of the answer buffer that suffices for a journal, and tells a place: the journal's length, where it cannot be read, or 0 if it is
 // too long.
-#[unsafe(no_mangle)]
-pub extern "C" fn register_forecast(journal: &[u8], place: &mut u32, length: &mut u32) -> u32
+pub fn register_forecast(journal: &[u8], place: &mut u32, length: &mut u32) -> u32
     ensures { ForecastPromise journal.now result place.new length.new }
 {
     let f = forecast_of(journal);
@@ -157,8 +155,7 @@ fn count_answers(c: u32, s: u32, journal: &[u8], work: &mut [u32]) -> Forecast
 
 // Forecasts to the byte how long the answers to a journal are, with capacities c and s and with the caller's own working table, and tells a place: the
 // journal's length, that of the refused command, or 0 if it is refused before it is read.
-#[unsafe(no_mangle)]
-pub extern "C" fn register_forecast_exact(
+pub fn register_forecast_exact(
     c: u32,
     s: u32,
     journal: &[u8],
@@ -175,8 +172,7 @@ pub extern "C" fn register_forecast_exact(
 }
 
 // Rewrites a journal of the old reading into the caller's output buffer, and tells a place, as the forecast does, and the result's length.
-#[unsafe(no_mangle)]
-pub extern "C" fn register_rewrite(
+pub fn register_rewrite(
     journal: &[u8],
     out: &mut [u8],
     place: &mut u32,
@@ -191,8 +187,7 @@ pub extern "C" fn register_rewrite(
 }
 
 // Joins two journals by the caller's seams into the caller's output buffer, over its working table, and tells the result's length.
-#[unsafe(no_mangle)]
-pub extern "C" fn register_join(
+pub fn register_join(
     first: &[u8],
     second: &[u8],
     seams: &[Seam],

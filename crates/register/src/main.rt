@@ -1,5 +1,6 @@
 // The plant register as a program: standard input to standard output, with capacities of 256 cabinets and 512 spans.
 #![tactic(auto)]
+
 ghost use Rattle.std.proofs.Math.Option.{Option};
 ghost use Rattle.std.specs.Prelude.{◌≡◌, ◌≤◌, length};
 ghost use Rattle.commands.specs.Refusal.{Refusal};
@@ -8,7 +9,8 @@ ghost use Rattle.commands.specs.Register.{ending};
 ghost use Rattle.register.specs.Input.{Within};
 ghost use Rattle.register.specs.Output.{Put, ProgramOutput};
 
-use libc::{STDIN_FILENO, STDOUT_FILENO};
+use std::io;
+use std::io::Read;
 
 const CABINETS: u32 = 256;
 
@@ -22,21 +24,18 @@ pub enum Input {
 }
 
 // Reads until the buffer is full or the input ends.
-fn read_input(buf: &mut [u8]) -> Input
+fn read_input(from: &mut impl Read, buf: &mut [u8]) -> Input
     ensures { Within result (length buf.new) }
 {
     let mut done: usize = 0;
     while done < buf.len() {
-        let rest = &mut buf[done..];
-        let got = libc::read(STDIN_FILENO, rest);
-        if got < 0 {
+        let Ok(got) = from.read(&mut buf[done..]) else {
             return Input::Failed;
-        }
-        let n = io::count(got, rest);
-        if n == 0 {
+        };
+        if got == 0 {
             return Input::Bytes(done);
         }
-        done += n;
+        done += got;
     }
     Input::Bytes(done)
 }
@@ -81,11 +80,12 @@ fn run_input(input: &[u8], output: &mut [u8]) -> usize
 }
 
 // One byte more than a journal may have is enough to refuse it. Where reading fails nothing is written.
-fn main() {
+fn main(rt: HostRuntime) -> io::Result<()> {
     let mut input = [0u8; 65537];
     let mut output = [0u8; 65542];
-    if let Input::Bytes(got) = read_input(&mut input) {
+    if let Input::Bytes(got) = read_input(&mut rt.stdin(), &mut input) {
         let size = run_input(&input[..got], &mut output);
-        io::write_all(STDOUT_FILENO, &output[..size]);
+        rt.write_all(&output[..size])?;
     }
+    Ok(())
 }
