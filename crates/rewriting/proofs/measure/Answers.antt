@@ -13,11 +13,6 @@ use Rattle.rewriting.proofs.Going.{size_at_most}
 use Rattle.rewriting.proofs.Measuring.{measured_at_start, measured_to_end, first_duct_told_lem, measured_behind}
 use Rattle.rewriting.proofs.measure.Goals as goal
 
--- TODO generated records in a helper
--- -- what is handed over as a journal is bytes
--- bytes : (c : tie.After-shared-slice-known invariant-loop decreases-loop) → all_bytes c.before.args.journal.now ≡ true
--- bytes c = bytes_by_place c.before.args.journal.now (λ i h. omega (arith, c.shared-slice-known.given i))
-
 pub loop-place-init : goal.loop-place-init
 loop-place-init c = measured_at_start c.args.journal.now c.requires
 
@@ -25,7 +20,7 @@ pub head_at-head-requires : goal.head_at-head-requires
 head_at-head-requires c = (omega arith, c.loop-place.invariant.whole_here)
 
 pub returns-then-head-eq11 : goal.returns-then-head-eq11
-returns-then-head-eq11 c = first_duct_told_lem c.loop-place.invariant (bytes TODO-place-Then1) (omega arith) _ _ c.head_at-head.ensures (omega (arith, c.if-head-eq11.true))
+returns-then-head-eq11 c = first_duct_told_lem c.loop-place.invariant (bytes_by_place c.args.journal.now (λ i h. omega (arith, c.type_inv.journal i))) (omega arith) _ _ c.head_at-head.ensures (omega (arith, c.if-head-eq11.true))
 
 pub size_of-length-requires : goal.size_of-length-requires
 size_of-length-requires c =
@@ -53,7 +48,7 @@ place_after-place-requires c = operands_here c.args.journal.now c.loop-place.pla
 pub loop-place-preserved : goal.loop-place-preserved
 loop-place-preserved c =
     rw (c.place_after-place.ensures, c.size_of-length.ensures)
-    (measured_behind c.loop-place.invariant (bytes TODO-place-After-place_after) (omega arith) _ _ c.head_at-head.ensures (λ e. omega (arith, c.if-head-eq11.false)))
+    (measured_behind c.loop-place.invariant (bytes_by_place c.args.journal.now (λ i h. omega (arith, c.type_inv.journal i))) (omega arith) _ _ c.head_at-head.ensures (λ e. omega (arith, c.if-head-eq11.false)))
 
 pub returns : goal.returns
 returns c = measured_to_end c.loop-place.invariant (omega arith)

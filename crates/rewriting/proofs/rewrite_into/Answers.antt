@@ -30,7 +30,7 @@ overflow_cast-place c =
         readable
         c.args.journal.now
         (sym (ap (λ f. f.number) c.forecast_of-foretold.ensures) ∙ omega (arith, c.if-foretold-ne0.false)) in
-    let measured-told : Measures c.args.journal.now (M.DuctTold TODO-c.before.decreases.given.0.0) =
+    let measured-told : Measures c.args.journal.now (M.DuctTold c.in-DuctTold.place) =
         subst (Measures c.args.journal.now) c.in-DuctTold.is c.measure-measured.ensures in
     omega (arith, (measured-told).1, (read-to-its-end).short)
 
@@ -52,6 +52,6 @@ returns-in-DuctTold c =
         readable
         c.args.journal.now
         (sym (ap (λ f. f.number) c.forecast_of-foretold.ensures) ∙ omega (arith, c.if-foretold-ne0.false)) in
-    let measured-told : Measures c.args.journal.now (M.DuctTold TODO-c.before.decreases.given.0.0) =
+    let measured-told : Measures c.args.journal.now (M.DuctTold c.in-DuctTold.place) =
         subst (Measures c.args.journal.now) c.in-DuctTold.is c.measure-measured.ensures in
     refused_as_told (read-to-its-end) (measured-told).0 (omega arith) c.refused-in-DuctTold.ensures

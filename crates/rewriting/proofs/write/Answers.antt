@@ -12,11 +12,6 @@ use Rattle.rewriting.specs.Inside.Writes.{WrittenTo}
 use Rattle.rewriting.proofs.Writing.{written_at_start, written_to_end, room_here, written_behind_lem}
 use Rattle.rewriting.proofs.write.Goals as goal
 
--- TODO generated records in a helper
--- -- what is handed over as a journal is bytes
--- bytes : (c : tie.After-shared-slice-known invariant-loop decreases-loop) → all_bytes c.before.args.journal.now ≡ true
--- bytes c = bytes_by_place c.before.args.journal.now (λ i h. omega (arith, c.shared-slice-known.given i))
-
 pub loop-place-init : goal.loop-place-init
 loop-place-init c = written_at_start c.args.journal.now c.args.out.now c.requires
 
@@ -28,7 +23,7 @@ put_command-requires c =
     (
       operands_here c.args.journal.now c.loop-place.place (omega arith) _ _ c.head_at-head.ensures,
       omega (arith, c.requires.readable.short, c.loop-place.invariant.few_spans, c.loop-place.invariant.in_journal),
-      room_here c.loop-place.invariant (bytes TODO-place-After-put_command-arg) (omega arith) _ _ c.head_at-head.ensures,
+      room_here c.loop-place.invariant (bytes_by_place c.args.journal.now (λ i h. omega (arith, c.type_inv.journal i))) (omega arith) _ _ c.head_at-head.ensures,
     )
 
 pub spans_behind-spans-requires : goal.spans_behind-spans-requires
@@ -48,7 +43,7 @@ overflow_add-at c =
       arith,
       c.size_of-at.ensures,
       c.loop-place.invariant.as_long,
-      room_here c.loop-place.invariant (bytes TODO-place-After-size_of) (omega arith) _ _ c.head_at-head.ensures,
+      room_here c.loop-place.invariant (bytes_by_place c.args.journal.now (λ i h. omega (arith, c.type_inv.journal i))) (omega arith) _ _ c.head_at-head.ensures,
     )
 
 pub place_after-place-requires : goal.place_after-place-requires
@@ -62,7 +57,7 @@ loop-place-preserved c =
       c.spans_behind-spans.ensures,
       c.put_command.ensures,
     )
-    (written_behind_lem c.loop-place.invariant (bytes TODO-place-After-place_after) (omega arith) _ _ c.head_at-head.ensures)
+    (written_behind_lem c.loop-place.invariant (bytes_by_place c.args.journal.now (λ i h. omega (arith, c.type_inv.journal i))) (omega arith) _ _ c.head_at-head.ensures)
 
 pub shape_of-out : goal.shape_of-out
 shape_of-out c = c.loop-place.invariant.as_long
