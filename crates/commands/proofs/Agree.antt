@@ -117,8 +117,9 @@ agree_after {s} {s'} a c =
 -- So whatever is run from one goes as it goes from the other.
 agree_run : (choice : Choice) (caps : Capacities) {s s' : State} → Agree s s' → (rs : List Read) (end : Option Refusal)
     → run_over choice caps s rs end ≡ run_over choice caps s' rs end
-agree_run choice caps a [] end = unfold run_over in refl
-agree_run choice caps {s} {s'} a (r ∷ later) end = go (agree_run choice caps (agree_after a c) later end) (refusal_of caps s c) refl
+agree_run choice caps {s} {s'} a [] end = unfold run_over in refl
+agree_run choice caps {s} {s'} a (r ∷ later) end =
+    go (agree_run choice caps {s = after s c} {s' = after s' c} (agree_after a c) later end) (refusal_of caps s c) refl
   where
     c : Command
     c = r.command

@@ -20,7 +20,7 @@ use Rattle.commands.specs.Command.{command_byte}
 use Rattle.commands.specs.Refusal.{Capacities, refusal_number}
 use Rattle.commands.specs.Run.{Accepted, bytes_of_answers}
 use Rattle.commands.specs.Entry.{Whole, refused_at_start, ran, Buffers, whole_run, number_of, over, outcome}
-use Rattle.commands.specs.Facts.{state_after}
+use Rattle.commands.specs.Facts.{after, state_after}
 use Rattle.commands.specs.Register.{register_rule}
 use Rattle.commands.specs.Text.{commands_in}
 use Rattle.commands.specs.Rewrite.{rewrite, AnsweredAlike, WholesAlike, Ample, AnsweredAsBefore}
@@ -48,7 +48,7 @@ bytes_alike s s' (a ∷ l) (a' ∷ l') w free =
     let other = not (eqb (command_byte a.command) 0x0C) in
     ap₂ ◌++◌
     (w.0.same_bytes (eqb_ne (command_byte a.command) 0x0C (false_of_not_true _ (and_left other _ free))))
-    (bytes_alike _ _ l l' w.1 (and_right other _ free))
+    (bytes_alike (after s a.command) (after s' a'.command) l l' w.1 (and_right other _ free))
 
 -- before each command the same two routes serve in both networks
 pub pairs_alike : (s s' : State) (l l' : List Accepted) → AnsweredAlike s s' l l' → (i : ℕ) → i < length l → (x y : ℕ) (r : Routes)
@@ -58,7 +58,7 @@ unfolding state_after
 pairs_alike s s' [] l' w i h x y r = absurd (omega (arith, h))
 pairs_alike s s' (a ∷ l) [] w i h x y r = absurd w
 pairs_alike s s' (a ∷ l) (a' ∷ l') w zero h x y r = w.0.same_pairs x y r
-pairs_alike s s' (a ∷ l) (a' ∷ l') w (suc i) h x y r = pairs_alike _ _ l l' w.1 i (omega (arith, h)) x y r
+pairs_alike s s' (a ∷ l) (a' ∷ l') w (suc i) h x y r = pairs_alike (after s a.command) (after s' a'.command) l l' w.1 i (omega (arith, h)) x y r
 
 -- What whole runs return and leave, but for the report.
 pub record SameSeen (caps : Capacities) (lent : Buffers) (old new : Whole) : Type 0 where

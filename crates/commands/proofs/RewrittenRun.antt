@@ -17,16 +17,16 @@ use Rattle.graph.proofs.RoutesImage.{serve_alike}
 use Rattle.naming.specs.State.{State, empty_state}
 use Rattle.commands.specs.Command.{Command, add_span, add_duct_span, command_byte}
 use Rattle.commands.specs.Answer.{answer_bytes}
-use Rattle.commands.specs.Facts.{facts, addition_of, addition, operands_of, demands_of}
+use Rattle.commands.specs.Facts.{after, facts, addition_of, addition, operands_of, demands_of}
 use Rattle.commands.specs.Refusal.{Refusal, refusal_number, Capacities, cabinet_known, span_known, cabinets_known, spans_known, met, cause, meets, full_for, is_full, lines, refusal_of}
 use Rattle.commands.specs.Text.{Read, followed_by}
 use Rattle.commands.specs.Run.{stop, and_then, accepted_in, run_over, run_text, commands_of}
 use Rattle.commands.specs.Ducts.{ductless}
 use Rattle.commands.specs.Rewrite.{in_own_duct, rewrite_command, rewrite_from, RunsAlike}
 use Rattle.commands.proofs.EachRewritten.{Is02, Unchanged, each_rewritten}
-use Rattle.commands.proofs.Spelled.{reads_from}
+use Rattle.commands.proofs.Spelled.{operand_width, reads_from}
 use Rattle.commands.proofs.RunBooks.{Sound}
-use Rattle.commands.proofs.Simulated.{Apart, StandsFor, itself, in_duct_lem, Paired, states_empty, with_one_more_lem}
+use Rattle.commands.proofs.Simulated.{Apart, StandsFor, itself, in_duct_lem, spans_after, Paired, states_empty, with_one_more_lem}
 
 -- The first run is under the rule of request 3, and the second under that of request 7, where each span has the duct of its number plus 1.
 abbrev own_ducts : Apart
@@ -74,14 +74,16 @@ pub run_rewritten : (old new : Choice) (caps : Capacities) (place : ℕ) {spans 
     (run_text old caps s (record { commands = rs; refusal = end }))
     (run_text new caps s' (record { commands = reads_from place (rewrite_from spans (map (λ r. r.command) rs)); refusal = end }))
 unfolding ductless all_in rewrite_from reads_from followed_by stop and_then accepted_in commands_of
-run_rewritten old new caps place p sound [] end free =
+run_rewritten old new caps place {spans} {s} {s'} p sound [] end free =
     unfold run_text run_over in record { same_commands = refl; same_answers = tt; same_refusal = refl }
 run_rewritten old new caps place {spans} {s} {s'} p sound (r ∷ later) end free =
     let this = not (eqb (command_byte r.command) 0x0B) in
     with_one_more_lem p old new caps sound r _ (rewritten_for spans r.command (and_left this _ free)) (record { commands = later; refusal = end }) _
     (RunsAlike spans s s') (λ q. record { same_commands = refl; same_answers = tt; same_refusal = refl })
     (λ answered next still.
-    let rest = run_rewritten old new caps _ next still later end (and_right this _ free) in
+    let rest =
+    run_rewritten old new caps (place + 1 + operand_width (rewrite_command spans r.command))
+    {spans = spans_after spans r.command} {s = after s r.command} {s' = after s' (rewrite_command spans r.command)} next still later end (and_right this _ free) in
     record {
       same_commands = ap (λ l. rewrite_command spans r.command ∷ l) rest.same_commands;
       same_answers = (

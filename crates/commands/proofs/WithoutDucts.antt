@@ -15,11 +15,11 @@ use Rattle.graph.proofs.Truth.{and_left, and_right}
 use Rattle.graph.proofs.Never.{never-mates}
 use Rattle.graph.proofs.Ducts.{same_duct-mates, no_duct_no_mate}
 use Rattle.ways.proofs.RoutesAlike.{alike_routes}
-use Rattle.naming.specs.Book.{Book, feed_all}
+use Rattle.naming.specs.Book.{Book, feed, feed_all}
 use Rattle.naming.specs.State.{State}
 use Rattle.naming.proofs.AlikeBooks.{AlikeBooks}
 use Rattle.commands.specs.Command.{Command, command_byte}
-use Rattle.commands.specs.Facts.{facts, addition}
+use Rattle.commands.specs.Facts.{after, facts, addition}
 use Rattle.commands.specs.Refusal.{Refusal, Capacities}
 use Rattle.commands.specs.Text.{Read, Text, followed_by, text_of}
 use Rattle.commands.specs.Run.{and_then, accepted_in, run_over, run_text, run_within}
@@ -31,7 +31,7 @@ use Rattle.commands.proofs.EachRewritten.{Is02, Unchanged, each_rewritten}
 use Rattle.commands.proofs.AlikeStates.{SameRoutes}
 use Rattle.commands.proofs.RunBooks.{Sound, empty_sound}
 use Rattle.commands.proofs.Report.{report_is}
-use Rattle.commands.proofs.Simulated.{Apart, StandsFor, itself, in_duct_lem, PairedBooks, Paired, books_empty, states_empty, books_after, with_one_more_lem}
+use Rattle.commands.proofs.Simulated.{Apart, StandsFor, itself, in_duct_lem, spans_after, PairedBooks, Paired, books_empty, states_empty, books_after, with_one_more_lem}
 
 -- The first run's spans are each lost alone, and the second's with those of their duct; and no duct is told in either.
 abbrev untold : Apart
@@ -59,10 +59,11 @@ for_itself spans c other = go (each_rewritten c other)
 alike_after : {spans : ℕ} {b b' : Book} → PairedBooks untold spans b b' → (cs : List Command) → ductless cs ≡ true
     → AlikeBooks (feed_all b (map addition cs)) (feed_all b' (map addition cs))
 unfolding ductless all_in feed_all
-alike_after p [] free = p.alike
-alike_after {spans} p (c ∷ later) free =
+alike_after {spans} {b} {b'} p [] free = p.alike
+alike_after {spans} {b} {b'} p (c ∷ later) free =
     let this = not (eqb (command_byte c) 0x0B) in
-    alike_after (books_after p (for_itself spans c (and_left this _ free))) later (and_right this _ free)
+    alike_after {spans = spans_after spans c} {b = feed b (addition c)} {b' = feed b' (addition c)}
+    (books_after p (for_itself spans c (and_left this _ free))) later (and_right this _ free)
 
 -- and they hold the same names
 pub names_without_ducts : (cs : List Command) → ductless cs ≡ true → names_of (book_after same_duct cs) ≡ names_of (book_after never cs)
@@ -77,15 +78,16 @@ run_without_ducts : (choice : Choice) → SameRoutes choice → (caps : Capaciti
     → ductless (map (λ r. r.command) rs) ≡ true
     → run_text choice caps s' (record { commands = rs; refusal = end }) ≡ run_text choice caps s (record { commands = rs; refusal = end })
 unfolding ductless all_in followed_by accepted_in
-run_without_ducts choice same caps p sound [] end free = unfold run_text run_over in refl
-run_without_ducts choice same caps {spans} p sound (r ∷ later) end free =
+run_without_ducts choice same caps {spans} {s} {s'} p sound [] end free = unfold run_text run_over in refl
+run_without_ducts choice same caps {spans} {s} {s'} p sound (r ∷ later) end free =
     let this = not (eqb (command_byte r.command) 0x0B) in
     let t : Text = record { commands = later; refusal = end } in
     with_one_more_lem p choice choice caps sound r r (for_itself spans r.command (and_left this _ free)) t t (λ run run'. run' ≡ run) (λ q. refl)
     (λ answered next still.
     ap₂ (λ told. and_then (record { command = r.command; answer = told; width = r.width }))
     (answered (λ asks. same _ _ p.books.alike.networks))
-    (run_without_ducts choice same caps next still later end (and_right this _ free)))
+    (run_without_ducts choice same caps {spans = spans_after spans r.command} {s = after s r.command} {s' = after s' r.command}
+    next still later end (and_right this _ free)))
 
 -- A journal without 0B: the whole run is that where no span is lost with another,
 pub whole_run_without_ducts : (choice : Choice) → SameRoutes choice

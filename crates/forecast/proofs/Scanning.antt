@@ -67,11 +67,16 @@ module _ {t r : Tally} (read : Read) (counted : Counted t r (facts read.command)
   length-same : (later : List Command) → length_with t (read.command ∷ later) ≡ length_with r later
   unfolding length_with cabinet_commands span_commands plain_lengths addition
   length-same later =
+      let cabinets : t.cabinets + cabinet_commands (read.command ∷ later) ≡ r.cabinets + cabinet_commands later =
+          count_same is_cabinet read.command later t.cabinets counted.cabinets_are in
+      let spans : t.spans + span_commands (read.command ∷ later) ≡ r.spans + span_commands later =
+          count_same is_span read.command later t.spans counted.spans_are in
+      let rest = ap₂ (λ (c s : ℕ). plain_lengths c s later) cabinets spans in
       rw (
         count_same is_cabinet read.command later t.cabinets counted.cabinets_are,
         count_same is_span read.command later t.spans counted.spans_are,
       )
-      (ap (length_for _ _) (omega (arith, counted.plain_is (r.cabinets + cabinet_commands later) (r.spans + span_commands later))))
+      (ap (length_for _ _) (omega (arith, counted.plain_is (r.cabinets + cabinet_commands later) (r.spans + span_commands later), rest)))
 
   -- and so is the forecast
   forecast-same : (place end : ℕ) (later : Text)

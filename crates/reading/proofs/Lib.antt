@@ -1,3 +1,2 @@
 pub mod ReadSteps
 pub mod PassedAt
-pub mod ReaderPromise

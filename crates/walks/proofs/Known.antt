@@ -58,24 +58,24 @@ module _ (j : ℕ) (κ : Lft) (R : RattleType) where
   shared = record {
     vals = shr_slice_vals;
     tells = shr_slice_Tells (named j) κ R;
-    lawful = λ w. shr_slice_Lawful w.𝓛 (W w) (named j) κ R;
+    lawful = λ w. shr_slice_Lawful w.𝓛 (named j) κ R;
   }
 
   abbrev pub lent : Known (MutSlice (named j) κ R)
   lent = record {
     vals = mut_slice_vals;
     tells = mut_slice_Tells (named j) κ R;
-    lawful = λ w. mut_slice_Lawful w.𝓛 (W w) (named j) κ R;
+    lawful = λ w. mut_slice_Lawful w.𝓛 (named j) κ R;
   }
 
   abbrev pub lent_value : Known (MutRef (named j) κ R)
-  lent_value = record { vals = mut_vals; tells = mut_Tells (named j) κ R; lawful = λ w. mut_Lawful w.𝓛 (W w) (named j) κ R }
+  lent_value = record { vals = mut_vals; tells = mut_Tells (named j) κ R; lawful = λ w. mut_Lawful w.𝓛 (named j) κ R }
 
 abbrev pub number : (b : Width) → Known (UInt b)
-number b = record { vals = uint_vals b; tells = uint_Tells b; lawful = λ w. uint_Lawful w.𝓛 (W w) b }
+number b = record { vals = uint_vals b; tells = uint_Tells b; lawful = λ w. uint_Lawful w.𝓛 b }
 
 abbrev pub struct : (T : SD.Declared) (L : SL.Laws T) → Known (SD.row T)
-struct T L = record { vals = SL.vals T L; tells = SL.tells T L; lawful = λ w. SL.lawful T L w.𝓛 (W w) }
+struct T L = record { vals = SL.vals T L; tells = SL.tells T L; lawful = λ w. SL.lawful T L w.𝓛 }
 
 abbrev pub enum : (T : ED.Declared) (L : EL.Laws T) → Few (ED.shape T) → Known (ED.row T)
-enum T L few = record { vals = EL.vals T L; tells = EL.tells T L; lawful = λ w. EL.lawful T L w.𝓛 (W w) few }
+enum T L few = record { vals = EL.vals T L; tells = EL.tells T L; lawful = λ w. EL.lawful T L w.𝓛 few }

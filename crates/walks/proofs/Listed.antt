@@ -45,7 +45,7 @@ module _ {M : Type 1} (𝓤 : Ura M) where
 
   abbrev with_last : {D : Type 0} (e : Exit D) (x : D) → Last e x → List (Item 𝓤) → List (Item 𝓤)
   with_last unchanged x l Γ = Γ
-  with_last (leaves L says S see) x l Γ = ‵ (says x l) ∷ Γ
+  with_last (leaves L says S see rest) x l Γ = ‵ (says x l) ∷ Γ
 
   abbrev pub last_each : {n : ℕ} (κs : Lfts n) (ss : List (Slot n)) (ks : Kepts ss) (a : Denots (types_at ss κs)) → Fins κs ss ks a → List (Item 𝓤)
   last_each κs [] ks a ws = []
@@ -81,7 +81,7 @@ module _ {M : Type 1} {𝓤 : Ura M} (𝓛 : Logic 𝓤) where
   with_listed : {D : Type 0} (e : Exit D) (x : D) (l : Last e x) {Γ : List (Item 𝓤)} {R : SProp 𝓤} → Lists 𝓛 Γ R
       → Lists 𝓛 (with_last 𝓤 e x l Γ) (sep 𝓤 (sem 𝓛 (left e x l)) R)
   with_listed unchanged x l {R = R} h = record { into = via 𝓤 R h.into (emp∗ 𝓤 R); out = via 𝓤 R (snd∗ 𝓤 (emp 𝓤) R) h.out }
-  with_listed (leaves L says S see) x l h = listed_one (‵ (says x l)) h
+  with_listed (leaves L says S see rest) x l h = listed_one (‵ (says x l)) h
 
   pub last_listed : {n : ℕ} (κs : Lfts n) (ss : List (Slot n)) (ks : Kepts ss) (a : Denots (types_at ss κs)) (ws : Fins κs ss ks a)
       → Lists 𝓛 (last_each 𝓤 κs ss ks a ws) (sem 𝓛 (lasts_of κs ss ks a ws))

@@ -11,11 +11,11 @@ use Prim.Native.Nat.{ℕ, zero, ◌+◌}
 use mathlib.Core.List.{List, [], ◌∷◌}
 use lib.Dec.{T as Holds}
 use seplogic.Ra.Ura.{Ura}
-use seplogic.Ra.TreeShare.{full_share}
 use mir.Syntax.{Sym, Ty, Tys, ty_struct, place, field, deref, copy, addr_of, aggregate, Rv as RValue, Local, local as typed-local, Body, seq, assign}
 use mir.Val.{Val, Vals, vptr, vstruct, vnil, vcons, WT, has_ty}
 use mir.Fields.{get_v, set_v}
 use base.Logic.{ent, sep, id⊢, via, assoc', mono∗, mono_r}
+use base.Fraction.{full_share}
 use base.Fml.{Share, fat, froom, fdies}
 use prog.Memory.{field_at}
 use prog.Wp.{Heap, next, Env as Locals, Spot, spot_of, Calls, Loops}

@@ -13,7 +13,7 @@ use mir.Syntax.{Opd as Operand, Body, skip, seq, cond, exit, block, loop}
 use mir.Val.{Val, vbool}
 use base.Logic.{SProp}
 use prog.Routine.{Env}
-use prog.Wp.{next, Env as Locals, Wp, at_return, after_seq, after_block, after_turn}
+use prog.Wp.{Heap, next, Env as Locals, Wp, at_return, after_seq, after_block, after_turn}
 use contract.Running.{tables, tables_of}
 use types.Kit.{Item, prop, runs, Post, post, any_q, at_ret, Seq, ◌$◌}
 use types.Run.{Opd, first, branches, skips, jumps, blocks, loops, again, Below}
@@ -23,13 +23,16 @@ use Rattle.walks.proofs.Walk.{C, Λ}
 
 -- in w's model, under γ: how many are left, what is held at the head, the locals, the rest of the body, and what is promised of the result
 module _ (w : World) (γ : Env) {X : Type 0} (left : X → ℕ) (I : X → List (Item w.𝓤)) (E : Locals w.𝓤 w.𝓛.H) (rest : Body) (P : Val → SProp w.𝓤) where
-  open w use {𝓤, H, 𝓜, 𝓖, 𝓡}
+  open w use {𝓤, 𝓛, 𝓜, 𝓡}
+
+  abbrev H : Heap 𝓤
+  H = 𝓛.H
 
   abbrev Fewer : X → X → Type 0
   Fewer t' t = left t' < left t
 
   abbrev pub turning : X → Post 𝓤 H
-  turning t = any_q (after_turn 𝓤 H (Below 𝓤 H 𝓖.A Fewer I t)
+  turning t = any_q (after_turn 𝓤 H (Below 𝓛 Fewer I t)
       (after_block 𝓤 H (after_seq 𝓤 H (Wp 𝓤 H (C w γ) (Λ w γ) E rest (at_return 𝓤 H E P)) (at_return 𝓤 H E P))))
 
   module _ {K : Type 0} where

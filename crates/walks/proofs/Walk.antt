@@ -13,9 +13,9 @@ use mir.Syntax.{Fn, Place, Opd as Operand, Body, seq, call}
 use mir.Val.{Val}
 use base.Logic.{SProp, ent, sep, emp, id⊢, via, fst∗}
 use base.Fml.{ftrue}
-use prog.Wp.{Calls, Loops, WpFn, Closed, Env as Locals}
-use prog.Routine.{Name, Routine, Env}
-use ghost.Atoms.{Atoms, meaning}
+use prog.Wp.{Heap, Calls, Loops, WpFn, Closed, Env as Locals}
+use prog.Routine.{Callee, Routine, Env}
+use types.Logic.{sem}
 use contract.Monad.{fact, fact_i}
 use contract.Lifetimes.{Lfts, Shares, AllOutlive}
 use contract.Running.{tables}
@@ -105,10 +105,10 @@ module _ (P : Promise) where
 
 -- ---- in a model
 module _ (w : World) where
-  open w use {𝓤, H, 𝓜, 𝓖, 𝓡}
+  open w use {𝓤, 𝓛, 𝓜, 𝓡}
 
-  abbrev A : Atoms 𝓤
-  A = 𝓖.A
+  abbrev H : Heap 𝓤
+  H = 𝓛.H
 
   module _ (γ : Env) where
     abbrev pub C : Calls 𝓤 H
@@ -119,12 +119,12 @@ module _ (w : World) where
 
   module _ (P : Promise) where
     abbrev kept : Contract 𝓤
-    kept = triple_of 𝓤 H A (sig P) (closing 𝓤 H A P.ended (clauses P 𝓤))
+    kept = triple_of 𝓛 (sig P) (closing 𝓛 P.ended (clauses P 𝓤))
 
-    abbrev pub Keeps : Env → Name → Type 1
+    abbrev pub Keeps : Env → Callee → Type 1
     Keeps γ f = Triple 𝓤 (C γ f) kept
 
-    pub cites : (γ : Env) (f : Name) (r : Routine) → γ f ≡ r → Triple 𝓤 (𝓡.run r) kept → Keeps γ f
+    pub cites : (γ : Env) (f : Callee) (r : Routine) → γ f ≡ r → Triple 𝓤 (𝓡.run r) kept → Keeps γ f
     cites γ = cited 𝓤 H kept 𝓜 𝓡 γ
 
     module _ (x : Call P) where
@@ -132,17 +132,17 @@ module _ (w : World) where
       tokens = alive_each 𝓤 (sig P).lifetimes x.0 x.1
 
       abbrev living : SProp 𝓤
-      living = alive 𝓤 H A (sig P) x.0 x.1
+      living = alive 𝓛 (sig P) x.0 x.1
 
       -- what the function has on entry
       abbrev pub brought : Vals (sig P) x.0 → List (Item 𝓤)
       brought vss = tokens ++ own_each 𝓤 (rows P x) x.3 vss
 
       abbrev entry : Vals (sig P) x.0 → SProp 𝓤
-      entry = on_entry 𝓤 H A (sig P) x.0 x.1 x.3
+      entry = on_entry 𝓛 (sig P) x.0 x.1 x.3
 
-      entry_listed : (vss : Vals (sig P) x.0) → Lists 𝓖 (brought vss) (entry vss)
-      entry_listed vss = listed_both 𝓖 (alive_listed 𝓖 (sig P).lifetimes x.0 x.1) (owns_listed 𝓖 (rows P x) x.3 vss)
+      entry_listed : (vss : Vals (sig P) x.0) → Lists 𝓛 (brought vss) (entry vss)
+      entry_listed vss = listed_both 𝓛 (alive_listed 𝓛 (sig P).lifetimes x.0 x.1) (owns_listed 𝓛 (rows P x) x.3 vss)
 
       -- what there is when it has ended: the tokens, and what is said of the arguments at last
       abbrev pub over : Final P x → List (Item 𝓤)
@@ -151,10 +151,10 @@ module _ (w : World) where
       abbrev left : Final P x → Item 𝓤
       left ws = ‵ (lasts P.ended x.0 x.3 ws)
 
-      over-listed : (ws : Final P x) → Lists 𝓖 (over ws) (sep 𝓤 living (meaning 𝓤 H A (lasts P.ended x.0 x.3 ws)))
+      over-listed : (ws : Final P x) → Lists 𝓛 (over ws) (sep 𝓤 living (sem 𝓛 (lasts P.ended x.0 x.3 ws)))
       over-listed ws =
-          listed_both 𝓖 (alive_listed 𝓖 (sig P).lifetimes x.0 x.1)
-          (last_listed 𝓖 x.0 (sig P).params P.ended.kept x.3 ws)
+          listed_both 𝓛 (alive_listed 𝓛 (sig P).lifetimes x.0 x.1)
+          (last_listed 𝓛 x.0 (sig P).params P.ended.kept x.3 ws)
 
       abbrev pub promised : Val → SProp 𝓤
       promised = kept.post ((x.0, x.1, x.2, x.3, spelled P x), tt)
@@ -164,31 +164,31 @@ module _ (w : World) where
         → Seq (Go {0}) (W w) (brought x (spelled P x))
         (allocs f.locals (λ E. params' E (flat (rows P x) (spelled P x)) (runs (C γ) (Λ γ) E f.body (at_ret E (promised x)))))
 
-    pub walked : (γ : Env) (k : Name) (f : Fn) → Closed 𝓤 H (C γ) (Λ γ) k f → Walk γ f → Triple 𝓤 (𝓡.run (γ k)) kept
+    pub walked : (γ : Env) (k : Callee) (f : Fn) → Closed 𝓤 H (C γ) (Λ γ) k f → Walk γ f → Triple 𝓤 (𝓡.run (γ k)) kept
     walked γ k f closed walk = entered 𝓤 H kept (C γ) (Λ γ) k f closed (λ y.
         let κs = y.0.0 in
         let x : Call P = (κs, y.0.1, y.0.2, y.0.3) in
         learned 𝓤 (P.asks κs y.0.3) (λ ok.
-        said 𝓤 H A (sig P) κs y.0.1 (spelling (rows P x) (P.params κs)) (telling (rows P x) (P.params κs)) y.0.3
+        said 𝓛 (sig P) κs y.0.1 (spelling (rows P x) (P.params κs)) (telling (rows P x) (P.params κs)) y.0.3
         (λ us. WpFn 𝓤 H (C γ) (Λ γ) f (flat (rows P x) us) (kept.post y)) y.0.4
-        (λ are. via 𝓤 (⋆ 𝓤 H A (brought x (spelled P x))) (entry_listed x (spelled P x)).out
+        (λ are. via 𝓤 (⋆ 𝓛 (brought x (spelled P x))) (entry_listed x (spelled P x)).out
         (qed (W w) (brought x (spelled P x)) ∵ enter ! (C γ) (Λ γ) f _ _ $
-        walk x ok are (all_Typed 𝓤 H A (rows P x) (lawfuls w (rows P x) (P.params κs)) y.0.3 (spelled P x) are)))))
+        walk x ok are (all_Typed 𝓛 (rows P x) (lawfuls w (rows P x) (P.params κs)) y.0.3 (spelled P x) are)))))
 
     module _ {K : Type 0} {Γ : List (Item 𝓤)} where
       -- the context begins with the tokens, what is said at last, and what the result owns
       pub ends : K → (x : Call P) (v : Val) (r : (Result P x).Denot) (ws : Final P x)
           → over x ws ++ ‵ ((Result P x).own_val r (v ∷ [])) ∷ past (over x ws ++ ‵ ftrue ∷ []) Γ ≡ Γ → Says P x r ws → Seq K (W w) Γ (prop (promised x v))
       ends t x v r ws is e = subst (λ (Γ' : List (Item 𝓤)). Seq K (W w) Γ' (prop (promised x v))) is (
-          let y : Bound 𝓤 H A (sig P) = (x.0, x.1, x.2, x.3, spelled P x) in
+          let y : Bound 𝓛 (sig P) = (x.0, x.1, x.2, x.3, spelled P x) in
           cut (over x ws) ((raw (living x) ⊛ left x ws) ∷ []) _ (over-listed x ws).into $ split t $ updating t $ at_once t $
-          show t (λ (r' : (Result P x).Denot). sep 𝓤 (Back 𝓤 H A (sig P) y v r') (ensured 𝓤 H A P.ended (clauses P 𝓤) x.0 x.3 tt r')) r $
+          show t (λ (r' : (Result P x).Denot). sep 𝓤 (Back 𝓛 (sig P) y v r') (ensured 𝓛 P.ended (clauses P 𝓤) x.0 x.3 tt r')) r $
           move t (0 ∷ 2 ∷ []) $ join t $ frame t $
-          show t (λ (ws' : Final P x). sep 𝓤 (meaning 𝓤 H A (lasts P.ended x.0 x.3 ws')) (fact 𝓤 (Says P x r ws'))) ws $
+          show t (λ (ws' : Final P x). sep 𝓤 (sem 𝓛 (lasts P.ended x.0 x.3 ws')) (fact 𝓤 (Says P x r ws'))) ws $
           says t e $ keep t (0 ∷ []) $ done t)
 
       -- the context begins with what the function is to have on entry; its operands are read with all of that as one entry
-      pub calls : (γ : Env) → K → {f : Name} → Keeps γ f → (x : Call P) (vss : Vals (sig P) x.0) → Met (P.asks x.0 x.3)
+      pub calls : (γ : Env) → K → {f : Callee} → Keeps γ f → (x : Call P) (vss : Vals (sig P) x.0) → Met (P.asks x.0 x.3)
           → {E : Locals 𝓤 H} {xs : List Operand} {d : Place} {rest : Body} {q : Post 𝓤 H}
           → brought x vss ++ past (brought x vss) Γ ≡ Γ
           → Opds K (W w) (raw (entry x vss) ∷ past (brought x vss) Γ) E xs (flat (rows P x) vss)
@@ -205,5 +205,5 @@ module _ (w : World) where
           ⊛ some (λ (ws : Final P x). left x ws ⊛ raw (fact 𝓤 (Says P x r ws)))))) (id⊢ 𝓤 _) $
           await t tt $ pick t (λ r. split t $ move t (1 ∷ []) $ pick t (λ ws. split t $ move t (1 ∷ []) $
           heard t (Says P x r ws) (λ e. move t (1 ∷ []) $ split t $ move t (1 ∷ []) $
-          peeks t (Result P x) (Is (Result P x)) (shows 𝓤 H A (Result P x)) r (u ∷ []) (λ is'. move t (1 ∷ 2 ∷ []) $ join t $
+          peeks t (Result P x) (Is (Result P x)) (shows 𝓛 (Result P x)) r (u ∷ []) (λ is'. move t (1 ∷ 2 ∷ []) $ join t $
           cut ((raw (living x) ⊛ left x ws) ∷ []) (over x ws) _ (over-listed x ws).out $ k u r ws e is'))))))

@@ -1,0 +1,6 @@
+-- `climb::top` reads the vertex above a block.
+use Rattle.std.proofs.Common.{rules}
+use Rattle.forest.proofs.climb.top.Goals as goal
+
+pub returns : goal.returns
+returns c = cc

@@ -1,0 +1,6 @@
+-- `climb::up` reads what stands above a vertex.
+use Rattle.std.proofs.Common.{rules}
+use Rattle.forest.proofs.climb.up.Goals as goal
+
+pub returns : goal.returns
+returns c = cc

@@ -1,0 +1,25 @@
+-- `read::take_one` reads a command with one operand, or finds it cut off.
+use mathlib.Core.Path.{sym, ◌∙◌}
+use native.Mathlib.Omega.{arith}
+use lib.ListN.{drop, length-drop}
+use Rattle.commands.specs.Command.{operand}
+use Rattle.reading.specs.Inside.Reads.{meaning, reading_of}
+use Rattle.reading.proofs.ReadSteps.{width_one, cut_operands_lem, read_operands, operand_at}
+use Rattle.reading.proofs.read.take_one.Goals as goal
+
+pub returns-then-journal-from-lt2 : goal.returns-then-journal-from-lt2
+unfolding reading_of
+returns-then-journal-from-lt2 c =
+    sym
+    (cut_operands_lem c.args.byte (drop c.args.from c.args.journal.now) 1 (width_one c.args.byte c.requires.0)
+    (omega (arith, length-drop c.args.from c.args.journal.now)))
+
+pub returns : goal.returns
+unfolding reading_of
+returns c =
+    let l = c.args.journal.now in
+    let from = c.args.from in
+    sym
+    (read_operands c.args.byte (drop from l) 1 (meaning c.one_operand.result)
+    (c.one_operand.ensures (operand (drop from l)) (operand_at l from 0 from (omega arith) ∙ sym c.operand-x.ensures.0))
+    (omega (arith, length-drop from l)))

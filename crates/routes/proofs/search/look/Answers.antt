@@ -1,0 +1,42 @@
+-- `search::look` sees an edge from a vertex.
+use mathlib.Core.Path.{sym, ◌∙◌}
+use native.Mathlib.Omega.{arith}
+use Rattle.routes.proofs.SearchesLook.{other_known, look_reached, look_barred, look-linked}
+use Rattle.routes.proofs.search.look.Goals as goal
+
+pub returns-then-not-may_step : goal.returns-then-not-may_step
+returns-then-not-may_step c =
+    let args = c.args in
+    look_barred args.shape args.t.now c.requires.0 args.y.0 args.s.0 c.other_end-x.result.0
+    c.ends_of-ends.result.left.0 c.ends_of-ends.result.right.0 c.requires.1 c.ends_of-ends.ensures
+    c.other_end-x.ensures args.allowance args.found _
+    (sym c.may_step.ensures ∙ c.if-not-may_step.true)
+    (omega (arith, c.edge_scratch-used.ensures))
+
+pub returns-then-vertex_scratch-ne0 : goal.returns-then-vertex_scratch-ne0
+returns-then-vertex_scratch-ne0 c =
+    let args = c.args in
+    look_reached args.shape args.t.now c.requires.0 args.y.0 args.s.0 c.other_end-x.result.0
+    c.ends_of-ends.result.left.0 c.ends_of-ends.result.right.0 c.requires.1 c.ends_of-ends.ensures
+    c.other_end-x.ensures args.allowance args.found
+    c.vertex_scratch.result c.vertex_scratch.ensures c.if-vertex_scratch-ne0.true
+
+pub reach-requires : goal.reach-requires
+reach-requires c =
+    let args = c.args in (
+      c.requires.0,
+      other_known args.shape args.t.now c.requires.0 args.y.0 args.s.0 c.other_end-x.result.0
+          c.ends_of-ends.result.left.0 c.ends_of-ends.result.right.0 c.requires.1 c.ends_of-ends.ensures
+          c.other_end-x.ensures,
+      c.requires.1,
+    )
+
+pub returns : goal.returns
+returns c =
+    let args = c.args in
+    look-linked args.shape args.t.now c.requires.0 args.y.0 args.s.0 c.other_end-x.result.0
+    c.ends_of-ends.result.left.0 c.ends_of-ends.result.right.0 c.requires.1 c.ends_of-ends.ensures
+    c.other_end-x.ensures args.allowance args.found
+    c.vertex_scratch.result c.vertex_scratch.ensures c.if-vertex_scratch-ne0.false
+    (sym c.may_step.ensures ∙ c.if-not-may_step.false)
+    (omega (arith, c.edge_scratch-used.ensures)) c.reach.ensures

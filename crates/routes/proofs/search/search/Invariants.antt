@@ -1,0 +1,11 @@
+use mathlib.Core.Path.{◌∙◌}
+use Prim.Native.Nat.{◌-◌, ◌≤◌}
+use native.Mathlib.Omega.{arith}
+use Rattle.routes.proofs.SearchesTurns.{Turning, turning_first, turning_next, turning_stops, turning_last}
+use Rattle.routes.proofs.search.search.Given as goal
+
+abbrev pub invariant-loop-i : goal.invariant-loop-i
+invariant-loop-i l = Turning l.shape l.allowance l.i l.initial.found l.initial.t l.t l.found × (l.i ≤ l.shape.vertices)
+
+abbrev pub decreases-loop-i : goal.decreases-loop-i
+decreases-loop-i l = l.shape.vertices - l.i

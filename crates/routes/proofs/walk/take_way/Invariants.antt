@@ -1,0 +1,25 @@
+use mathlib.Core.List.{List}
+use mathlib.Core.Logic.{⊎_elim}
+use mathlib.Core.Path.{◌≡◌}
+use Prim.Native.Nat.{◌-◌, ◌<◌}
+use native.Mathlib.Omega.{arith}
+use lib.ListN.{length}
+use Rattle.graph.specs.Network.{Network}
+use Rattle.graph.specs.Cycle.{Step}
+use Rattle.ways.specs.Used.{Used, Usable, WayFits}
+use Rattle.ways.specs.TwoRoutes.{edges_of}
+use Rattle.forest.specs.Promise.{network_in}
+use Rattle.routes.specs.Inside.Frame.{Only, edges_only, Written}
+use Rattle.routes.specs.Inside.Lists.{Listed}
+use Rattle.routes.proofs.Frames.{only_refl, only_trans}
+use Rattle.routes.proofs.WalksWay.{TakenTo, take_begins, take_ends, take-goes_on, stepped_then, stepped_not}
+use Rattle.routes.proofs.walk.take_way.Given as goal
+
+abbrev pub invariant-loop-i : goal.invariant-loop-i
+invariant-loop-i l =
+    Only l.shape edges_only l.initial.t l.t
+    × ((g : Network) (u : Used) (ps : List Step) → network_in l.shape l.initial.t ≡ g → Listed l.shape g u l.initial.t → Usable g u → WayFits g u l.initial.x ps
+    → length ps < g.vertices → Written l.shape l.column l.count l.initial.t (edges_of ps) → TakenTo l.shape g u l.initial.x ps l.t l.x l.i)
+
+abbrev pub decreases-loop-i : goal.decreases-loop-i
+decreases-loop-i l = l.count - l.i

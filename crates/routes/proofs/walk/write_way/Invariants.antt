@@ -1,0 +1,23 @@
+use mathlib.Core.Bool.{true}
+use mathlib.Core.Path.{◌≡◌, ap}
+use Prim.Native.Nat.{◌-◌, ◌≤◌}
+use native.Mathlib.Omega.{arith}
+use Rattle.graph.specs.Lists.{is_in}
+use Rattle.graph.specs.Network.{Network}
+use Rattle.ways.specs.Search.{Found, Orderly}
+use Rattle.forest.specs.Promise.{network_in, vertices_held, vertices_fit}
+use Rattle.routes.specs.Inside.Frame.{Only, column_only}
+use Rattle.routes.specs.Inside.Searches.{NextIs}
+use Rattle.routes.proofs.Frames.{only_refl, only_trans, only_vertex}
+use Rattle.routes.proofs.WalksWritten.{WrittenTo, write_begins, write_ends, written_fits, write_goes_on}
+use Rattle.routes.proofs.walk.write_way.Given as goal
+
+abbrev pub invariant-loop-i : goal.invariant-loop-i
+invariant-loop-i l =
+    Only l.shape (column_only l.column) l.initial.t l.t
+    × (l.i ≤ l.shape.vertices)
+    × ((g : Network) (f : Found) → network_in l.shape l.initial.t ≡ g → Orderly g l.b.0 f → NextIs l.shape l.b.0 f l.initial.t → is_in l.initial.x f.order ≡ true
+    → WrittenTo l.shape l.column l.initial.x f l.t l.x l.i)
+
+abbrev pub decreases-loop-i : goal.decreases-loop-i
+decreases-loop-i l = l.shape.vertices - l.i

@@ -1,0 +1,16 @@
+-- `carry::cut_cabinets` lists the cut cabinets between two cabinets.
+use Rattle.step.proofs.Carries.{cut_cabinets_carried}
+use Rattle.step.specs.Promise.{item_at}
+use Rattle.step.proofs.carry.cut_cabinets.Goals as goal
+
+pub returns : goal.returns
+unfolding item_at
+returns c =
+    cut_cabinets_carried
+    c.args.shape
+    c.args.a.0
+    c.args.b.0
+    c.args.t.now
+    c.cuts_between-count.new.t
+    c.cuts_between-count.result
+    c.cuts_between-count.ensures

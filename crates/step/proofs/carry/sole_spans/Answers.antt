@@ -1,0 +1,16 @@
+-- `carry::sole_spans` lists the sole spans between two cabinets.
+use Rattle.step.proofs.Carries.{sole_spans_carried}
+use Rattle.step.specs.Promise.{item_at}
+use Rattle.step.proofs.carry.sole_spans.Goals as goal
+
+pub returns : goal.returns
+unfolding item_at
+returns c =
+    sole_spans_carried
+    c.args.shape
+    c.args.a.0
+    c.args.b.0
+    c.args.t.now
+    c.bridges_between-count.new.t
+    c.bridges_between-count.result
+    c.bridges_between-count.ensures
