@@ -131,7 +131,7 @@ answers_raised choice own one serves w q [] n = tt
 answers_raised choice own one serves {s} {s'} w q (a ∷ l) n = (
   subst (λ (x : Answer). RaisedAnswer one s (record { command = a.command; answer = x; width = a.width }) (answer choice s' (raise_command (counts_of one) a.command)))
       (sym n.1) (told_raised w q choice own a.width serves a.command n.0),
-  answers_raised choice own one serves (sound_beside_after caps w a.command n.0) (beside_after caps w q a.command n.0) l n.2,
+  answers_raised choice own one serves {s = after s a.command} {s' = after s' (raise_command (counts_of one) a.command)} (sound_beside_after caps w a.command n.0) (beside_after caps w q a.command n.0) l n.2,
 )
 
 -- the answers to the seams

@@ -56,7 +56,8 @@ pub beside_all : (caps : Capacities) {one s s' : State} → BesideSound caps one
     → BesideState one (state_after s cs) (state_after s' (map (raise_command (counts_of one)) cs))
 unfolding state_after
 beside_all caps w q [] n = q
-beside_all caps w q (c ∷ cs) n = beside_all caps (sound_beside_after caps w c n.0) (beside_after caps w q c n.0) cs n.1
+beside_all caps {one = one} {s = s} {s' = s'} w q (c ∷ cs) n =
+    beside_all caps {one = one} {s = after s c} {s' = after s' (raise_command (counts_of one) c)} (sound_beside_after caps w c n.0) (beside_after caps w q c n.0) cs n.1
 
 module _ (caps : Capacities) (one : State) where
   abbrev by : Counts
@@ -115,7 +116,7 @@ module _ (caps : Capacities) (one : State) where
   second_refusal w q c e [] n = unfold refusal_in in rw (le-leb _ _ c, le-leb _ _ e)
   second_refusal {s} {s'} w q c e (x ∷ cs) n =
       go (true_or_false (is_full caps s' (raise_command by x)))
-      (λ c' e'. second_refusal (sound_beside_after caps w x n.0) (beside_after caps w q x n.0) c' e' cs n.1)
+      (λ c' e'. second_refusal {s = after s x} {s' = after s' (raise_command by x)} (sound_beside_after caps w x n.0) (beside_after caps w q x n.0) c' e' cs n.1)
     where
       a : Adds w q (addition x)
       a = adds w q (addition x)

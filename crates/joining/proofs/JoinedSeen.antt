@@ -6,7 +6,7 @@ use native.Mathlib.Omega.{arith}
 use lib.ListN.{length, take, get_or}
 use Rattle.naming.specs.State.{State}
 use Rattle.commands.specs.Answer.{Answer}
-use Rattle.commands.specs.Facts.{state_after}
+use Rattle.commands.specs.Facts.{after, state_after}
 use Rattle.commands.specs.Run.{Accepted}
 use Rattle.commands.specs.Join.{Seam, RaisedAnswer, RaisedAnswers, SeamAnswers}
 
@@ -15,7 +15,7 @@ pub as_many_raised : (one s : State) (l : List Accepted) (answers : List Answer)
 as_many_raised one s [] [] w = refl
 as_many_raised one s [] (now ∷ answers) w = absurd w
 as_many_raised one s (a ∷ l) [] w = absurd w
-as_many_raised one s (a ∷ l) (now ∷ answers) w = ap suc (as_many_raised one _ l answers w.1)
+as_many_raised one s (a ∷ l) (now ∷ answers) w = ap suc (as_many_raised one (after s a.command) l answers w.1)
 
 -- each command is answered so in the state that the commands before it leave
 pub raised_at : (one s : State) (l : List Accepted) (answers : List Answer) → RaisedAnswers one s l answers
@@ -25,7 +25,7 @@ unfolding state_after
 raised_at one s [] answers w i h a' now' = absurd (omega (arith, h))
 raised_at one s (a ∷ l) [] w i h a' now' = absurd w
 raised_at one s (a ∷ l) (now ∷ answers) w zero h a' now' = w.0
-raised_at one s (a ∷ l) (now ∷ answers) w (suc i) h a' now' = raised_at one _ l answers w.1 i (omega (arith, h)) a' now'
+raised_at one s (a ∷ l) (now ∷ answers) w (suc i) h a' now' = raised_at one (after s a.command) l answers w.1 i (omega (arith, h)) a' now'
 
 -- there are as many answers as seams
 pub as_many_seams : (next : ℕ) (xs : List Seam) (answers : List Answer) → SeamAnswers next xs answers → length answers ≡ length xs

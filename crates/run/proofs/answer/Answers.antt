@@ -10,10 +10,6 @@ use Rattle.run.proofs.answer.Goals as goal
 pub returns-then-answers-written : goal.returns-then-answers-written
 returns-then-answers-written c = no_room_lem (omega (arith, c.if-answers-written.true, c.size_of-size.ensures)) c.refuse.ensures refl
 
--- TODO no such goal now: overflow-add-t16
--- add-t16 : tie.Need-overflow-add-t16
--- add-t16 c = search rules
-
 pub returns : goal.returns
 unfolding one_further
 returns c =

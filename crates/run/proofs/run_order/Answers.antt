@@ -20,7 +20,6 @@ place_after-place-requires c =
 
 pub answer-requires : goal.answer-requires
 answer-requires c =
-    let g = c.stepped-in-Done-1.given in
     let under = c.requires.underway in
     let done =
     was_done
@@ -28,8 +27,8 @@ answer-requires c =
     (meaning c.args.order)
     c.args.work.now
     c.step-stepped.new.t
-    g.0.0
-    (rw g.1 at c.step-stepped.ensures) in
+    c.in-Done.reply
+    (rw c.in-Done.is at c.step-stepped.ensures) in
     record {
       fits = done.carried.fits;
       few_cabinets = few_vertices c.args.p.shape c.args.work.now under.going.holds;
@@ -40,20 +39,18 @@ answer-requires c =
 
 pub returns-in-Refused : goal.returns-in-Refused
 returns-in-Refused c =
-    let g = c.stepped-1.given in
     step_refused_on
     c.requires.underway
     ends-with_answers
     (meaning c.args.order)
     c.requires.reads
     c.step-stepped.new.t
-    g.0.0
-    (rw g.1 at c.step-stepped.ensures)
+    c.in-Refused.number
+    (rw c.in-Refused.is at c.step-stepped.ensures)
     c.refuse.ensures
 
 pub returns-in-Done : goal.returns-in-Done
 returns-in-Done c =
-    let g = c.stepped-in-Done-1.given in
     answered_on
     c.requires.underway
     c.requires.reads
@@ -62,7 +59,7 @@ returns-in-Done c =
     (meaning c.args.order)
     c.args.work.now
     c.step-stepped.new.t
-    g.0.0
-    (rw g.1 at c.step-stepped.ensures))
+    c.in-Done.reply
+    (rw c.in-Done.is at c.step-stepped.ensures))
     (rw c.place_after-place.ensures at c.answer.ensures)
     c.answer.auto.answers

@@ -26,40 +26,37 @@ shape_after-next-requires c =
 pub overflow_add-result-in-Done : goal.overflow_add-result-in-Done
 overflow_add-result-in-Done c =
     let done : CarriedOut c.args.p.shape (meaning c.args.order) c.args.work.now c.step-stepped.new.t c.in-Done.reply =
-        let g = c.stepped-in-Done-1.given in
         was_done
         c.args.p.shape
         (meaning c.args.order)
         c.args.work.now
         c.step-stepped.new.t
-        g.0.0
-        (rw g.1 at c.step-stepped.ensures) in
+        c.in-Done.reply
+        (rw c.in-Done.is at c.step-stepped.ensures) in
     omega (arith, can_be_counted c.requires.underway c.requires.reads (done), c.size_of.ensures)
 
 pub returns-in-Refused : goal.returns-in-Refused
 returns-in-Refused c =
-    let g = c.stepped-1.given in
     step_refused_on
     c.requires.underway
     ends-without_answers
     (meaning c.args.order)
     c.requires.reads
     c.step-stepped.new.t
-    g.0.0
-    (rw g.1 at c.step-stepped.ensures)
+    c.in-Refused.number
+    (rw c.in-Refused.is at c.step-stepped.ensures)
     c.refuse.ensures
 
 pub returns-in-Done : goal.returns-in-Done
 returns-in-Done c =
     let done : CarriedOut c.args.p.shape (meaning c.args.order) c.args.work.now c.step-stepped.new.t c.in-Done.reply =
-        let g = c.stepped-in-Done-1.given in
         was_done
         c.args.p.shape
         (meaning c.args.order)
         c.args.work.now
         c.step-stepped.new.t
-        g.0.0
-        (rw g.1 at c.step-stepped.ensures) in
+        c.in-Done.reply
+        (rw c.in-Done.is at c.step-stepped.ensures) in
     counted_on
     c.requires.underway
     c.requires.reads
