@@ -1,4 +1,4 @@
--- Demand 3: the whole_run claim holds of every run of the definitions, for every rule of mates, every choice of routes that
+-- Demand 3: the whole-run claim holds of every run of the definitions, for every rule of mates, every choice of routes that
 -- serves, every capacity, journal of bytes and buffer.
 use mathlib.Core.Bool.{true}
 use mathlib.Core.List.{List}
@@ -26,7 +26,7 @@ use Rattle.commands.proofs.RunBooks.{NoneRefused, first_not_refused, Sound, empt
 use Rattle.commands.proofs.NoticeBound.{few_in_all, each_doubles_at}
 use Rattle.commands.proofs.ReadBack.{length_answers, accepted, answer_buffer, read_back}
 
--- the whole_run claim holds of every run: refused at the start, refused later, or accepted
+-- the whole-run claim holds of every run: refused at the start, refused later, or accepted
 pub whole_run_lem : (rule : Rule) → MateRule rule → (choice : Choice) → Serves rule choice
     → (caps : Capacities) (journal : List ℕ) → all_bytes journal ≡ true
     → (lent : Buffers)

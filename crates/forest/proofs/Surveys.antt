@@ -138,10 +138,10 @@ module _ (limits : Limits) (n m : ℕ) (t : List ℕ) (valid : Valid limits n m 
           }
 
 -- the length that the words of an edge tell is that of the survey that holds
-pub length_is_lem : (shape : Shape) (t : List ℕ) (s : ℕ) → s < shape.edges
+pub length_is : (shape : Shape) (t : List ℕ) (s : ℕ) → s < shape.edges
     → length_in t shape.limits s ≡ length_given (holding (state_of shape t).surveys s)
 unfolding state_of length_in survey_kept
-length_is_lem shape t s h = rw (kept_holds shape.limits t shape.edges s h) (go (true_or_false (is_surveyed t shape.limits s)))
+length_is shape t s h = rw (kept_holds shape.limits t shape.edges s h) (go (true_or_false (is_surveyed t shape.limits s)))
   where
     go : (is_surveyed t shape.limits s ≡ true) ⊎ (is_surveyed t shape.limits s ≡ false)
         → length_in t shape.limits s ≡ length_given (survey_kept t shape.limits s)

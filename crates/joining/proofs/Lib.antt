@@ -11,7 +11,6 @@ pub mod JoinedSeen
 pub mod JoinedRuns
 pub mod JoinExactly
 pub mod SeamSteps
-pub mod SeamPromise
 pub mod Orders
 pub mod Going
 pub mod Meeting

@@ -104,7 +104,7 @@ module _ (work_length : ℕ) (first second : List ℕ) (xs : List Seam) (out : L
   -- This is what a joining returns and leaves.
   pub record Leaves (j : Joining) (s : Stage) : Type 0 where
     pub number_is : tells_number s.joining ≡ j.number
-    pub length_is_lem : tells_length s.joining ≡ length j.result
+    pub length_is : tells_length s.joining ≡ length j.result
     pub output_is : s.out ≡ over j.result out
 
   -- a join that is refused leaves the buffer as it was
@@ -114,7 +114,7 @@ module _ (work_length : ℕ) (first second : List ℕ) (xs : List Seam) (out : L
   leaves_refused r e s =
       subst (λ (j : Joining). Leaves j last_stage) (sym (ap (λ (o : Option Refusal). joining_unless o (joined_bytes first second seams)) e))
       (subst (Leaves (joining_unless (some r) (joined_bytes first second seams))) (sym s)
-      (record { number_is = refl; length_is_lem = refl; output_is = refl }))
+      (record { number_is = refl; length_is = refl; output_is = refl }))
 
   -- it stays refused through all steps
   all_refused : (n : ℕ) → stages_from (J.Refused n) ≡ refused n out
@@ -194,7 +194,7 @@ module _ (work_length : ℕ) (first second : List ℕ) (xs : List Seam) (out : L
       (subst (Leaves (record { number = 0; result = joined_bytes first second seams })) (sym s)
       (record {
         number_is = refl;
-        length_is_lem = sym (size_is whole);
+        length_is = sym (size_is whole);
         output_is = sets_front out (joined_bytes first second seams) (omega (arith, room, size_is whole));
       }))
 

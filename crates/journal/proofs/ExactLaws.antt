@@ -112,7 +112,7 @@ exact_promised {caps = caps} {journal = journal} {work = work} {number = number}
     record {
       returned_is = returned;
       place_is = at;
-      length_is_lem = told;
+      length_is = told;
       work_is = w.work_is;
       to_the_byte = λ accepted lent long. rw told (exact_to_the_byte caps journal (length work) (sym returned ∙ accepted) lent long);
       no_longer = λ accepted. rw told (exact_no_longer caps journal (length work) (sym returned ∙ accepted));

@@ -34,7 +34,7 @@ module _ (journal : List ℕ) where
       record {
         returned_is = number;
         place_is = at;
-        length_is_lem = ap (λ (f : Paper.Forecast). f.length) e;
+        length_is = ap (λ (f : Paper.Forecast). f.length) e;
         suffices = λ accepted.
             text_suffices room (ap (λ (f : Paper.Forecast). f.length) (e ∙ forecast_with_nought journal (sym number ∙ accepted)));
         suffices_before = λ unread.

@@ -51,7 +51,7 @@ module _ (first second : List ℕ) (xs : List Seam) (table left_table out : List
   join_promised returned room j₃ j₄ out₃ left put met told =
       record {
         returned_is = number_is;
-        length_is_lem = length_is_lem;
+        length_is = length_is;
         work_is = counts.work_is;
         output_is = output_is;
         answered_joined = λ accepted. subst (AnsweredJoined first second seams) (sym (front accepted)) (answered_joined (joinable accepted));
@@ -70,8 +70,8 @@ module _ (first second : List ℕ) (xs : List Seam) (table left_table out : List
       number_is : returned ≡ (join (length table) (length out) first second seams).number
       number_is = told.0 ∙ leaves.number_is
 
-      length_is_lem : room ≡ length (join (length table) (length out) first second seams).result
-      length_is_lem = told.1 ∙ leaves.length_is_lem
+      length_is : room ≡ length (join (length table) (length out) first second seams).result
+      length_is = told.1 ∙ leaves.length_is
 
       output_is : left ≡ over (join (length table) (length out) first second seams).result out
       output_is = leaves.output_is
@@ -96,5 +96,5 @@ module _ (first second : List ℕ) (xs : List Seam) (table left_table out : List
       front : returned ≡ 0 → take room left ≡ joined_bytes first second seams
       front accepted =
           ap (take room) output_is
-          ∙ front_of_over (join (length table) (length out) first second seams).result out room (sym length_is_lem)
+          ∙ front_of_over (join (length table) (length out) first second seams).result out room (sym length_is)
           ∙ join_with_nought (length table) (length out) first second seams (nought accepted)

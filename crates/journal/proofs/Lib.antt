@@ -7,4 +7,3 @@ pub mod ExactLaws
 pub mod RewriteLaws
 pub mod Longest
 pub mod JoinLaws
-pub mod JoinEntry

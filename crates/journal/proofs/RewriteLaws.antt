@@ -26,14 +26,14 @@ rewrite_promised journal lent left r are w =
     record {
       returned_is = w.number_is;
       place_is = w.place_is;
-      length_is_lem = w.length_is_lem;
+      length_is = w.length_is;
       output_is = w.output_is;
       answered_as_before = λ accepted.
           subst (AnsweredAsBefore journal) (sym front) (rewrite_answered (length lent) journal are (sym w.number_is ∙ accepted));
       same-forecast = λ accepted.
-          rw (front, w.length_is_lem) (rewritten_forecast (length lent) journal are (sym w.number_is ∙ accepted));
+          rw (front, w.length_is) (rewritten_forecast (length lent) journal are (sym w.number_is ∙ accepted));
     }
   where
     -- the result stands at the front of the buffer
     front : take r.length left ≡ (rewrite (length lent) journal).result
-    front = ap (take r.length) w.output_is ∙ front_of_over (rewrite (length lent) journal).result lent r.length (sym w.length_is_lem)
+    front = ap (take r.length) w.output_is ∙ front_of_over (rewrite (length lent) journal).result lent r.length (sym w.length_is)

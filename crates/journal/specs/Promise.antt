@@ -11,7 +11,7 @@ use Rattle.commands.specs.Rewrite.{rewrite, AnsweredAsBefore}
 use Rattle.commands.specs.Join.{Seam, join, joined_work, AnsweredJoined}
 
 -- For these capacities, this journal and these buffers: the returned number and every buffer are those of the register, and the
--- whole_run claim holds of the accepted commands and of the answer buffer as it stands on return.
+-- whole-run claim holds of the accepted commands and of the answer buffer as it stands on return.
 pub record RegisterPromise (caps : Capacities) (journal : List ℕ) (lent : Buffers) (returned : ℕ) (left : Buffers) : Type 0 where
   pub returned_is : returned ≡ (register caps journal lent).returned
   pub work_is : left.work ≡ (register caps journal lent).buffers.work
@@ -28,7 +28,7 @@ pub record RegisterPromise (caps : Capacities) (journal : List ℕ) (lent : Buff
 pub record ForecastPromise (journal : List ℕ) (returned place room : ℕ) : Type 0 where
   pub returned_is : returned ≡ (forecast journal).number
   pub place_is : place ≡ (forecast journal).place
-  pub length_is_lem : room ≡ (forecast journal).length
+  pub length_is : room ≡ (forecast journal).length
   -- a run of a journal that it accepts never gives 11 with that much
   pub suffices : returned ≡ 0 → Suffices journal room
   -- a journal that it refuses with 4 or 5: it accepts the bytes before that place, and no run of the whole journal gives 11 with the
@@ -41,7 +41,7 @@ pub record ForecastPromise (journal : List ℕ) (returned place room : ℕ) : Ty
 pub record ExactPromise (caps : Capacities) (journal table : List ℕ) (returned place room : ℕ) (left : List ℕ) : Type 0 where
   pub returned_is : returned ≡ (exact_forecast caps journal (length table)).number
   pub place_is : place ≡ (exact_forecast caps journal (length table)).place
-  pub length_is_lem : room ≡ (exact_forecast caps journal (length table)).length
+  pub length_is : room ≡ (exact_forecast caps journal (length table)).length
   pub work_is : left ≡ exact_work caps journal table
   -- a run of a journal that it accepts, in any buffers that are long enough, is accepted with that much and writes so many bytes, and meets 11
   -- with less
@@ -62,7 +62,7 @@ pub record ExactPromise (caps : Capacities) (journal table : List ℕ) (returned
 pub record RewritePromise (journal lent : List ℕ) (returned place room : ℕ) (left : List ℕ) : Type 0 where
   pub returned_is : returned ≡ (rewrite (length lent) journal).number
   pub place_is : place ≡ (rewrite (length lent) journal).place
-  pub length_is_lem : room ≡ length (rewrite (length lent) journal).result
+  pub length_is : room ≡ length (rewrite (length lent) journal).result
   pub output_is : left ≡ over (rewrite (length lent) journal).result lent
   -- the bytes that it leaves at the front of the buffer are answered as the journal was where spans of 02 have no mates
   pub answered_as_before : returned ≡ 0 → AnsweredAsBefore journal (take room left)
@@ -73,7 +73,7 @@ pub record RewritePromise (journal lent : List ℕ) (returned place room : ℕ) 
 -- and the buffer are those of the joining into as much room. Where it is refused its result is empty: nothing is written.
 pub record JoinPromise (first second : List ℕ) (seams : List Seam) (table lent : List ℕ) (returned room : ℕ) (left_table left : List ℕ) : Type 0 where
   pub returned_is : returned ≡ (join (length table) (length lent) first second seams).number
-  pub length_is_lem : room ≡ length (join (length table) (length lent) first second seams).result
+  pub length_is : room ≡ length (join (length table) (length lent) first second seams).result
   pub work_is : left_table ≡ joined_work table
   pub output_is : left ≡ over (join (length table) (length lent) first second seams).result lent
   -- the bytes that it leaves at the front of the buffer are answered by the first's own answers, then the second's, raised, then one for each

@@ -38,7 +38,7 @@ module _ {journal lent : List ℕ} {r : Rewriting} where
       record {
         number_is = ap (λ (q : Rewriting). q.number) told ∙ sym (ap (λ (q : Paper.Rewriting). q.number) e);
         place_is = ap (λ (q : Rewriting). q.place) told ∙ sym (ap (λ (q : Paper.Rewriting). q.place) e);
-        length_is_lem = ap (λ (q : Rewriting). q.length) told ∙ sym (ap (λ (q : Paper.Rewriting). length q.result) e);
+        length_is = ap (λ (q : Rewriting). q.length) told ∙ sym (ap (λ (q : Paper.Rewriting). length q.result) e);
         output_is = sym (ap (λ (q : Paper.Rewriting). over q.result lent) e);
       }
 
@@ -62,26 +62,26 @@ module _ {journal lent : List ℕ} {r : Rewriting} where
 
     pub longer_than_a_journal : 65536 < n → {number place : ℕ} → number ≡ 16 → place ≡ 0
         → r ≡ record { number = number; place = place; length = 0 } → Rewrote journal lent lent r
-    longer_than_a_journal h = too_long (inl (omega (arith, h, result.length_is_lem)))
+    longer_than_a_journal h = too_long (inl (omega (arith, h, result.length_is)))
 
     pub longer_than_the_buffer : length lent < n → {number place : ℕ} → number ≡ 16 → place ≡ 0
         → r ≡ record { number = number; place = place; length = 0 } → Rewrote journal lent lent r
-    longer_than_the_buffer h = too_long (inr (omega (arith, h, result.length_is_lem)))
+    longer_than_the_buffer h = too_long (inr (omega (arith, h, result.length_is)))
 
     -- any other is stored, and told with its length
     pub result_told : {left : List ℕ} → n ≤ 65536 → n ≤ length lent → left ≡ result_stored journal lent
         → {number place told : ℕ} → number ≡ 0 → place ≡ length journal → told ≡ n
         → r ≡ record { number = number; place = place; length = told } → Rewrote journal lent left r
     result_told fits room stored z p t told =
-        let long : length (rewritten_bytes journal) ≡ n = sym result.length_is_lem in
+        let long : length (rewritten_bytes journal) ≡ n = sym result.length_is in
         let given =
         rewrite_of_fitting (length lent) journal (accepted result.readable) result.none_told
         (omega (arith, fits, long), omega (arith, room, long)) in
         record {
           number_is = ap (λ (q : Rewriting). q.number) told ∙ z ∙ sym (ap (λ (q : Paper.Rewriting). q.number) given);
           place_is = ap (λ (q : Rewriting). q.place) told ∙ p ∙ sym (ap (λ (q : Paper.Rewriting). q.place) given);
-          length_is_lem =
-              ap (λ (q : Rewriting). q.length) told ∙ t ∙ result.length_is_lem ∙ sym (ap (λ (q : Paper.Rewriting). length q.result) given);
+          length_is =
+              ap (λ (q : Rewriting). q.length) told ∙ t ∙ result.length_is ∙ sym (ap (λ (q : Paper.Rewriting). length q.result) given);
           output_is =
               stored ∙ sets_front lent (rewritten_bytes journal) (omega (arith, room, long))
               ∙ sym (ap (λ (q : Paper.Rewriting). over q.result lent) given);

@@ -9,5 +9,5 @@ use Rattle.rewriting.specs.declared.Rewriting.{Rewriting}
 pub record Rewrote (journal lent left : List ℕ) (r : Rewriting) : Type 0 where
   pub number_is : r.number ≡ (rewrite (length lent) journal).number
   pub place_is : r.place ≡ (rewrite (length lent) journal).place
-  pub length_is_lem : r.length ≡ length (rewrite (length lent) journal).result
+  pub length_is : r.length ≡ length (rewrite (length lent) journal).result
   pub output_is : left ≡ over (rewrite (length lent) journal).result lent

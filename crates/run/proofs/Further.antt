@@ -21,7 +21,7 @@ use Rattle.step.specs.declared.Stepped.TheVariants as S
 use Rattle.step.specs.Promise.{capacities_of, reply_size, shape_after, Carried, StepMeets, StepPromise}
 use Rattle.step.proofs.Replies.{limits_after, reply_counted}
 use Rattle.run.specs.declared.Progress.{Progress}
-use Rattle.run.specs.Inside.Runs.{refused_progress, Account, Underway, read_here, goes_on, is_refused_lem, steps_left, OneOn}
+use Rattle.run.specs.Inside.Runs.{refused_progress, Account, Underway, read_here, goes_on, is_refused, steps_left, OneOn}
 use Rattle.run.proofs.Left.{RefusedHere}
 use Rattle.run.proofs.Course.{AtEnds}
 
@@ -116,7 +116,7 @@ module _ {E : Type 0} {account : Account E} {p : Progress} {journal old answers 
               same_limits = ap (λ (q : Progress). q.shape.limits) e;
               same_beyond = beyond;
               as_long = ap length same;
-              leads = is_refused_lem refused (rw (e, same) here);
+              leads = is_refused refused (rw (e, same) here);
             };
         fewer = fewer_refused (length journal) p p' under.going.not_refused refused;
       }

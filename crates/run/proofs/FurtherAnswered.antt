@@ -16,7 +16,7 @@ use Rattle.step.specs.declared.Reply.{Reply}
 use Rattle.step.specs.Promise.{reply_answer, reply_size, shape_after}
 use Rattle.step.proofs.Replies.{limits_after}
 use Rattle.run.specs.declared.Progress.{Progress}
-use Rattle.run.specs.Inside.Runs.{one_further, written_behind, left_of, will_leave, with_answers, Underway, read_here, Answered, no_room_lem, answered, RunOn}
+use Rattle.run.specs.Inside.Runs.{one_further, written_behind, left_of, will_leave, with_answers, Underway, read_here, Answered, without_room, answered, RunOn}
 use Rattle.run.proofs.Left.{left_no_room, left_answered}
 use Rattle.run.proofs.Course.{stops_here, goes_further}
 use Rattle.run.proofs.Further.{CarriedOut, size_is, refused_on, further_on_lem}
@@ -68,7 +68,7 @@ module _
     pub answered_on : {p' : Progress} {new_answers : List ℕ} → Answered p p' new next (p.place + 1 + width) reply answers new_answers
         → length new_answers ≡ length answers → RunOn p p' journal old new answers new_answers
     unfolding refusal_number
-    answered_on (no_room_lem short e same) long =
+    answered_on (without_room short e same) long =
         let left = left_no_room p journal (length answers) old under.at_command c width reads w.not_refused (omega (arith, short, size_is w)) in
         refused_on under no_room (stops_here p journal old answers no_room left) e same w.carried.same_beyond
     answered_on {new_answers = new_answers} (answered room e same) long = rw e (written_on new_answers room same long)

@@ -13,7 +13,7 @@ use Rattle.numbers.specs.declared.Limits.{Limits}
 use Rattle.forest.specs.declared.Shape.{Shape}
 use Rattle.forest.specs.Promise.{table_rule_lem, state_of, same_beyond_refl, same_beyond_trans, Begun}
 use Rattle.run.specs.declared.Progress.{Progress}
-use Rattle.run.specs.Inside.Runs.{Account, Going, Underway, Leads, goes_on, is_refused_lem, SoFar, goes_further, OneOn}
+use Rattle.run.specs.Inside.Runs.{Account, Going, Underway, Leads, goes_on, is_refused, SoFar, goes_further, OneOn}
 use Rattle.run.proofs.Course.{AtEnds}
 
 -- The progress of a run that has not begun.
@@ -67,7 +67,7 @@ module _ {E : Type 0} {account : Account E} {limits : Limits} {end : E} {journal
       where
         go : Leads account end p journal t answers → Going account p journal t answers × (account.later p journal t answers ≡ end)
         go (goes_on going will) = (going, will)
-        go (is_refused_lem n has) = absurd (n (goes_on_tells p (length journal) e).0)
+        go (is_refused n has) = absurd (n (goes_on_tells p (length journal) e).0)
 
     -- it is at a command
     pub underway : length journal ≤ 65536 → goes_further p (length journal) ≡ true → Underway account p journal t answers
@@ -92,4 +92,4 @@ module _ {E : Type 0} {account : Account E} {limits : Limits} {end : E} {journal
         go (goes_on going will) =
             let past = ltb_ge p.place (length journal) (rw (eq-eqb p.refusal 0 going.not_refused) at stopped) in
             ends.at_end p journal t answers going.not_refused past ∙ will
-        go (is_refused_lem n has) = has
+        go (is_refused n has) = has

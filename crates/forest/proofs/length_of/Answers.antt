@@ -1,7 +1,7 @@
 -- `length_of` gives the length by the survey that holds.
 use Rattle.std.proofs.Common.{rules}
-use Rattle.forest.proofs.Surveys.{length_is_lem}
+use Rattle.forest.proofs.Surveys.{length_is}
 use Rattle.forest.proofs.length_of.Goals as goal
 
 pub returns : goal.returns
-returns c = rw c.kept_length.ensures (length_is_lem c.args.shape c.args.t.now c.args.s.0 c.requires.1)
+returns c = rw c.kept_length.ensures (length_is c.args.shape c.args.t.now c.args.s.0 c.requires.1)

@@ -43,7 +43,7 @@ write_within-requires c =
         (sym (ap (λ f. f.number) c.forecast_of-foretold.ensures) ∙ omega (arith, c.if-foretold-ne0.false)) in
     let measured =
     subst (Measures c.args.journal.now) c.in-Length.is c.measure-measured.ensures in
-    record { readable = read-to-its-end; none_told = measured.0; length_is_lem = measured.1 }
+    record { readable = read-to-its-end; none_told = measured.0; length_is = measured.1 }
 
 pub returns-in-DuctTold : goal.returns-in-DuctTold
 unfolding foretold

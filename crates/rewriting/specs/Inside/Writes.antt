@@ -29,7 +29,7 @@ result_stored journal lent = sets lent 0 (rewritten_bytes journal)
 pub record Result (journal : List ℕ) (n : ℕ) : Type 0 where
   pub readable : Readable journal
   pub none_told : first_duct_told (text_of journal).commands ≡ none
-  pub length_is_lem : n ≡ length (rewritten_bytes journal)
+  pub length_is : n ≡ length (rewritten_bytes journal)
 
 -- The same, and there is room for the result.
 pub record Writable (journal out : List ℕ) : Type 0 where

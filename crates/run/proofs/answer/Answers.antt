@@ -3,12 +3,12 @@ use mathlib.Core.Path.{refl}
 use native.Mathlib.Omega.{arith}
 use Rattle.commands.specs.Answer.{answer_bytes}
 use Rattle.step.specs.Promise.{reply_answer, shape_after}
-use Rattle.run.specs.Inside.Runs.{one_further, no_room_lem, answered}
+use Rattle.run.specs.Inside.Runs.{one_further, without_room, answered}
 use Rattle.run.proofs.Course.{over_tail}
 use Rattle.run.proofs.answer.Goals as goal
 
 pub returns-then-answers-written : goal.returns-then-answers-written
-returns-then-answers-written c = no_room_lem (omega (arith, c.if-answers-written.true, c.size_of-size.ensures)) c.refuse.ensures refl
+returns-then-answers-written c = without_room (omega (arith, c.if-answers-written.true, c.size_of-size.ensures)) c.refuse.ensures refl
 
 pub returns : goal.returns
 unfolding one_further

@@ -123,7 +123,7 @@ pub record Answerable (p : Progress) (reply : Reply) (answers : List ℕ) : Type
 
 -- What becomes of a reply: there is no room for it, and the run is refused with 11; or its bytes stand behind those written before.
 pub data Answered (p p' : Progress) (t : List ℕ) (next : Shape) (place : ℕ) (reply : Reply) (old new : List ℕ) : Type 0 where
-  no_room_lem : length old - p.written < reply_size reply → p' ≡ refused_progress p 11 → new ≡ old → Answered p p' t next place reply old new
+  without_room : length old - p.written < reply_size reply → p' ≡ refused_progress p 11 → new ≡ old → Answered p p' t next place reply old new
   answered : reply_size reply ≤ length old - p.written → p' ≡ one_further p next place reply
       → new ≡ written_behind p.written (answer_bytes (reply_answer next t reply)) old
       → Answered p p' t next place reply old new
@@ -131,7 +131,7 @@ pub data Answered (p p' : Progress) (t : List ℕ) (next : Shape) (place : ℕ) 
 -- A run that is to come to this end can go on and will, or is refused and has.
 pub data Leads {E : Type 0} (account : Account E) (end : E) (p : Progress) (journal t answers : List ℕ) : Type 0 where
   goes_on : Going account p journal t answers → account.later p journal t answers ≡ end → Leads account end p journal t answers
-  is_refused_lem : (p.refusal ≡ 0 → ⊥) → account.here p answers ≡ end → Leads account end p journal t answers
+  is_refused : (p.refusal ≡ 0 → ⊥) → account.here p answers ≡ end → Leads account end p journal t answers
 
 -- From a table and an answer buffer the run has come so far, and is to come to this end.
 pub record SoFar
