@@ -1,16 +1,16 @@
 -- Laws of the highest one bit of a number that is taken apart byte by byte.
 use mathlib.Core.List.{List}
-use mathlib.Core.Path.{◌≡◌, refl}
-use Prim.Native.Nat.{ℕ, ◌+◌, ◌/◌, ◌≤◌, ◌<◌}
+use mathlib.Core.Path.{◌≡◌}
+use Prim.Native.Nat.{ℕ, ◌+◌, ◌/◌, ◌<◌}
 use native.Mathlib.Nat.{pow-suc}
 use native.Mathlib.Omega.{arith}
 use lib.Count.{leading_top}
 use lib.ListN.{get_or}
 use lib.Pow.{pow-add}
 use Rattle.graph.specs.Below.{tabulate}
-use Rattle.naming.specs.Log.{greatest, one_bit, highest_bit}
+use Rattle.naming.specs.Log.{highest_bit}
 use Rattle.naming.proofs.Listed.{get_d_tabulate}
-use Rattle.naming.proofs.Log.{below_power, highest_bit_at_most, highest_bit-between}
+use Rattle.naming.proofs.Log.{below_power, highest_bit-between}
 
 -- in a table of L(0) to L(255) the entry at a byte is L of that byte
 pub entry_is : (table : List ℕ) → table ≡ tabulate 256 highest_bit → (byte place : ℕ) → place < 256 → place ≡ byte

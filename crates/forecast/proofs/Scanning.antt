@@ -68,9 +68,9 @@ module _ {t r : Tally} (read : Read) (counted : Counted t r (facts read.command)
   unfolding length_with cabinet_commands span_commands plain_lengths addition
   length-same later =
       let cabinets : t.cabinets + cabinet_commands (read.command ∷ later) ≡ r.cabinets + cabinet_commands later =
-          count_same is_cabinet read.command later t.cabinets counted.cabinets_are in
+      count_same is_cabinet read.command later t.cabinets counted.cabinets_are in
       let spans : t.spans + span_commands (read.command ∷ later) ≡ r.spans + span_commands later =
-          count_same is_span read.command later t.spans counted.spans_are in
+      count_same is_span read.command later t.spans counted.spans_are in
       let rest = ap₂ (λ (c s : ℕ). plain_lengths c s later) cabinets spans in
       rw (
         count_same is_cabinet read.command later t.cabinets counted.cabinets_are,

@@ -1,5 +1,6 @@
 // The forecast: a length of the answer buffer that suffices, counted in one pass over the caller's journal.
 #![tactic(auto)]
+
 ghost use Rattle.std.specs.Prelude.{◌≡◌, ◌<◌, ◌≤◌, length};
 ghost use Rattle.naming.specs.Log.{highest_bit};
 ghost use Rattle.commands.specs.Forecast.{forecast};

@@ -2,6 +2,7 @@
 // and one block forest, in words that the caller lends. The operations below are all that a caller needs; what they promise stands in
 // specs/Promise.
 #![tactic(auto)]
+
 ghost use Rattle.std.specs.Prelude.{◌≡◌, ◌<◌, ◌≤◌, min, true, false, ◌++◌, length, drop, replicate, ◌≢◌};
 ghost use Rattle.graph.specs.Network.{edge, mates};
 ghost use Rattle.graph.specs.Groups.{component, bridge, bridge_block};

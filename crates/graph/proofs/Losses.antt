@@ -1,7 +1,7 @@
 -- Two losses compared: what one leaves joined, in terms of the other.
 use mathlib.Core.Bool.{true, false}
 use mathlib.Core.Logic.{◌⊎◌, inl, inr, Equivalence}
-use mathlib.Core.Path.{◌≡◌, refl}
+use mathlib.Core.Path.{◌≡◌}
 use Prim.Native.Nat.{ℕ, ◌<◌}
 use Rattle.graph.specs.Network.{Network, Loss, MateRule, edge, edge_count, mates, joined}
 use Rattle.graph.proofs.Truth.{true_or_false}

@@ -11,7 +11,7 @@ use lib.ListN.{length, length-append, get_or-append}
 use lib.Seq.{get_or_at}
 use Rattle.graph.proofs.Truth.{true_or_false, not_both, bool_ext, eqb_eq, eq-eqb}
 use Rattle.graph.proofs.Below.{below_or_last}
-use Rattle.naming.specs.Rename.{Grouping, size, name_of, candidate, holds_several, best_name, rename}
+use Rattle.naming.specs.Rename.{Grouping, name_of, candidate, holds_several, best_name, rename}
 pub use Rattle.naming.specs.Naming.{Naming}
 use Rattle.naming.proofs.Equivalent.{Equivalent, Finer, size_same}
 use Rattle.naming.proofs.Best.{BestOf, at_most_refl, best_same, best_unique}

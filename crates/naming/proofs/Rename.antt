@@ -9,7 +9,7 @@ use lib.ListN.{length}
 use Rattle.graph.specs.Below.{listed, length_tabulate}
 use Rattle.graph.proofs.Truth.{false_of_not, true_of_not_false, and_both, not_both}
 use Rattle.graph.proofs.Below.{any_below_lem, any_below-same, listed_same}
-use Rattle.naming.specs.Rename.{Grouping, size, name_of, Candidate, best_of, candidate, holds_several, best_name, rename}
+use Rattle.naming.specs.Rename.{Grouping, name_of, Candidate, best_of, candidate, holds_several, best_name, rename}
 use Rattle.naming.proofs.Listed.{passes_listed, listed_passes, get_d_tabulate, tabulate_same}
 use Rattle.naming.proofs.Equivalent.{size_agree}
 use Rattle.naming.proofs.Best.{BestOf, best_name_lem, best_same, best_of_list, best_of_agree}

@@ -1,6 +1,7 @@
 // Rewriting a journal of the old reading, by which a span of 02 has no mate: each 02 becomes a 0B in a duct of its own. Into a buffer that the
 // caller lends; nothing is stored before it is known that the whole result fits.
 #![tactic(auto)]
+
 ghost use Rattle.std.specs.Prelude.{◌∷◌, ◌++◌, ◌≡◌, ◌+◌, ◌≤◌, ◌<◌, length, get_or, drop};
 ghost use Rattle.std.proofs.Math.Option.{none};
 ghost use Rattle.std.proofs.lemmas.List.Edits.{sets};

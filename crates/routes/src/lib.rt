@@ -1,6 +1,7 @@
 // The two routes between two vertices of one bridge-block, searched for in the scratch words of the working table: two ways, the second of
 // which may go back along steps of the first, and then, where it does, two routes along what the two ways use.
 #![tactic(auto)]
+
 ghost use Rattle.std.specs.Prelude.{true, ◌≡◌, ◌<◌};
 ghost use Rattle.graph.specs.Groups.{bridge_block};
 ghost use Rattle.forest.specs.Promise.{Holds, network_in};

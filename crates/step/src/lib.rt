@@ -1,6 +1,7 @@
 // One command over the working table: the refusal that it meets, or what it does to the table and what is to be answered. Nothing is written
 // here, and the room for the answer is not looked at.
 #![tactic(auto)]
+
 ghost use Rattle.std.specs.Prelude.{◌≡◌, ◌≤◌};
 ghost use Rattle.forest.specs.Promise.{Holds};
 ghost use Rattle.reading.specs.Inside.Reads.{meaning};

@@ -1,7 +1,7 @@
 -- The merge law: merging the groups of listed items in the table does to the names what naming does, and leaves the words valid.
 use Rattle.std.proofs.Common.{◌≡◌, ℕ, ◌<◌, ◌≤◌, Bool, true, false, cond, not, ◌&&◌, ◌||◌, eqb, ◌⊎◌, List, ◌∷◌, length, get_or, sym, refl, ap, ◌∙◌, subst, inl, inr, ext_get_or}
 use mathlib.Core.List.{Memᴰ}
-use Rattle.graph.specs.Below.{count, listed, tabulate, length_tabulate}
+use Rattle.graph.specs.Below.{listed, tabulate, length_tabulate}
 use Rattle.graph.proofs.Truth.{true_or_false, false_of_not, not_both, bool_ext, or_left, or_right, and_left, and_right, and_both, eqb_eq, eqb_same}
 use Rattle.graph.proofs.Below.{count_same, listed_same}
 use Rattle.naming.specs.Rename.{Grouping, name_of, candidate, best_of, rename}

@@ -1,5 +1,6 @@
 // Writing what is to be answered into what is left of the answer buffer. That there is room is for the caller to see to.
 #![tactic(auto)]
+
 ghost use Rattle.std.specs.Prelude.{◌≡◌, ◌≤◌, length};
 ghost use Rattle.std.proofs.lemmas.List.Edits.{sets};
 ghost use Rattle.commands.specs.Answer.{plain, answer_bytes};

@@ -1,17 +1,10 @@
 -- `highest_bit` passes over the lower bytes of a number while more than one is left, and looks the one that is left up in the table.
-use mathlib.Core.List.{List}
-use mathlib.Core.Path.{◌≡◌, refl}
-use Prim.Native.Nat.{ℕ, ◌+◌, ◌/◌, ◌≤◌, ◌<◌}
-use native.Mathlib.Nat.{pow-suc}
+use mathlib.Core.Path.{refl}
 use native.Mathlib.Omega.{arith}
-use lib.Count.{leading_top}
-use lib.ListN.{get_or}
-use lib.Pow.{pow-add}
 use Rattle.graph.specs.Below.{tabulate}
 use Rattle.naming.specs.Log.{greatest, one_bit, highest_bit}
-use Rattle.naming.proofs.Listed.{get_d_tabulate}
-use Rattle.naming.proofs.Log.{below_power, highest_bit_at_most, highest_bit-between}
-use Rattle.forecast.proofs.HighestBit.{PassedOver, entry_is, none_passed_over, one_more_passed_over}
+use Rattle.naming.proofs.Log.{highest_bit_at_most}
+use Rattle.forecast.proofs.HighestBit.{entry_is, none_passed_over, one_more_passed_over}
 use Rattle.forecast.proofs.highest_bit.Goals as goal
 
 -- the rule over the whole table: `refl` computes L(0) to L(255)

@@ -1,13 +1,10 @@
 -- `scan` counts command by command, and what is left of the journal leads to its forecast.
 use mathlib.Core.Path.{sym, ◌∙◌, ap}
-use Prim.Native.Nat.{◌-◌}
 use native.Mathlib.Omega.{arith}
-use lib.ListN.{length}
 use Rattle.commands.proofs.ForecastFits.{forecast_fits}
 use Rattle.reading.specs.Inside.Reads.{passing_of}
 use Rattle.reading.proofs.PassedAt.{operands_here}
 use Rattle.forecast.specs.Promise.{foretold}
-use Rattle.forecast.specs.Inside.Tallies.{CountedTo}
 use Rattle.forecast.proofs.Scanning.{counted_at_start, counted_to_end, unknown_here, cut_off_here, byte_here_lem, counted_behind}
 use Rattle.forecast.proofs.scan.Goals as goal
 
@@ -38,16 +35,15 @@ returns-in-CutOff c =
 
 pub counted-t-requires : goal.counted-t-requires
 unfolding passing_of
-counted-t-requires c =
-    (
-      omega (arith, c.loop-place.invariant.few),
-      byte_here_lem
-          c.loop-place.invariant
-          (omega arith)
-          _
-          _
-          (sym (ap passing_of c.in-Command.is) ∙ c.passed_at-passed.ensures),
-    )
+counted-t-requires c = (
+  omega (arith, c.loop-place.invariant.few),
+  byte_here_lem
+      c.loop-place.invariant
+      (omega arith)
+      _
+      _
+      (sym (ap passing_of c.in-Command.is) ∙ c.passed_at-passed.ensures),
+)
 
 pub place_after-place-requires : goal.place_after-place-requires
 unfolding passing_of

@@ -1,5 +1,5 @@
 -- `add_edge` does to the book what the naming book does for one edge more.
-use Rattle.std.proofs.Common.{arith, rules}
+use Rattle.std.proofs.Common.{arith}
 use Rattle.forest.specs.Promise.{Holds}
 use Rattle.forest.proofs.AddEdge.{edge_added}
 use Rattle.forest.proofs.add_edge.Goals as goal

@@ -1,5 +1,4 @@
 -- `add_vertex` does to the book what the naming book does for one vertex more.
-use Rattle.std.proofs.Common.{rules}
 use Rattle.forest.proofs.AddVertex.{vertex_added}
 use Rattle.forest.specs.Promise.{Holds}
 use Rattle.forest.proofs.add_vertex.Goals as goal

@@ -1,5 +1,4 @@
 -- `area_of` gives the words of a kind of groups.
-use Rattle.std.proofs.Common.{rules}
 use Rattle.forest.proofs.area_of.Goals as goal
 
 pub returns-in-Components : goal.returns-in-Components

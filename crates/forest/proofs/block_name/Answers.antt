@@ -1,5 +1,4 @@
 -- `block_name` reads the block name of an edge.
-use Rattle.std.proofs.Common.{rules}
 use Rattle.forest.proofs.QueryNames.{block-name}
 use Rattle.forest.proofs.block_name.Goals as goal
 

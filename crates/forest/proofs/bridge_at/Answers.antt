@@ -1,5 +1,4 @@
 -- `bridge_at` reads bridge i of those that are written down.
-use Rattle.std.proofs.Common.{rules}
 use Rattle.forest.specs.Promise.{bridge_at}
 use Rattle.forest.proofs.bridge_at.Goals as goal
 

@@ -1,5 +1,4 @@
 -- `bridges_between` writes down the bridges between two vertices.
-use Rattle.std.proofs.Common.{rules}
 use Rattle.forest.proofs.QueryBridges.{bridges_written_lem}
 use Rattle.forest.proofs.bridges_between.Goals as goal
 

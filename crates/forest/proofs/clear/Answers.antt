@@ -1,5 +1,5 @@
 -- `clear` sets the first words to 0. The loop's invariant: the first i words are 0, and the rest is as it was.
-use Rattle.std.proofs.Common.{◌≡◌, ℕ, suc, ◌+◌, ◌-◌, ◌<◌, ◌≤◌, min, true, false, ltb, ◌⊎◌, List, ◌++◌, length, get_or, drop, set, replicate, sym, refl, ap, ◌∙◌, ap₂, inl, inr, ⊎_elim, append_assoc, add-one, arith, length-set, drop_of_length-le, drop-cons}
+use Rattle.std.proofs.Common.{◌≡◌, ℕ, suc, ◌+◌, ◌<◌, ◌≤◌, min, true, false, ltb, ◌⊎◌, List, ◌++◌, length, get_or, drop, set, replicate, sym, refl, ap, ◌∙◌, ap₂, inl, inr, append_assoc, add-one, arith, length-set, drop_of_length-le, drop-cons}
 use lib.ListN.{length-replicate, replicate-append-replicate}
 use lib.Seq.{set_at}
 use Rattle.graph.proofs.Truth.{true_or_false, ltb_lt, ltb_ge}
@@ -35,7 +35,7 @@ pub loop-i-init : goal.loop-i-init
 loop-i-init c =
     -- the loop ends at the count or at the table's end, whichever comes first
     let end_is : c.if-count-t.end ≡ min c.args.count (length c.args.t.now) =
-        elim c.if-count-t.branch [ then-count-t w ↦ omega arith | else-count-t w ↦ omega arith ] in
+    elim c.if-count-t.branch [ then-count-t w ↦ omega arith | else-count-t w ↦ omega arith ] in
     (end_is, omega arith, refl, refl)
 
 pub loop-i-preserved : goal.loop-i-preserved

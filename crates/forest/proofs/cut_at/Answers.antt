@@ -1,5 +1,4 @@
 -- `cut_at` reads cut vertex i of those that are written down: the vertex behind vertex i of the path.
-use Rattle.std.proofs.Common.{rules}
 use Rattle.forest.specs.Promise.{cut_at}
 use Rattle.forest.proofs.cut_at.Goals as goal
 

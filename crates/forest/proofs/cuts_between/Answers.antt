@@ -1,5 +1,4 @@
 -- `cuts_between` writes down the cut vertices between two vertices.
-use Rattle.std.proofs.Common.{rules}
 use Rattle.forest.proofs.QueryCuts.{cuts_written}
 use Rattle.forest.proofs.cuts_between.Goals as goal
 

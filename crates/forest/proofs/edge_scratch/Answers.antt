@@ -1,5 +1,4 @@
 -- `edge_scratch` reads the scratch word of an edge.
-use Rattle.std.proofs.Common.{rules}
 use Rattle.forest.specs.Promise.{edge_scratch}
 use Rattle.forest.proofs.edge_scratch.Goals as goal
 

@@ -1,5 +1,4 @@
 -- `ends_of` reads the two ends of an edge.
-use Rattle.std.proofs.Common.{rules}
 use Rattle.graph.specs.Network.{edge_in_duct}
 use Rattle.forest.specs.Inside.Valid.{stored_edge}
 use Rattle.forest.proofs.QueryNames.{edge_held}

@@ -1,5 +1,5 @@
 -- `enter_survey` keeps what agrees with the list of surveys and this one.
-use Rattle.std.proofs.Common.{arith, rules}
+use Rattle.std.proofs.Common.{arith}
 use Rattle.forest.specs.Promise.{Holds}
 use Rattle.forest.proofs.Surveys.{survey-entered}
 use Rattle.forest.proofs.enter_survey.Goals as goal

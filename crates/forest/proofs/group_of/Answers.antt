@@ -1,5 +1,5 @@
 -- `group_of` reads the name and the size of the group of a vertex.
-use Rattle.std.proofs.Common.{◌∙◌, rules}
+use Rattle.std.proofs.Common.{◌∙◌}
 use Rattle.forest.proofs.QueryNames.{group-name, group_size_lem}
 use Rattle.forest.proofs.group_of.Goals as goal
 

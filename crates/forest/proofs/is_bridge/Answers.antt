@@ -1,5 +1,5 @@
 -- `is_bridge` tells a bridge by the bridge-block names of its ends.
-use Rattle.std.proofs.Common.{◌∙◌, rules}
+use Rattle.std.proofs.Common.{◌∙◌}
 use Rattle.forest.specs.Inside.Valid.{book_of}
 use Rattle.forest.specs.Promise.{Holds, state_of}
 use Rattle.forest.proofs.QueryNames.{bridge_in_lem}

@@ -1,5 +1,4 @@
 -- `is_marked` reads the mark of a vertex.
-use Rattle.std.proofs.Common.{rules}
 use Rattle.forest.proofs.Marks.{marked_is}
 use Rattle.forest.proofs.is_marked.Goals as goal
 

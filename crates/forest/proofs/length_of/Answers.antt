@@ -1,5 +1,4 @@
 -- `length_of` gives the length by the survey that holds.
-use Rattle.std.proofs.Common.{rules}
 use Rattle.forest.proofs.Surveys.{length_is}
 use Rattle.forest.proofs.length_of.Goals as goal
 

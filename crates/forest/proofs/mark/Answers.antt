@@ -1,5 +1,4 @@
 -- `mark` does to the state what recording a mark does.
-use Rattle.std.proofs.Common.{rules}
 use Rattle.forest.specs.Promise.{Holds, state_of}
 use Rattle.forest.proofs.Marks.{vertex_marked}
 use Rattle.forest.proofs.mark.Goals as goal

@@ -1,5 +1,4 @@
 -- `marks_with` reads the marks that the bridge-block of a vertex has.
-use Rattle.std.proofs.Common.{rules}
 use Rattle.forest.proofs.Marks.{marks_are}
 use Rattle.forest.proofs.marks_with.Goals as goal
 

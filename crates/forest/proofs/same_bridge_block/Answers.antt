@@ -1,5 +1,5 @@
 -- `same_bridge_block` tells that the bridge-block names of two vertices do not differ: then they share a bridge-block, and only then.
-use Rattle.std.proofs.Common.{not, ap, ◌∙◌, rules}
+use Rattle.std.proofs.Common.{not, ap, ◌∙◌}
 use mathlib.Core.Bool.{not-not}
 use Rattle.forest.specs.Inside.Valid.{book_of}
 use Rattle.forest.specs.Promise.{Holds, state_of}

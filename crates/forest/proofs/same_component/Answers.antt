@@ -1,5 +1,5 @@
 -- `same_component` compares component names: vertices share a component exactly if their names are one.
-use Rattle.std.proofs.Common.{sym, rules}
+use Rattle.std.proofs.Common.{sym}
 use Rattle.table.proofs.KindNames.{same-group}
 use Rattle.forest.specs.Inside.Valid.{book_of}
 use Rattle.forest.specs.Promise.{Holds, state_of}

@@ -1,5 +1,4 @@
 -- `set_edge_scratch` stores the scratch word of an edge.
-use Rattle.std.proofs.Common.{rules}
 use Rattle.forest.proofs.Scratch.{edge_scratch_stored}
 use Rattle.forest.proofs.set_edge_scratch.Goals as goal
 

@@ -1,5 +1,4 @@
 -- `set_vertex_scratch` stores a scratch word of a vertex.
-use Rattle.std.proofs.Common.{rules}
 use Rattle.forest.proofs.Scratch.{vertex_scratch_stored}
 use Rattle.forest.proofs.set_vertex_scratch.Goals as goal
 

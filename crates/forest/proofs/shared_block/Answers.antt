@@ -1,5 +1,5 @@
 -- `shared_block` gives the block that has an edge at each of two vertices.
-use Rattle.std.proofs.Common.{◌∙◌, rules}
+use Rattle.std.proofs.Common.{◌∙◌}
 use Rattle.forest.specs.Inside.Valid.{book_of}
 use Rattle.forest.specs.Promise.{Holds, state_of}
 use Rattle.forest.proofs.QueryShared.{shared_in_lem}

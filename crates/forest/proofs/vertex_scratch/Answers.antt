@@ -1,5 +1,4 @@
 -- `vertex_scratch` reads a scratch word of a vertex.
-use Rattle.std.proofs.Common.{rules}
 use Rattle.forest.specs.Promise.{vertex_scratch}
 use Rattle.forest.proofs.vertex_scratch.Goals as goal
 

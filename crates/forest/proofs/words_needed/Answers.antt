@@ -1,5 +1,5 @@
 -- `words_needed` counts the words of a table.
-use Rattle.std.proofs.Common.{refl, rules}
+use Rattle.std.proofs.Common.{refl}
 use Rattle.forest.specs.Promise.{words_needed}
 use Rattle.forest.proofs.words_needed.Goals as goal
 

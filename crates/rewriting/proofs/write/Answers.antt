@@ -1,14 +1,8 @@
 -- `write` stores command after command. The invariant: with what is left stored too, the whole result is. The measure is what is left of the
 -- journal.
-use mathlib.Core.Bool.{true}
-use mathlib.Core.Path.{◌≡◌}
-use Prim.Native.Nat.{◌-◌}
 use native.Mathlib.Omega.{arith}
-use lib.ListN.{length}
-use Rattle.commands.specs.Bytes.{all_bytes}
 use Rattle.commands.proofs.Bytes.{bytes_by_place}
 use Rattle.reading.proofs.PassedAt.{operands_here}
-use Rattle.rewriting.specs.Inside.Writes.{WrittenTo}
 use Rattle.rewriting.proofs.Writing.{written_at_start, written_to_end, room_here, written_behind_lem}
 use Rattle.rewriting.proofs.write.Goals as goal
 
@@ -19,12 +13,11 @@ pub head_at-head-requires : goal.head_at-head-requires
 head_at-head-requires c = (omega arith, c.loop-place.invariant.whole_here)
 
 pub put_command-requires : goal.put_command-requires
-put_command-requires c =
-    (
-      operands_here c.args.journal.now c.loop-place.place (omega arith) _ _ c.head_at-head.ensures,
-      omega (arith, c.requires.readable.short, c.loop-place.invariant.few_spans, c.loop-place.invariant.in_journal),
-      room_here c.loop-place.invariant (bytes_by_place c.args.journal.now (λ i h. omega (arith, c.type_inv.journal i))) (omega arith) _ _ c.head_at-head.ensures,
-    )
+put_command-requires c = (
+  operands_here c.args.journal.now c.loop-place.place (omega arith) _ _ c.head_at-head.ensures,
+  omega (arith, c.requires.readable.short, c.loop-place.invariant.few_spans, c.loop-place.invariant.in_journal),
+  room_here c.loop-place.invariant (bytes_by_place c.args.journal.now (λ i h. omega (arith, c.type_inv.journal i))) (omega arith) _ _ c.head_at-head.ensures,
+)
 
 pub spans_behind-spans-requires : goal.spans_behind-spans-requires
 spans_behind-spans-requires c = omega (arith, c.requires.readable.short, c.loop-place.invariant.few_spans, c.loop-place.invariant.in_journal)

@@ -1,9 +1,6 @@
 -- `copy` stores byte after byte. The invariant: with what is left stored too, the whole is. The measure is what is left.
-use mathlib.Core.Path.{◌≡◌, refl, ◌∙◌}
-use Prim.Native.Nat.{◌+◌, ◌-◌, ◌≤◌}
+use mathlib.Core.Path.{refl, ◌∙◌}
 use native.Mathlib.Omega.{arith}
-use lib.ListN.{length}
-use lib.Seq.{sets, slice}
 use Rattle.storing.proofs.Sets.{copied_one, copied_all}
 use Rattle.storing.proofs.copy.Goals as goal
 

@@ -1,9 +1,7 @@
-use mathlib.Core.Path.{◌≡◌, refl, ◌∙◌}
+use mathlib.Core.Path.{◌≡◌}
 use Prim.Native.Nat.{◌+◌, ◌-◌, ◌≤◌}
-use native.Mathlib.Omega.{arith}
 use lib.ListN.{length}
 use lib.Seq.{sets, slice}
-use Rattle.storing.proofs.Sets.{copied_one, copied_all}
 use Rattle.storing.proofs.copy.Given as goal
 
 abbrev pub invariant-loop-next : goal.invariant-loop-next

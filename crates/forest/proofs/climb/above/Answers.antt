@@ -1,5 +1,4 @@
 -- `climb::above` gives the vertex above an edge's block.
-use Rattle.std.proofs.Common.{rules}
 use Rattle.forest.specs.Inside.Climb.{above_edge}
 use Rattle.forest.proofs.climb.above.Goals as goal
 

@@ -1,5 +1,4 @@
 -- `climb::block_of` reads the name of an edge's block.
-use Rattle.std.proofs.Common.{rules}
 use Rattle.forest.proofs.climb.block_of.Goals as goal
 
 pub returns : goal.returns

@@ -1,7 +1,6 @@
 -- `climb::climb_on` climbs in nests of calls, one after another. The loop's invariant: climbing what is left from where the climb has come
 -- gives the whole climb. The measure is how many steps are left.
-use Rattle.std.proofs.Common.{◌≡◌, ◌+◌, ◌-◌, ◌≤◌, length, sym, refl, ap, ◌∙◌, arith, rules}
-use Rattle.forest.specs.Inside.Climb.{climb_from}
+use Rattle.std.proofs.Common.{◌-◌, sym, refl, ap, ◌∙◌, arith}
 use Rattle.forest.proofs.ClimbSteps.{climb_add, climb_stays, steps_left_lem}
 use Rattle.forest.proofs.climb.climb_on.Goals as goal
 

@@ -1,6 +1,5 @@
-use Rattle.std.proofs.Common.{◌≡◌, ◌+◌, ◌-◌, ◌≤◌, length, sym, refl, ap, ◌∙◌, arith, rules}
+use Rattle.std.proofs.Common.{◌≡◌, ◌+◌, ◌≤◌, length}
 use Rattle.forest.specs.Inside.Climb.{climb_from}
-use Rattle.forest.proofs.ClimbSteps.{climb_add, climb_stays, steps_left_lem}
 use Rattle.forest.proofs.climb.climb_on.Given as goal
 
 abbrev pub invariant-loop-limits : goal.invariant-loop-limits

@@ -1,5 +1,4 @@
 -- `climb::climber_up` reads what stands above the vertex on the side that climbs.
-use Rattle.std.proofs.Common.{rules}
 use Rattle.forest.proofs.climb.climber_up.Goals as goal
 
 pub returns-then-on_right : goal.returns-then-on_right

@@ -1,6 +1,5 @@
-use Rattle.std.proofs.Common.{◌≡◌, ◌+◌, length, sym, refl, ◌∙◌, arith}
+use Rattle.std.proofs.Common.{◌≡◌, ◌+◌, length}
 use Rattle.forest.specs.Inside.Climb.{join_from}
-use Rattle.forest.proofs.ClimbSteps.{join_step}
 use Rattle.forest.proofs.climb.join.Given as goal
 
 abbrev pub invariant-loop-k : goal.invariant-loop-k

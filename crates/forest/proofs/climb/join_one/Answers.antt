@@ -1,5 +1,4 @@
 -- `climb::join_one` puts one step of the right side behind the path.
-use Rattle.std.proofs.Common.{rules}
 use Rattle.forest.specs.Inside.Climb.{join_one}
 use Rattle.forest.proofs.climb.join_one.Goals as goal
 

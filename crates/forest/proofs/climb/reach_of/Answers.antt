@@ -1,5 +1,5 @@
 -- `climb::reach_of` gives how many steps a climb may take.
-use Rattle.std.proofs.Common.{arith, rules}
+use Rattle.std.proofs.Common.{arith}
 use Rattle.forest.specs.Inside.Climb.{reach}
 use Rattle.forest.proofs.climb.reach_of.Goals as goal
 

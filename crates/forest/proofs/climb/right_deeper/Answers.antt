@@ -1,5 +1,4 @@
 -- `climb::right_deeper` compares the depths of the two sides.
-use Rattle.std.proofs.Common.{rules}
 use Rattle.forest.specs.Inside.Climb.{right_deeper}
 use Rattle.forest.proofs.climb.right_deeper.Goals as goal
 

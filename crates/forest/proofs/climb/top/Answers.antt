@@ -1,5 +1,4 @@
 -- `climb::top` reads the vertex above a block.
-use Rattle.std.proofs.Common.{rules}
 use Rattle.forest.proofs.climb.top.Goals as goal
 
 pub returns : goal.returns

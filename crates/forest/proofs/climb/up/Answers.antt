@@ -1,5 +1,4 @@
 -- `climb::up` reads what stands above a vertex.
-use Rattle.std.proofs.Common.{rules}
 use Rattle.forest.proofs.climb.up.Goals as goal
 
 pub returns : goal.returns

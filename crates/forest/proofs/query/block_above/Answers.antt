@@ -1,5 +1,4 @@
 -- `query::block_above` gives the name of the block above a vertex.
-use Rattle.std.proofs.Common.{rules}
 use Rattle.forest.specs.Inside.Queries.{block_above}
 use Rattle.forest.proofs.query.block_above.Goals as goal
 

@@ -1,5 +1,4 @@
 -- `query::bridge_blocks_differ` compares the bridge-block names of two vertices.
-use Rattle.std.proofs.Common.{rules}
 use Rattle.forest.specs.Inside.Queries.{bridge_blocks_differ}
 use Rattle.forest.proofs.query.bridge_blocks_differ.Goals as goal
 

@@ -1,5 +1,4 @@
 -- `query::ends_agree` compares the ends of two edges, in either direction.
-use Rattle.std.proofs.Common.{rules}
 use Rattle.forest.specs.Inside.Queries.{ends_agree}
 use Rattle.forest.proofs.query.ends_agree.Goals as goal
 

@@ -1,5 +1,4 @@
 -- `query::ends_differ` compares the bridge-block names of an edge's two ends.
-use Rattle.std.proofs.Common.{rules}
 use Rattle.forest.specs.Inside.Queries.{bridge_in}
 use Rattle.forest.proofs.query.ends_differ.Goals as goal
 

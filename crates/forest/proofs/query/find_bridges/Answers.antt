@@ -1,8 +1,8 @@
 -- `query::find_bridges` writes down the bridges on a path. The loop's invariant: the steps left, from the table and the count at hand,
 -- give the whole answer.
-use Rattle.std.proofs.Common.{◌≡◌, ◌-◌, ◌≤◌, length, sym, refl, ◌∙◌, arith, rules}
+use Rattle.std.proofs.Common.{sym, refl, ◌∙◌, arith}
 use native.Mathlib.Nat.{sub-zero}
-use Rattle.forest.specs.Inside.Queries.{find_from, bridges_found}
+use Rattle.forest.specs.Inside.Queries.{bridges_found}
 use Rattle.forest.proofs.QuerySteps.{find_step, find_end, find_count_bound}
 use Rattle.forest.proofs.query.find_bridges.Goals as goal
 

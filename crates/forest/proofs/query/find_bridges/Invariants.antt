@@ -1,7 +1,5 @@
-use Rattle.std.proofs.Common.{◌≡◌, ◌-◌, ◌≤◌, length, sym, refl, ◌∙◌, arith, rules}
-use native.Mathlib.Nat.{sub-zero}
-use Rattle.forest.specs.Inside.Queries.{find_from, bridges_found}
-use Rattle.forest.proofs.QuerySteps.{find_step, find_end, find_count_bound}
+use Rattle.std.proofs.Common.{◌≡◌, ◌-◌, ◌≤◌, length}
+use Rattle.forest.specs.Inside.Queries.{find_from}
 use Rattle.forest.proofs.query.find_bridges.Given as goal
 
 abbrev pub invariant-loop-i : goal.invariant-loop-i

@@ -1,5 +1,4 @@
 -- `query::find_cuts` leaves the path in the table, and counts the vertices between its ends.
-use Rattle.std.proofs.Common.{rules}
 use Rattle.forest.specs.Inside.Queries.{cuts_count}
 use Rattle.forest.proofs.query.find_cuts.Goals as goal
 

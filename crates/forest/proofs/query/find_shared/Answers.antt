@@ -1,5 +1,4 @@
 -- `query::find_shared` gives the block that two vertices share.
-use Rattle.std.proofs.Common.{rules}
 use Rattle.forest.specs.Inside.Queries.{shared_in}
 use Rattle.forest.proofs.query.find_shared.Goals as goal
 

@@ -1,5 +1,5 @@
 -- `query::hang_together` tells whether two vertices hang below one block.
-use Rattle.std.proofs.Common.{rules, eq-eqb, ne_eqb}
+use Rattle.std.proofs.Common.{eq-eqb, ne_eqb}
 use Rattle.forest.specs.Inside.Queries.{hang_together}
 use Rattle.forest.proofs.query.hang_together.Goals as goal
 

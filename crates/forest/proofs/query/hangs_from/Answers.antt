@@ -1,5 +1,5 @@
 -- `query::hangs_from` tells whether a vertex is the one above the block that another hangs below.
-use Rattle.std.proofs.Common.{rules, eq-eqb, ne_eqb}
+use Rattle.std.proofs.Common.{eq-eqb, ne_eqb}
 use Rattle.forest.specs.Inside.Queries.{hangs_from}
 use Rattle.forest.proofs.query.hangs_from.Goals as goal
 

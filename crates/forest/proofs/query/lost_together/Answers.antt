@@ -1,5 +1,5 @@
 -- `query::lost_together` tells whether two edges lie in one duct, between the same two vertices.
-use Rattle.std.proofs.Common.{rules, eq-eqb, ne_eqb}
+use Rattle.std.proofs.Common.{eq-eqb, ne_eqb}
 use Rattle.forest.specs.Inside.Queries.{lost_together}
 use Rattle.forest.proofs.query.lost_together.Goals as goal
 

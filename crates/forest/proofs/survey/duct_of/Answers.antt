@@ -1,5 +1,4 @@
 -- `survey::duct_of` reads the duct of an edge.
-use Rattle.std.proofs.Common.{rules}
 use Rattle.forest.proofs.survey.duct_of.Goals as goal
 
 pub returns : goal.returns

@@ -1,5 +1,5 @@
 -- `survey::is_replaced` tells whether a survey is to be kept: none is kept, or one of an earlier day.
-use Rattle.std.proofs.Common.{sym, ◌∙◌, rules}
+use Rattle.std.proofs.Common.{sym, ◌∙◌}
 use Rattle.forest.specs.Inside.Surveys.{is_replaced}
 use Rattle.forest.proofs.survey.is_replaced.Goals as goal
 

@@ -1,5 +1,4 @@
 -- `survey::is_surveyed` tells whether a survey of an edge is kept.
-use Rattle.std.proofs.Common.{rules}
 use Rattle.forest.specs.Inside.Surveys.{is_surveyed}
 use Rattle.forest.proofs.survey.is_surveyed.Goals as goal
 

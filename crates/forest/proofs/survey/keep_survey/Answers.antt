@@ -1,5 +1,4 @@
 -- `survey::keep_survey` keeps a survey if it is to be kept.
-use Rattle.std.proofs.Common.{rules}
 use Rattle.forest.specs.Inside.Surveys.{survey_table}
 use Rattle.forest.proofs.survey.keep_survey.Goals as goal
 

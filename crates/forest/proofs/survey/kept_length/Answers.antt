@@ -1,5 +1,4 @@
 -- `survey::kept_length` gives the metres of the survey that is kept of an edge.
-use Rattle.std.proofs.Common.{rules}
 use Rattle.forest.specs.Inside.Surveys.{length_in}
 use Rattle.forest.proofs.survey.kept_length.Goals as goal
 

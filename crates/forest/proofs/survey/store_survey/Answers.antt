@@ -1,5 +1,4 @@
 -- `survey::store_survey` stores a survey: the steps of the code are those of `survey_stored`.
-use Rattle.std.proofs.Common.{rules}
 use Rattle.forest.specs.Inside.Surveys.{survey_stored}
 use Rattle.forest.proofs.survey.store_survey.Goals as goal
 

@@ -1,5 +1,5 @@
 -- `tree::condense` condenses the path between two vertices: the steps of the code are those of `condense_grown`.
-use Rattle.std.proofs.Common.{refl, ◌∙◌, arith, rules}
+use Rattle.std.proofs.Common.{refl, ◌∙◌, arith}
 use Rattle.forest.specs.Inside.Tree.{path_vertices, path_edges, condense_grown}
 use Rattle.forest.proofs.TreeSteps.{route_most}
 use Rattle.forest.proofs.tree.condense.Goals as goal

@@ -1,5 +1,4 @@
 -- `tree::enter_block` puts an edge into a block: the steps of the code are those of `enter_block`.
-use Rattle.std.proofs.Common.{rules}
 use Rattle.table.specs.Inside.Merge.{least_of}
 use Rattle.forest.specs.Inside.Tree.{enter_block}
 use Rattle.forest.proofs.tree.enter_block.Goals as goal

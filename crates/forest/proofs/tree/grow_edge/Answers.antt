@@ -1,5 +1,5 @@
 -- `tree::grow_edge` condenses the path between two vertices of one component, and links two components.
-use Rattle.std.proofs.Common.{rules, eq-eqb, ne_eqb}
+use Rattle.std.proofs.Common.{eq-eqb, ne_eqb}
 use Rattle.forest.specs.Inside.Tree.{edge_grown}
 use Rattle.forest.proofs.tree.grow_edge.Goals as goal
 

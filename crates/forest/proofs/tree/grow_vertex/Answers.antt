@@ -1,5 +1,4 @@
 -- `tree::grow_vertex` makes a vertex a component, a bridge-block and a root, not marked: the steps of the code are those of `vertex_table`.
-use Rattle.std.proofs.Common.{rules}
 use Rattle.forest.specs.Inside.Tree.{vertex_table}
 use Rattle.forest.proofs.tree.grow_vertex.Goals as goal
 

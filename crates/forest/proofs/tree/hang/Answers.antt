@@ -1,5 +1,5 @@
 -- `tree::hang` hangs a component below a vertex: the steps of the code are those of `hang_table`.
-use Rattle.std.proofs.Common.{add-one, rules}
+use Rattle.std.proofs.Common.{add-one}
 use Rattle.forest.specs.Inside.Tree.{hang_table}
 use Rattle.forest.proofs.tree.hang.Goals as goal
 

@@ -1,5 +1,4 @@
 -- `tree::hang_loser` hangs the component that loses its name below the other.
-use Rattle.std.proofs.Common.{rules}
 use Rattle.forest.proofs.tree.hang_loser.Goals as goal
 
 pub returns-then-keeps : goal.returns-then-keeps

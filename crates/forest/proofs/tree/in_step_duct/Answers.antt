@@ -1,5 +1,5 @@
 -- `tree::in_step_duct` tells whether the path has one step, whose edge lies in the new edge's duct.
-use Rattle.std.proofs.Common.{arith, rules, eq-eqb, ne_eqb}
+use Rattle.std.proofs.Common.{arith, eq-eqb, ne_eqb}
 use Rattle.forest.specs.Inside.Tree.{in_step_duct}
 use Rattle.forest.proofs.tree.in_step_duct.Goals as goal
 

@@ -1,5 +1,5 @@
 -- `tree::link` links two components: the steps of the code are those of `link_grown`.
-use Rattle.std.proofs.Common.{refl, rules}
+use Rattle.std.proofs.Common.{refl}
 use Rattle.forest.specs.Inside.Tree.{list_ends, path_vertices, link_grown}
 use Rattle.forest.proofs.tree.link.Goals as goal
 

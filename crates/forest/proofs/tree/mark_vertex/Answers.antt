@@ -1,5 +1,4 @@
 -- `tree::mark_vertex` marks a vertex: the steps of the code are those of `mark_table`.
-use Rattle.std.proofs.Common.{rules}
 use Rattle.forest.specs.Inside.Tree.{mark_table}
 use Rattle.forest.proofs.tree.mark_vertex.Goals as goal
 

@@ -1,5 +1,5 @@
 -- `tree::merged_vertices` gives one vertex where the new edge lies in the step's duct, and else all of the path's.
-use Rattle.std.proofs.Common.{sym, ◌∙◌, rules}
+use Rattle.std.proofs.Common.{sym, ◌∙◌}
 use Rattle.forest.specs.Inside.Tree.{merged_vertices}
 use Rattle.forest.proofs.tree.merged_vertices.Goals as goal
 

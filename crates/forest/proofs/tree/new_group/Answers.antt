@@ -1,5 +1,4 @@
 -- `tree::new_group` makes a group of one item: the steps of the code are those of `new_group`.
-use Rattle.std.proofs.Common.{rules}
 use Rattle.forest.specs.Inside.Tree.{new_group}
 use Rattle.forest.proofs.tree.new_group.Goals as goal
 

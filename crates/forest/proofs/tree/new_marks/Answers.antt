@@ -1,5 +1,4 @@
 -- `tree::new_marks` stores that a vertex is not marked: the steps of the code are those of `new_marks`.
-use Rattle.std.proofs.Common.{rules}
 use Rattle.forest.specs.Inside.Tree.{new_marks}
 use Rattle.forest.proofs.tree.new_marks.Goals as goal
 

@@ -1,8 +1,7 @@
 -- `tree::raise` raises the depths of the changed vertices. The loop's invariant: the vertices left, from the table at hand, give the whole
 -- answer.
-use Rattle.std.proofs.Common.{◌≡◌, ◌-◌, length, sym, refl, ◌∙◌, arith, rules}
+use Rattle.std.proofs.Common.{sym, refl, ◌∙◌}
 use native.Mathlib.Nat.{sub-zero}
-use Rattle.forest.specs.Inside.Tree.{raise_from}
 use Rattle.forest.proofs.TreeSteps.{raise_step, raise_end}
 use Rattle.forest.proofs.tree.raise.Goals as goal
 

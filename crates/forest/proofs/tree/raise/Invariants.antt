@@ -1,7 +1,5 @@
-use Rattle.std.proofs.Common.{◌≡◌, ◌-◌, length, sym, refl, ◌∙◌, arith, rules}
-use native.Mathlib.Nat.{sub-zero}
+use Rattle.std.proofs.Common.{◌≡◌, ◌-◌, length}
 use Rattle.forest.specs.Inside.Tree.{raise_from}
-use Rattle.forest.proofs.TreeSteps.{raise_step, raise_end}
 use Rattle.forest.proofs.tree.raise.Given as goal
 
 abbrev pub invariant-loop-i : goal.invariant-loop-i

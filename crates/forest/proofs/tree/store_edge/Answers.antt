@@ -1,5 +1,4 @@
 -- `tree::store_edge` stores an edge: the steps of the code are those of `edge_table`.
-use Rattle.std.proofs.Common.{rules}
 use Rattle.forest.specs.Inside.Tree.{edge_table}
 use Rattle.forest.proofs.tree.store_edge.Goals as goal
 

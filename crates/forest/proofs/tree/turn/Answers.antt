@@ -1,6 +1,6 @@
 -- `tree::turn` turns a way up round. The loop's invariant: what is left, from the table at hand, gives the whole answer.
-use Rattle.std.proofs.Common.{◌≡◌, length, sym, refl, ◌∙◌, rules}
-use Rattle.forest.proofs.TreeSteps.{turn_all, turn_step, turn_end, turn_less}
+use Rattle.std.proofs.Common.{sym, refl, ◌∙◌}
+use Rattle.forest.proofs.TreeSteps.{turn_step, turn_end, turn_less}
 use Rattle.forest.proofs.tree.turn.Goals as goal
 
 pub loop-state-init : goal.loop-state-init

@@ -1,5 +1,5 @@
-use Rattle.std.proofs.Common.{◌≡◌, length, sym, refl, ◌∙◌, rules}
-use Rattle.forest.proofs.TreeSteps.{turn_all, turn_step, turn_end, turn_less}
+use Rattle.std.proofs.Common.{◌≡◌, length}
+use Rattle.forest.proofs.TreeSteps.{turn_all}
 use Rattle.forest.proofs.tree.turn.Given as goal
 
 abbrev pub invariant-loop-state : goal.invariant-loop-state

@@ -1,5 +1,5 @@
 -- `tree::turn_one` turns one vertex round: by whether it was a root, the steps of the code are those of `turned_table` and `turned_state`.
-use Rattle.std.proofs.Common.{◌≡◌, ◌-◌, rules, eq-eqb, ne_eqb}
+use Rattle.std.proofs.Common.{◌≡◌, ◌-◌, eq-eqb, ne_eqb}
 use Rattle.forest.specs.Inside.Climb.{above_edge}
 use Rattle.forest.specs.Inside.Tree.{hung_vertex, hung_block, turned_table, turned_state}
 use Rattle.forest.proofs.tree.turn_one.Goals as goal

@@ -1,8 +1,7 @@
 -- `lists::build_lists` builds the lists. The loop's invariant: those of the edges below i are built.
 use mathlib.Core.Path.{◌∙◌}
-use Prim.Native.Nat.{◌-◌, ◌≤◌}
 use native.Mathlib.Omega.{arith}
-use Rattle.routes.proofs.ListsSteps.{BuiltBelow, built_first, built_next, all_built}
+use Rattle.routes.proofs.ListsSteps.{built_first, built_next, all_built}
 use Rattle.routes.proofs.lists.build_lists.Goals as goal
 
 pub clear_column-requires : goal.clear_column-requires

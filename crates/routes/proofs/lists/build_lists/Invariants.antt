@@ -1,7 +1,5 @@
-use mathlib.Core.Path.{◌∙◌}
 use Prim.Native.Nat.{◌-◌, ◌≤◌}
-use native.Mathlib.Omega.{arith}
-use Rattle.routes.proofs.ListsSteps.{BuiltBelow, built_first, built_next, all_built}
+use Rattle.routes.proofs.ListsSteps.{BuiltBelow}
 use Rattle.routes.proofs.lists.build_lists.Given as goal
 
 abbrev pub invariant-loop-i : goal.invariant-loop-i

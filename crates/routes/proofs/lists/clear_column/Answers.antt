@@ -1,9 +1,8 @@
 -- `lists::clear_column` clears a column. The loop's invariant: it is cleared at the vertices below i.
-use Prim.Native.Nat.{◌-◌}
 use native.Mathlib.Omega.{arith}
 use Rattle.forest.specs.Promise.{vertices_fit}
 use Rattle.routes.proofs.Frames.{only_refl}
-use Rattle.routes.proofs.ListsSteps.{ClearedBelow, cleared_next, all_cleared}
+use Rattle.routes.proofs.ListsSteps.{cleared_next, all_cleared}
 use Rattle.routes.proofs.lists.clear_column.Goals as goal
 
 pub loop-i-init : goal.loop-i-init

@@ -1,8 +1,5 @@
 use Prim.Native.Nat.{◌-◌}
-use native.Mathlib.Omega.{arith}
-use Rattle.forest.specs.Promise.{vertices_fit}
-use Rattle.routes.proofs.Frames.{only_refl}
-use Rattle.routes.proofs.ListsSteps.{ClearedBelow, cleared_next, all_cleared}
+use Rattle.routes.proofs.ListsSteps.{ClearedBelow}
 use Rattle.routes.proofs.lists.clear_column.Given as goal
 
 abbrev pub invariant-loop-i : goal.invariant-loop-i

@@ -10,20 +10,18 @@ clear_column-requires c = (c.requires.0, omega arith)
 
 pub set_vertex_scratch-requires : goal.set_vertex_scratch-requires
 set_vertex_scratch-requires c =
-    let cleared = c.clear_column.ensures in
-    (
+    let cleared = c.clear_column.ensures in (
       cleared.only.holds,
       omega arith,
       omega (arith, vertices_fit c.args.shape c.args.t.now c.requires.0, c.requires.1),
     )
 
 pub set_vertex_scratch-requires-2 : goal.set_vertex_scratch-requires-2
-set_vertex_scratch-requires-2 c =
-    (
-      c.set_vertex_scratch.ensures.holds,
-      omega arith,
-      omega (arith, vertices_fit c.args.shape c.args.t.now c.requires.0, c.requires.1),
-    )
+set_vertex_scratch-requires-2 c = (
+  c.set_vertex_scratch.ensures.holds,
+  omega arith,
+  omega (arith, vertices_fit c.args.shape c.args.t.now c.requires.0, c.requires.1),
+)
 
 pub shape_of-t : goal.shape_of-t
 shape_of-t c =

@@ -3,7 +3,7 @@
 use Prim.Native.Nat.{◌-◌}
 use native.Mathlib.Omega.{arith}
 use Rattle.routes.proofs.ListsWords.{behind_small}
-use Rattle.routes.proofs.SearchesLooks.{Looking, looking_first, looking_next, looking_last}
+use Rattle.routes.proofs.SearchesLooks.{looking_first, looking_next, looking_last}
 use Rattle.routes.proofs.search.look_all.Goals as goal
 
 pub loop-entry-init : goal.loop-entry-init

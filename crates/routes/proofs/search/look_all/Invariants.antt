@@ -1,7 +1,4 @@
-use Prim.Native.Nat.{◌-◌}
-use native.Mathlib.Omega.{arith}
-use Rattle.routes.proofs.ListsWords.{behind_small}
-use Rattle.routes.proofs.SearchesLooks.{Looking, looking_first, looking_next, looking_last}
+use Rattle.routes.proofs.SearchesLooks.{Looking}
 use Rattle.routes.proofs.search.look_all.Given as goal
 
 abbrev pub invariant-loop-entry : goal.invariant-loop-entry

@@ -1,9 +1,8 @@
 -- `search::search` makes as many turns as there are vertices, or fewer where a is reached by then. The loop's invariant: the first i turns
 -- are done.
 use mathlib.Core.Path.{◌∙◌}
-use Prim.Native.Nat.{◌-◌, ◌≤◌}
 use native.Mathlib.Omega.{arith}
-use Rattle.routes.proofs.SearchesTurns.{Turning, turning_first, turning_next, turning_stops, turning_last}
+use Rattle.routes.proofs.SearchesTurns.{turning_first, turning_next, turning_stops, turning_last}
 use Rattle.routes.proofs.search.search.Goals as goal
 
 pub loop-i-init : goal.loop-i-init
@@ -29,11 +28,10 @@ pub turn-found-requires : goal.turn-found-requires
 turn-found-requires c = c.loop-i.invariant.0.only.holds
 
 pub loop-i-preserved : goal.loop-i-preserved
-loop-i-preserved c =
-    (
-      turning_next (omega arith) c.loop-i.invariant.0 c.turn-found.ensures,
-      omega (arith, c.loop-i-test.true),
-    )
+loop-i-preserved c = (
+  turning_next (omega arith) c.loop-i.invariant.0 c.turn-found.ensures,
+  omega (arith, c.loop-i-test.true),
+)
 
 pub shape_of-t : goal.shape_of-t
 shape_of-t c = c.loop-i.invariant.0.only.same_beyond.as_long ∙ c.begin_search.ensures.only.same_beyond.as_long

@@ -1,7 +1,5 @@
-use mathlib.Core.Path.{◌∙◌}
 use Prim.Native.Nat.{◌-◌, ◌≤◌}
-use native.Mathlib.Omega.{arith}
-use Rattle.routes.proofs.SearchesTurns.{Turning, turning_first, turning_next, turning_stops, turning_last}
+use Rattle.routes.proofs.SearchesTurns.{Turning}
 use Rattle.routes.proofs.search.search.Given as goal
 
 abbrev pub invariant-loop-i : goal.invariant-loop-i

@@ -1,15 +1,11 @@
 -- `walk::set_mates_use` stores the two bits of the other mates of an edge, along the list of one of its ends. The loop's invariant: those
 -- from the entry on are stored.
-use mathlib.Core.Bool.{true}
-use mathlib.Core.Path.{◌≡◌}
-use Prim.Native.Nat.{◌-◌, ◌≤◌}
+use Prim.Native.Nat.{◌-◌}
 use native.Mathlib.Omega.{arith}
-use Rattle.graph.specs.Network.{Network, edge, edge_count, touches}
-use Rattle.forest.specs.Promise.{network_in}
-use Rattle.routes.specs.Inside.Frame.{Only, edges_only}
-use Rattle.routes.specs.Inside.Lists.{Linked, entry_behind}
+use Rattle.routes.specs.Inside.Frame.{edges_only}
+use Rattle.routes.specs.Inside.Lists.{entry_behind}
 use Rattle.routes.proofs.Frames.{only_refl, only_trans}
-use Rattle.routes.proofs.WalksMates.{MatesFrom, mates_begin, mates_next, mates_end}
+use Rattle.routes.proofs.WalksMates.{mates_begin, mates_next, mates_end}
 use Rattle.routes.proofs.walk.set_mates_use.Goals as goal
 
 pub loop-entry-init : goal.loop-entry-init

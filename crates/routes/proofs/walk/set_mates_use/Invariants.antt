@@ -1,13 +1,11 @@
 use mathlib.Core.Bool.{true}
 use mathlib.Core.Path.{◌≡◌}
-use Prim.Native.Nat.{◌-◌, ◌≤◌}
-use native.Mathlib.Omega.{arith}
+use Prim.Native.Nat.{◌≤◌}
 use Rattle.graph.specs.Network.{Network, edge, edge_count, touches}
 use Rattle.forest.specs.Promise.{network_in}
 use Rattle.routes.specs.Inside.Frame.{Only, edges_only}
-use Rattle.routes.specs.Inside.Lists.{Linked, entry_behind}
-use Rattle.routes.proofs.Frames.{only_refl, only_trans}
-use Rattle.routes.proofs.WalksMates.{MatesFrom, mates_begin, mates_next, mates_end}
+use Rattle.routes.specs.Inside.Lists.{Linked}
+use Rattle.routes.proofs.WalksMates.{MatesFrom}
 use Rattle.routes.proofs.walk.set_mates_use.Given as goal
 
 abbrev pub invariant-loop-entry : goal.invariant-loop-entry

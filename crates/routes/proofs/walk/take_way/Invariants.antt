@@ -1,8 +1,6 @@
 use mathlib.Core.List.{List}
-use mathlib.Core.Logic.{⊎_elim}
 use mathlib.Core.Path.{◌≡◌}
 use Prim.Native.Nat.{◌-◌, ◌<◌}
-use native.Mathlib.Omega.{arith}
 use lib.ListN.{length}
 use Rattle.graph.specs.Network.{Network}
 use Rattle.graph.specs.Cycle.{Step}
@@ -11,8 +9,7 @@ use Rattle.ways.specs.TwoRoutes.{edges_of}
 use Rattle.forest.specs.Promise.{network_in}
 use Rattle.routes.specs.Inside.Frame.{Only, edges_only, Written}
 use Rattle.routes.specs.Inside.Lists.{Listed}
-use Rattle.routes.proofs.Frames.{only_refl, only_trans}
-use Rattle.routes.proofs.WalksWay.{TakenTo, take_begins, take_ends, take-goes_on, stepped_then, stepped_not}
+use Rattle.routes.proofs.WalksWay.{TakenTo}
 use Rattle.routes.proofs.walk.take_way.Given as goal
 
 abbrev pub invariant-loop-i : goal.invariant-loop-i

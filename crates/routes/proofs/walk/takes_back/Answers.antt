@@ -1,8 +1,7 @@
 -- `walk::takes_back` tells whether a way that is written down goes along a used edge. The loop's invariant: none of the first i edges is
 -- used.
-use Prim.Native.Nat.{◌-◌}
 use native.Mathlib.Omega.{arith}
-use Rattle.routes.proofs.WalksBack.{NoneTo, none_goes_on, none_told, one_told}
+use Rattle.routes.proofs.WalksBack.{none_goes_on, none_told, one_told}
 use Rattle.routes.proofs.walk.takes_back.Goals as goal
 
 pub loop-i-init : goal.loop-i-init

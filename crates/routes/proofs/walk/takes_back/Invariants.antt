@@ -1,6 +1,5 @@
 use Prim.Native.Nat.{◌-◌}
-use native.Mathlib.Omega.{arith}
-use Rattle.routes.proofs.WalksBack.{NoneTo, none_goes_on, none_told, one_told}
+use Rattle.routes.proofs.WalksBack.{NoneTo}
 use Rattle.routes.proofs.walk.takes_back.Given as goal
 
 abbrev pub invariant-loop-i : goal.invariant-loop-i

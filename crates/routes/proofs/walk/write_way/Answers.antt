@@ -1,26 +1,19 @@
 -- `walk::write_way` writes down the edges of a way in a column. The loop's invariant: the first i of them are written down, and the way
 -- goes on from x.
-use mathlib.Core.Bool.{true}
-use mathlib.Core.Path.{◌≡◌, ap}
-use Prim.Native.Nat.{◌-◌, ◌≤◌}
+use mathlib.Core.Path.{ap}
 use native.Mathlib.Omega.{arith}
-use Rattle.graph.specs.Lists.{is_in}
-use Rattle.graph.specs.Network.{Network}
-use Rattle.ways.specs.Search.{Found, Orderly}
-use Rattle.forest.specs.Promise.{network_in, vertices_held, vertices_fit}
-use Rattle.routes.specs.Inside.Frame.{Only, column_only}
-use Rattle.routes.specs.Inside.Searches.{NextIs}
+use Rattle.forest.specs.Promise.{vertices_held, vertices_fit}
+use Rattle.routes.specs.Inside.Frame.{column_only}
 use Rattle.routes.proofs.Frames.{only_refl, only_trans, only_vertex}
-use Rattle.routes.proofs.WalksWritten.{WrittenTo, write_begins, write_ends, written_fits, write_goes_on}
+use Rattle.routes.proofs.WalksWritten.{write_begins, write_ends, written_fits, write_goes_on}
 use Rattle.routes.proofs.walk.write_way.Goals as goal
 
 pub loop-i-init : goal.loop-i-init
-loop-i-init c =
-    (
-      only_refl c.args.shape (column_only c.args.column) c.args.t.now c.requires.0,
-      omega arith,
-      λ g f is o n e. write_begins c.args.t.now e,
-    )
+loop-i-init c = (
+  only_refl c.args.shape (column_only c.args.column) c.args.t.now c.requires.0,
+  omega arith,
+  λ g f is o n e. write_begins c.args.t.now e,
+)
 
 pub shape_of-t-then-x-b : goal.shape_of-t-then-x-b
 shape_of-t-then-x-b c = c.loop-i.invariant.0.same_beyond.as_long

@@ -1,15 +1,13 @@
 use mathlib.Core.Bool.{true}
-use mathlib.Core.Path.{◌≡◌, ap}
+use mathlib.Core.Path.{◌≡◌}
 use Prim.Native.Nat.{◌-◌, ◌≤◌}
-use native.Mathlib.Omega.{arith}
 use Rattle.graph.specs.Lists.{is_in}
 use Rattle.graph.specs.Network.{Network}
 use Rattle.ways.specs.Search.{Found, Orderly}
-use Rattle.forest.specs.Promise.{network_in, vertices_held, vertices_fit}
+use Rattle.forest.specs.Promise.{network_in}
 use Rattle.routes.specs.Inside.Frame.{Only, column_only}
 use Rattle.routes.specs.Inside.Searches.{NextIs}
-use Rattle.routes.proofs.Frames.{only_refl, only_trans, only_vertex}
-use Rattle.routes.proofs.WalksWritten.{WrittenTo, write_begins, write_ends, written_fits, write_goes_on}
+use Rattle.routes.proofs.WalksWritten.{WrittenTo}
 use Rattle.routes.proofs.walk.write_way.Given as goal
 
 abbrev pub invariant-loop-i : goal.invariant-loop-i

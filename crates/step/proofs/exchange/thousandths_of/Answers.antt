@@ -18,10 +18,10 @@ overflow_add-result c =
     let not_nothing : 0 < c.args.whole = omega (arith, c.if-whole-eq0.false) in
     -- behind both ways to what goes up
     let is_nearest : Nearest c.args.part c.args.whole (1000 * c.args.part / c.args.whole + c.if-twice_over-whole.up) =
-        elim c.if-twice_over-whole.branch [
-          then-twice_over-whole w ↦ half_goes_up _ _ _ not_nothing (omega (arith, w.if-twice_over-whole.true)) (omega (arith, w.up-is))
-        | else-twice_over-whole w ↦ rest_goes_up _ _ _ not_nothing (λ half. w.if-twice_over-whole.false (omega (arith, half))) (omega (arith, w.up-is))
-        ] in
+    elim c.if-twice_over-whole.branch [
+      | then-twice_over-whole w ↦ half_goes_up _ _ _ not_nothing (omega (arith, w.if-twice_over-whole.true)) (omega (arith, w.up-is))
+      | else-twice_over-whole w ↦ rest_goes_up _ _ _ not_nothing (λ half. w.if-twice_over-whole.false (omega (arith, half))) (omega (arith, w.up-is))
+    ] in
     omega (arith, c.requires, few_nearest _ _ _ not_nothing is_nearest)
 
 pub returns : goal.returns
@@ -29,8 +29,8 @@ returns c =
     let not_nothing : 0 < c.args.whole = omega (arith, c.if-whole-eq0.false) in
     -- behind both ways to what goes up
     let is_nearest : Nearest c.args.part c.args.whole (1000 * c.args.part / c.args.whole + c.if-twice_over-whole.up) =
-        elim c.if-twice_over-whole.branch [
-          then-twice_over-whole w ↦ half_goes_up _ _ _ not_nothing (omega (arith, w.if-twice_over-whole.true)) (omega (arith, w.up-is))
-        | else-twice_over-whole w ↦ rest_goes_up _ _ _ not_nothing (λ half. w.if-twice_over-whole.false (omega (arith, half))) (omega (arith, w.up-is))
-        ] in
+    elim c.if-twice_over-whole.branch [
+      | then-twice_over-whole w ↦ half_goes_up _ _ _ not_nothing (omega (arith, w.if-twice_over-whole.true)) (omega (arith, w.up-is))
+      | else-twice_over-whole w ↦ rest_goes_up _ _ _ not_nothing (λ half. w.if-twice_over-whole.false (omega (arith, half))) (omega (arith, w.up-is))
+    ] in
     nearest_is_share _ _ _ _ not_nothing is_nearest (omega arith)

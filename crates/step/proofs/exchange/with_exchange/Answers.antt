@@ -1,6 +1,6 @@
 -- `exchange::with_exchange` counts the cabinets whose ring holds an exchange. The loop's invariant: those below i are counted.
-use mathlib.Core.Path.{◌≡◌, refl}
-use Prim.Native.Nat.{◌+◌, ◌-◌, ◌≤◌}
+use mathlib.Core.Path.{refl}
+use Prim.Native.Nat.{◌+◌}
 use native.Mathlib.Omega.{arith}
 use Rattle.graph.specs.Below.{count}
 use Rattle.naming.proofs.Count.{count_at_most}

@@ -1,11 +1,8 @@
-use mathlib.Core.Path.{◌≡◌, refl}
-use Prim.Native.Nat.{◌+◌, ◌-◌, ◌≤◌}
-use native.Mathlib.Omega.{arith}
+use mathlib.Core.Path.{◌≡◌}
+use Prim.Native.Nat.{◌-◌, ◌≤◌}
 use Rattle.graph.specs.Below.{count}
-use Rattle.naming.proofs.Count.{count_at_most}
 use Rattle.commands.specs.Exchange.{ring_holds_exchange}
 use Rattle.forest.specs.Promise.{state_of}
-use Rattle.step.proofs.Exchanges.{counted_next, all_counted}
 use Rattle.step.proofs.exchange.with_exchange.Given as goal
 
 abbrev pub invariant-loop-i : goal.invariant-loop-i

@@ -1,5 +1,5 @@
 -- `merge::absorb` gives what a group has to the winner, and widens the pass to the range of the group.
-use Rattle.std.proofs.Common.{rules, eq-eqb, ne_eqb}
+use Rattle.std.proofs.Common.{eq-eqb, ne_eqb}
 use Rattle.table.specs.Inside.Merge.{absorb_table, absorb_pass}
 use Rattle.table.proofs.merge.absorb.Goals as goal
 

@@ -1,8 +1,8 @@
 -- `merge::absorb_all` absorbs the groups of the listed items. The loop's invariant: the items left, from the table and
 -- the pass at hand, give the whole answer.
-use Rattle.std.proofs.Common.{◌≡◌, ◌-◌, length, sym, refl, ap, ◌∙◌, arith, rules}
+use Rattle.std.proofs.Common.{sym, refl, ap, ◌∙◌}
 use native.Mathlib.Nat.{sub-zero}
-use Rattle.table.specs.Inside.Merge.{Absorbed, absorb_from, absorb_listed, no_pass}
+use Rattle.table.specs.Inside.Merge.{Absorbed, absorb_listed, no_pass}
 use Rattle.table.proofs.MergeSteps.{absorb_step, absorb_end}
 use Rattle.table.proofs.merge.absorb_all.Goals as goal
 

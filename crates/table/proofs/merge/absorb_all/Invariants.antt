@@ -1,7 +1,5 @@
-use Rattle.std.proofs.Common.{◌≡◌, ◌-◌, length, sym, refl, ap, ◌∙◌, arith, rules}
-use native.Mathlib.Nat.{sub-zero}
-use Rattle.table.specs.Inside.Merge.{Absorbed, absorb_from, absorb_listed, no_pass}
-use Rattle.table.proofs.MergeSteps.{absorb_step, absorb_end}
+use Rattle.std.proofs.Common.{◌≡◌, ◌-◌, length}
+use Rattle.table.specs.Inside.Merge.{absorb_from, absorb_listed}
 use Rattle.table.proofs.merge.absorb_all.Given as goal
 
 abbrev pub invariant-loop-i : goal.invariant-loop-i

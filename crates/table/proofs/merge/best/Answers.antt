@@ -1,7 +1,7 @@
 -- `merge::best` gives the best of the names of the listed items. The loop's invariant: the name at hand and the items left give the
 -- whole answer.
-use Rattle.std.proofs.Common.{◌≡◌, ◌-◌, sym, ◌∙◌, arith, rules}
-use Rattle.table.specs.Inside.Merge.{items_from, best_over, best_listed}
+use Rattle.std.proofs.Common.{sym, ◌∙◌}
+use Rattle.table.specs.Inside.Merge.{best_listed}
 use Rattle.table.proofs.MergeSteps.{best_step, best_end}
 use Rattle.table.proofs.merge.best.Goals as goal
 

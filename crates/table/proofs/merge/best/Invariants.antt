@@ -1,6 +1,5 @@
-use Rattle.std.proofs.Common.{◌≡◌, ◌-◌, sym, ◌∙◌, arith, rules}
+use Rattle.std.proofs.Common.{◌≡◌, ◌-◌}
 use Rattle.table.specs.Inside.Merge.{items_from, best_over, best_listed}
-use Rattle.table.proofs.MergeSteps.{best_step, best_end}
 use Rattle.table.proofs.merge.best.Given as goal
 
 abbrev pub invariant-loop-i : goal.invariant-loop-i

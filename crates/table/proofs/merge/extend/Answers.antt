@@ -1,5 +1,4 @@
 -- `merge::extend` makes the winner's range the hull of itself and the pass.
-use Rattle.std.proofs.Common.{rules}
 use Rattle.table.specs.Inside.Merge.{extended}
 use Rattle.table.proofs.MergeSteps.{widened_to}
 use Rattle.table.proofs.merge.extend.Goals as goal

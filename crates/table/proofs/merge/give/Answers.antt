@@ -1,5 +1,4 @@
 -- `merge::give` gives what a group has in a column to the winner.
-use Rattle.std.proofs.Common.{rules}
 use Rattle.table.specs.Inside.Merge.{given_in}
 use Rattle.table.proofs.merge.give.Goals as goal
 

@@ -1,8 +1,6 @@
 -- `merge::give_all` gives what a group has in the columns that are added up to the winner. The loop's invariant: the columns left, from the
 -- table at hand, give the whole answer.
-use Rattle.std.proofs.Common.{◌≡◌, ◌-◌, length, sym, refl, ◌∙◌, arith, rules}
-use Rattle.table.specs.Inside.Column
-use Rattle.table.specs.Inside.Merge.{given_from}
+use Rattle.std.proofs.Common.{sym, refl, ◌∙◌}
 use Rattle.table.proofs.MergeSteps.{give_step, give_end}
 use Rattle.table.proofs.merge.give_all.Goals as goal
 

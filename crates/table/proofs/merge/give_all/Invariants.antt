@@ -1,7 +1,6 @@
-use Rattle.std.proofs.Common.{◌≡◌, ◌-◌, length, sym, refl, ◌∙◌, arith, rules}
+use Rattle.std.proofs.Common.{◌≡◌, ◌-◌, length}
 use Rattle.table.specs.Inside.Column
 use Rattle.table.specs.Inside.Merge.{given_from}
-use Rattle.table.proofs.MergeSteps.{give_step, give_end}
 use Rattle.table.proofs.merge.give_all.Given as goal
 
 abbrev pub invariant-loop-column : goal.invariant-loop-column

@@ -1,5 +1,5 @@
 -- `merge::rename_one` gives an item whose group was absorbed the winner's name, and writes it down.
-use Rattle.std.proofs.Common.{add-one, rules, eq-eqb, ne_eqb}
+use Rattle.std.proofs.Common.{add-one, eq-eqb, ne_eqb}
 use Rattle.table.specs.Inside.Merge.{rename_table, rename_count}
 use Rattle.table.proofs.merge.rename_one.Goals as goal
 

@@ -1,7 +1,7 @@
 -- `merge::rename_pass` renames the items of a pass. The loop's invariant: the items left, from the table and the count at hand,
 -- give the whole answer.
-use Rattle.std.proofs.Common.{◌≡◌, ◌-◌, ◌≤◌, length, sym, refl, ap, ◌∙◌, arith, rules}
-use Rattle.table.specs.Inside.Merge.{Renamed, rename_from, rename_pass}
+use Rattle.std.proofs.Common.{sym, refl, ap, ◌∙◌, arith}
+use Rattle.table.specs.Inside.Merge.{Renamed, rename_pass}
 use Rattle.table.proofs.MergeSteps.{rename_step, rename_end, rename_count_bound}
 use Rattle.table.proofs.merge.rename_pass.Goals as goal
 

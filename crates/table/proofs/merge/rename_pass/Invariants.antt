@@ -1,6 +1,5 @@
-use Rattle.std.proofs.Common.{◌≡◌, ◌-◌, ◌≤◌, length, sym, refl, ap, ◌∙◌, arith, rules}
-use Rattle.table.specs.Inside.Merge.{Renamed, rename_from, rename_pass}
-use Rattle.table.proofs.MergeSteps.{rename_step, rename_end, rename_count_bound}
+use Rattle.std.proofs.Common.{◌≡◌, ◌-◌, ◌≤◌, length}
+use Rattle.table.specs.Inside.Merge.{rename_from, rename_pass}
 use Rattle.table.proofs.merge.rename_pass.Given as goal
 
 abbrev pub invariant-loop-x : goal.invariant-loop-x

@@ -1,5 +1,4 @@
 -- `merge::widen` gives the pass widened to a range.
-use Rattle.std.proofs.Common.{rules}
 use Rattle.table.specs.Inside.Merge.{widened, least_of, greatest_of}
 use Rattle.table.proofs.merge.widen.Goals as goal
 

@@ -1,5 +1,5 @@
 -- `words::set_word` stores a word; where there is none it stores nothing.
-use Rattle.std.proofs.Common.{sym, rules}
+use Rattle.std.proofs.Common.{sym}
 use lib.Seq.{set_out}
 use Rattle.table.specs.Inside.Layout.{put}
 use Rattle.table.proofs.words.set_word.Goals as goal

@@ -1,5 +1,5 @@
 -- `words::word` reads a word; where there is none it gives 0.
-use Rattle.std.proofs.Common.{sym, rules}
+use Rattle.std.proofs.Common.{sym}
 use lib.ListN.{get_or-eq_default}
 use Rattle.table.specs.Inside.Layout.{cell}
 use Rattle.table.proofs.words.word.Goals as goal

@@ -1,5 +1,5 @@
 -- `words::word_behind` reads the word behind an item's; where there is none it gives 0.
-use Rattle.std.proofs.Common.{◌*◌, ◌≤◌, sym, mul-le-mul, arith, rules}
+use Rattle.std.proofs.Common.{◌*◌, ◌≤◌, sym, mul-le-mul, arith}
 use lib.ListN.{get_or-eq_default}
 use Rattle.table.specs.Inside.Layout.{place, cell}
 use Rattle.table.proofs.Cells.{place_behind_lem}

@@ -1,15 +1,11 @@
 -- `notice::put_notices` writes the notices of a kind one after another. The invariant: the first i notices are written, and the next one
 -- goes behind them. The measure is what is left of the count.
 use mathlib.Core.Path.{◌≡◌, refl, ◌∙◌}
-use Prim.Native.Nat.{◌+◌, ◌*◌, ◌-◌, ◌≤◌}
 use native.Mathlib.Numerals.{add-one}
 use native.Mathlib.Omega.{arith}
-use lib.ListN.{length}
-use lib.Seq.{sets}
 use Rattle.graph.specs.Below.{tabulate}
 use Rattle.commands.specs.Field.{fields_bytes}
 use Rattle.commands.specs.Answer.{notices_fields}
-use Rattle.step.specs.Promise.{notices_of}
 use Rattle.writing.specs.Inside.Notices.{kind_of}
 use Rattle.writing.proofs.WriteSteps.{told_more}
 use Rattle.writing.proofs.notice.put_notices.Goals as goal

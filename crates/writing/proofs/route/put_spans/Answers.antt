@@ -1,14 +1,10 @@
 -- `route::put_spans` writes the spans of a route one after another, from a place on. The invariant: the first i spans are written, and the next
 -- one goes behind them. The measure is what is left of the count.
-use mathlib.Core.List.{map}
 use mathlib.Core.Path.{◌≡◌, refl, ◌∙◌}
-use Prim.Native.Nat.{◌+◌, ◌*◌, ◌-◌, ◌≤◌}
 use native.Mathlib.Numerals.{add-one}
 use native.Mathlib.Omega.{arith}
-use lib.ListN.{length}
-use lib.Seq.{sets}
 use Rattle.graph.specs.Below.{tabulate}
-use Rattle.commands.specs.Field.{span, fields_bytes}
+use Rattle.commands.specs.Field.{fields_bytes}
 use Rattle.routes.specs.Promise.{edge_at}
 use Rattle.writing.proofs.RouteSteps.{spans_more}
 use Rattle.writing.proofs.route.put_spans.Goals as goal

@@ -1,14 +1,11 @@
 use mathlib.Core.List.{map}
-use mathlib.Core.Path.{◌≡◌, refl, ◌∙◌}
+use mathlib.Core.Path.{◌≡◌}
 use Prim.Native.Nat.{◌+◌, ◌*◌, ◌-◌, ◌≤◌}
-use native.Mathlib.Numerals.{add-one}
-use native.Mathlib.Omega.{arith}
 use lib.ListN.{length}
 use lib.Seq.{sets}
 use Rattle.graph.specs.Below.{tabulate}
 use Rattle.commands.specs.Field.{span, fields_bytes}
 use Rattle.routes.specs.Promise.{edge_at}
-use Rattle.writing.proofs.RouteSteps.{spans_more}
 use Rattle.writing.proofs.route.put_spans.Given as goal
 
 abbrev pub invariant-loop-i : goal.invariant-loop-i

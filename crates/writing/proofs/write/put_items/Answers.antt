@@ -1,16 +1,11 @@
 -- `write::put_items` writes the items of a list one after another, behind the first three bytes. The invariant: the first i items are written,
 -- and the next one goes behind them. The measure is what is left of the count.
-use mathlib.Core.List.{map}
 use mathlib.Core.Path.{◌≡◌, refl, ◌∙◌}
-use Prim.Native.Nat.{◌+◌, ◌*◌, ◌-◌, ◌≤◌}
 use native.Mathlib.Numerals.{add-one}
 use native.Mathlib.Omega.{arith}
-use lib.ListN.{length}
-use lib.Seq.{sets}
 use Rattle.graph.specs.Below.{tabulate}
 use Rattle.commands.specs.Field.{fields_bytes}
 use Rattle.step.specs.Promise.{item_at}
-use Rattle.writing.specs.Inside.Writes.{list_field}
 use Rattle.writing.proofs.WriteSteps.{items_more}
 use Rattle.writing.proofs.write.put_items.Goals as goal
 

@@ -1,15 +1,12 @@
 use mathlib.Core.List.{map}
-use mathlib.Core.Path.{◌≡◌, refl, ◌∙◌}
+use mathlib.Core.Path.{◌≡◌}
 use Prim.Native.Nat.{◌+◌, ◌*◌, ◌-◌, ◌≤◌}
-use native.Mathlib.Numerals.{add-one}
-use native.Mathlib.Omega.{arith}
 use lib.ListN.{length}
 use lib.Seq.{sets}
 use Rattle.graph.specs.Below.{tabulate}
 use Rattle.commands.specs.Field.{fields_bytes}
 use Rattle.step.specs.Promise.{item_at}
 use Rattle.writing.specs.Inside.Writes.{list_field}
-use Rattle.writing.proofs.WriteSteps.{items_more}
 use Rattle.writing.proofs.write.put_items.Given as goal
 
 abbrev pub invariant-loop-i : goal.invariant-loop-i
