@@ -1,5 +1,6 @@
 // The entries of journal under the names that C calls, as include/register.h declares them.
 #![tactic(auto)]
+
 ghost use Rattle.std.specs.Prelude.{map};
 ghost use Rattle.joining.specs.Promise.{seam_of};
 ghost use Rattle.journal.specs.Promise.{RegisterPromise, ForecastPromise, ExactPromise, RewritePromise, JoinPromise};
