@@ -32,7 +32,7 @@ use Rattle.commands.specs.JoinHistories
 use Rattle.commands.specs.JoinHistories.{joining_of, joins, joined_of, joined_histories, answers_alone, answers_behind, answers_staying, raised_bytes}
 use Rattle.commands.specs.ExactHistories
 use Rattle.commands.specs.ExactHistories.{foretold_exactly, exact_calls}
-use Rattle.commands.specs.Calls.{sevens, call, at_start, start_calls, stop_calls, cabinet_answers, accepted_calls, entered, foretold, forecasts, rewrite_call, rewriting_of, spans02, spans0_b, rewritings}
+use Rattle.commands.specs.Calls.{sevens, call, at_start, start_calls, stop_calls, cabinet_answers, accepted_calls, entered, foretold, forecasts, rewrite_call, rewriting_of, spans02, spans0b, rewritings}
 use Rattle.commands.proofs.Computed.{computed}
 
 -- the history that the program makes of the same input
@@ -137,7 +137,7 @@ exact_calls_shown = refl
 
 -- So each journal is rewritten.
 pub rewritings_shown : map rewriting_of rewritings ≡ map (λ c. c.rewriting) rewritings
-unfolding computed rewrite_call rewriting_of spans02 spans0_b rewritings
+unfolding computed rewrite_call rewriting_of spans02 spans0b rewritings
 rewritings_shown = refl
 
 -- So journals of the old reading are rewritten, and answered before and after.

@@ -23,10 +23,10 @@ unfolding register_rule one_duct edge_between
 mates_of_02 a b x y = refl
 
 -- two of 0B exactly if they are so and in one duct
-pub mates_of_0_b : (a b d x y e : ℕ)
+pub mates_of_0b : (a b d x y e : ℕ)
     → register_rule (edge_in_duct a b d) (edge_in_duct x y e) ≡ (eqb d e && parallel (edge_in_duct a b d) (edge_in_duct x y e))
 unfolding register_rule one_duct edge_in_duct
-mates_of_0_b a b d x y e = refl
+mates_of_0b a b d x y e = refl
 
 -- the duct of a 0B that is not refused is not 0
 pub duct_of-accepted : (caps : Capacities) (s : State) (a b d : ℕ) → refusal_of caps s (add_duct_span a b d) ≡ none → d ≢ 0

@@ -361,9 +361,9 @@ unfoldable pub spans02 : ℕ → List ℕ
 spans02 zero = []
 spans02 (suc k) = 0x02 ∷ 0 ∷ 0 ∷ 0 ∷ 1 ∷ spans02 k
 
-unfoldable pub spans0_b : ℕ → List ℕ
-spans0_b zero = []
-spans0_b (suc k) = spans0_b k ++ 0x0B ∷ 0 ∷ 0 ∷ 0 ∷ 1 ∷ 0 ∷ suc k ∷ []
+unfoldable pub spans0b : ℕ → List ℕ
+spans0b zero = []
+spans0b (suc k) = spans0b k ++ 0x0B ∷ 0 ∷ 0 ∷ 0 ∷ 1 ∷ 0 ∷ suc k ∷ []
 
 unfoldable pub rewritings : List RewriteCall
 rewritings =
@@ -419,7 +419,7 @@ rewritings =
     ∷ 0x0B ∷ 0 ∷ 0 ∷ 0 ∷ 1 ∷ 0 ∷ 3
     ∷ [])
     -- ducts 255 and 256
-    ∷ rewrite_call (spans02 256) 1792 0 1280 (spans0_b 255 ++ 0x0B ∷ 0 ∷ 0 ∷ 0 ∷ 1 ∷ 1 ∷ 0 ∷ [])
+    ∷ rewrite_call (spans02 256) 1792 0 1280 (spans0b 255 ++ 0x0B ∷ 0 ∷ 0 ∷ 0 ∷ 1 ∷ 1 ∷ 0 ∷ [])
     -- 3: a journal too long, of bytes that are no command's, with room for no byte
     ∷ rewrite_call (replicate 65537 0x00) 0 3 0 []
     -- 4: an unknown byte, alone, and behind a command that a run refuses with 7, with room for no byte

@@ -9,13 +9,13 @@ use lib.ListN.{get_or}
 use lib.Pow.{pow-add}
 use Rattle.graph.specs.Below.{tabulate}
 use Rattle.naming.specs.Log.{highest_bit}
-use Rattle.naming.proofs.Listed.{get_d_tabulate}
+use Rattle.naming.proofs.Listed.{get_or-tabulate}
 use Rattle.naming.proofs.Log.{below_power, highest_bit-between}
 
 -- in a table of L(0) to L(255) the entry at a byte is L of that byte
 pub entry_is : (table : List ℕ) → table ≡ tabulate 256 highest_bit → (byte place : ℕ) → place < 256 → place ≡ byte
     → get_or table place 0 ≡ highest_bit byte
-entry_is table e byte place h at = rw (e, get_d_tabulate 256 highest_bit 0 place h, at)
+entry_is table e byte place h at = rw (e, get_or-tabulate 256 highest_bit 0 place h, at)
 
 -- without its lowest byte a number has its highest one bit 8 places lower (`leading_top` finds the place, among any number of bits that
 -- holds what is left)

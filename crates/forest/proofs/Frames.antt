@@ -4,7 +4,7 @@ use Rattle.graph.specs.Network.{edge_in_duct}
 use Rattle.numbers.specs.declared.Limits.{Limits}
 use Rattle.table.specs.Inside.Column
 use Rattle.table.specs.Inside.Layout.{place, cell, put, vertex_area, bridge_block_area, edge_area}
-use Rattle.table.proofs.Cells.{length-put, cell_put_other_column, get_d_put_outside, cell_edge_after_vertex, cell_vertex_after_edge, cell-bridge_block, put-bridge_block}
+use Rattle.table.proofs.Cells.{length-put, cell_put_other_column, get_or-put_outside, cell_edge_after_vertex, cell_vertex_after_edge, cell-bridge_block, put-bridge_block}
 use Rattle.table.proofs.MergeKept.{Kept}
 use Rattle.forest.specs.Inside.Climb.{block_of, above_edge}
 use Rattle.forest.specs.Inside.Tree.{new_group}
@@ -64,7 +64,7 @@ frame_vertex limits vs es t c x v h l m =
       vertex_word = λ d y k i o. cell_put_other_column t (vertex_area limits) c x v d y l i (other_column vs c d m o);
       edge_word = λ d s k i o. cell_edge_after_vertex limits t c x v d s h l;
       beyond = λ p k.
-          get_d_put_outside t (vertex_area limits) Column.per_vertex c x v p h l (λ i j. omega arith);
+          get_or-put_outside t (vertex_area limits) Column.per_vertex c x v p h l (λ i j. omega arith);
     }
 
 -- a word stored for an edge
@@ -76,7 +76,7 @@ frame_edge limits vs es t d s v h l m =
       vertex_word = λ c x k i o. cell_vertex_after_edge limits t d s v c x k i;
       edge_word = λ c y k i o. cell_put_other_column t (edge_area limits) d s v c y l i (other_column es d c m o);
       beyond = λ p k.
-          get_d_put_outside t (edge_area limits) Column.per_edge d s v p h l (λ i j. omega arith);
+          get_or-put_outside t (edge_area limits) Column.per_edge d s v p h l (λ i j. omega arith);
     }
 
 -- a new component of one vertex

@@ -4,7 +4,7 @@ use Rattle.graph.specs.Network.{Network, Edge, edge_between, edge_in_duct, edge,
 use Rattle.graph.specs.Groups.{bridge, bridge_block}
 use Rattle.graph.proofs.BridgeBlock.{bridge_parts_bridge_blocks}
 use Rattle.naming.specs.Rename.{size, name_of}
-use Rattle.naming.proofs.Listed.{get_d_tabulate}
+use Rattle.naming.proofs.Listed.{get_or-tabulate}
 use Rattle.numbers.specs.declared.Limits.{Limits}
 use Rattle.table.specs.Inside.Layout.{vertex_area, bridge_block_area, edge_area}
 use Rattle.table.specs.Inside.Merge.{name_in, size_in}
@@ -42,7 +42,7 @@ group_size_lem shape t holds G.BridgeBlocks x h = holds.valid.bridge_blocks_lem.
 -- edge s of a table's network is the one that the table has stored
 pub network-edge : (limits : Limits) (n m : ℕ) (t : List ℕ) (s : ℕ) → s < m → edge (network_of limits n m t) s ≡ stored_edge t limits s
 unfolding edge network_of
-network-edge limits n m t s h = get_d_tabulate m (stored_edge t limits) (edge_between 0 0) s h
+network-edge limits n m t s h = get_or-tabulate m (stored_edge t limits) (edge_between 0 0) s h
 
 module _ {limits : Limits} {n m : ℕ} {t : List ℕ} (valid : Valid limits n m t) where
   abbrev g : Network

@@ -2,6 +2,7 @@
 // Of the forecast to the byte: the refusals before the journal is read, the run without answers, and the three numbers. Of rewriting: its three
 // numbers, and the result. Of joining: its two numbers, and the result.
 #![tactic(auto)]
+
 ghost use Rattle.std.specs.Prelude.{not, map, ◌≡◌, ◌<◌};
 ghost use Rattle.commands.specs.Refusal.{first_that_applies};
 ghost use Rattle.commands.specs.Entry.{good_capacities, start_lines, number_of, over};
@@ -172,12 +173,7 @@ pub fn register_forecast_exact(
 }
 
 // Rewrites a journal of the old reading into the caller's output buffer, and tells a place, as the forecast does, and the result's length.
-pub fn register_rewrite(
-    journal: &[u8],
-    out: &mut [u8],
-    place: &mut u32,
-    length: &mut u32,
-) -> u32
+pub fn register_rewrite(journal: &[u8], out: &mut [u8], place: &mut u32, length: &mut u32) -> u32
     ensures { RewritePromise journal.now out.old result place.new length.new out.new }
 {
     let told = rewrite_into(journal, out);

@@ -63,10 +63,10 @@ map-listed-same f g p (suc n) e = go (map-listed-same f g p n (λ x h. e x (omeg
     go ih (inr q) = rw q ih
 
 -- entry i is the value at i
-pub get_d_tabulate {ℓ} : {A : Type ℓ} (n : ℕ) (f : ℕ → A) (d : A) (i : ℕ) → i < n → get_or (tabulate n f) i d ≡ f i
+pub get_or-tabulate {ℓ} : {A : Type ℓ} (n : ℕ) (f : ℕ → A) (d : A) (i : ℕ) → i < n → get_or (tabulate n f) i d ≡ f i
 unfolding tabulate
-get_d_tabulate zero f d i h = absurd (not-suc-le-zero h)
-get_d_tabulate {A = A} (suc n) f d i h = go (get_d_tabulate n f d i) (below_or_last n i h)
+get_or-tabulate zero f d i h = absurd (not-suc-le-zero h)
+get_or-tabulate {A = A} (suc n) f d i h = go (get_or-tabulate n f d i) (below_or_last n i h)
   where
     go : (i < n → get_or (tabulate n f) i d ≡ f i) → (i < n) ⊎ (i ≡ n) → get_or (tabulate n f ++ f n ∷ []) i d ≡ f i
     go ih (inl l) = rw (get_or-append (tabulate n f) (f n ∷ []) d i (rw (length_tabulate n f) l)) (ih l)

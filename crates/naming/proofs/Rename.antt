@@ -10,7 +10,7 @@ use Rattle.graph.specs.Below.{listed, length_tabulate}
 use Rattle.graph.proofs.Truth.{false_of_not, true_of_not_false, and_both, not_both}
 use Rattle.graph.proofs.Below.{any_below_lem, any_below-same, listed_same}
 use Rattle.naming.specs.Rename.{Grouping, name_of, Candidate, best_of, candidate, holds_several, best_name, rename}
-use Rattle.naming.proofs.Listed.{passes_listed, listed_passes, get_d_tabulate, tabulate_same}
+use Rattle.naming.proofs.Listed.{passes_listed, listed_passes, get_or-tabulate, tabulate_same}
 use Rattle.naming.proofs.Equivalent.{size_agree}
 use Rattle.naming.proofs.Best.{BestOf, best_name_lem, best_same, best_of_list, best_of_agree}
 
@@ -25,7 +25,7 @@ pub name_of_rename : (before after : Grouping) (names : List ℕ) (x : ℕ) → 
     ≡ cond (holds_several before after names x) (best_name before after names x) (name_of names x)
 unfolding rename name_of
 name_of_rename before after names x h =
-    get_d_tabulate (length names) (λ y. cond (holds_several before after names y) (best_name before after names y) (name_of names y)) 0 x h
+    get_or-tabulate (length names) (λ y. cond (holds_several before after names y) (best_name before after names y) (name_of names y)) 0 x h
 
 -- Two groupings agree on the items below n.
 abbrev pub AgreeBelow : ℕ → Grouping → Grouping → Type 0

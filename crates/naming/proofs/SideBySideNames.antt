@@ -16,7 +16,7 @@ use Rattle.graph.proofs.MappedLists.{entry_mapped}
 use Rattle.graph.proofs.SideBySide.{eqb_raised, leb_raised}
 use Rattle.naming.specs.Rename.{Grouping, size, name_of, changed_items, Change, changes_between, Candidate, better, best_of, candidate, holds_several, best_name, rename}
 use Rattle.naming.specs.Lookup.{Group, group_of}
-use Rattle.naming.proofs.Listed.{listed_passes, get_d_tabulate, tabulate_same, map_tabulate, map-listed-same}
+use Rattle.naming.proofs.Listed.{listed_passes, get_or-tabulate, tabulate_same, map_tabulate, map-listed-same}
 
 -- Names behind others, raised by m.
 unfoldable pub names_behind : ℕ → List ℕ → List ℕ → List ℕ
@@ -148,7 +148,7 @@ module _ {m n : ℕ} (old names : List ℕ) (as_old : length old ≡ m) (as_new 
           stay =
               ext_get_or 0 (tabulate m name-after) old (length_tabulate m name-after ∙ sym as_old) (λ x h.
               let k : x < m = rw (length_tabulate m name-after) at h in
-              get_d_tabulate m name-after 0 x k
+              get_or-tabulate m name-after 0 x k
               ∙ ap (λ b. cond b (best_name both both' all x) (name_of all x)) (several_of_first x k)
               ∙ name_of_first x k)
 

@@ -120,8 +120,8 @@ module _ (journal : List ℕ) (are : all_bytes journal ≡ true) (place : ℕ) (
       ap (λ l. 0x0B ∷ l ++ two_bytes (spans + 1)) tail
 
   module _ (other : byte ≢ 11) where
-    not_0_b : not (eqb (command_byte this) 0x0B) ≡ true
-    not_0_b = rw (own, ne_eqb byte 11 other)
+    not_0b : not (eqb (command_byte this) 0x0B) ≡ true
+    not_0b = rw (own, ne_eqb byte 11 other)
 
     -- its byte is 2 if it is 02, and else it is not
     byte_of_02 : Is02 this → eqb byte 2 ≡ true
@@ -134,7 +134,7 @@ module _ (journal : List ℕ) (are : all_bytes journal ≡ true) (place : ℕ) (
     -- the command, rewritten, is what stands there, rewritten
     rewritten_stands : (spans : ℕ) → command_bytes (rewrite_command spans this) ≡ rewritten_at journal place byte width spans
     unfolding rewritten_at
-    rewritten_stands spans = go (each_rewritten this not_0_b)
+    rewritten_stands spans = go (each_rewritten this not_0b)
       where
         go : Is02 this ⊎ Unchanged this → command_bytes (rewrite_command spans this) ≡ rewritten_at journal place byte width spans
         go (inl w) =
@@ -147,7 +147,7 @@ module _ (journal : List ℕ) (are : all_bytes journal ≡ true) (place : ℕ) (
     -- and counts as a span if it is 02
     spans_go_on : (spans : ℕ) → cond (is_span (addition this)) (suc spans) spans ≡ spans_behind byte spans
     unfolding spans_behind
-    spans_go_on spans = go (each_rewritten this not_0_b)
+    spans_go_on spans = go (each_rewritten this not_0b)
       where
         go : Is02 this ⊎ Unchanged this → cond (is_span (addition this)) (suc spans) spans ≡ spans_behind byte spans
         go (inl w) =

@@ -9,7 +9,7 @@ use Rattle.graph.specs.Below.{tabulate}
 use Rattle.graph.specs.Lists.{is_in}
 use Rattle.graph.specs.Network.{Network, edge_count}
 use Rattle.graph.proofs.Truth.{not_of_false, ne_eqb, lt-ltb, ge_ltb}
-use Rattle.naming.proofs.Listed.{get_d_tabulate}
+use Rattle.naming.proofs.Listed.{get_or-tabulate}
 use Rattle.ways.specs.Search.{Allowed, Found, at_goal, look_below, turn, turns, search, way, step_of, starts}
 use Rattle.ways.specs.Used.{Used, Usable}
 use Rattle.ways.proofs.SearchOrder.{at_place_in, later_turns_grow}
@@ -39,7 +39,7 @@ turn_beyond g allowed i f h = rw (ge_ltb i (length f.order) h)
 at_place : {shape : Shape} {g : Network} {u : Used} {b : ℕ} {f : Found} {t : List ℕ} {found : ℕ} → Searching shape g u b f t found
     → (i : ℕ) → i < found → get_or f.order i 0 ≡ vertex_scratch shape t order_column i
 at_place {shape} {t = t} {found = found} w i h =
-    ap (λ l. get_or l i 0) (sym w.order_is) ∙ get_d_tabulate found (vertex_scratch shape t order_column) 0 i h
+    ap (λ l. get_or l i 0) (sym w.order_is) ∙ get_or-tabulate found (vertex_scratch shape t order_column) 0 i h
 
 -- a turn is done
 pub turn_looks : {shape : Shape} {allowance : Allowance} {i y found found' : ℕ} {old new : List ℕ} → i < found

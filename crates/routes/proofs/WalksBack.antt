@@ -14,7 +14,7 @@ use Rattle.graph.specs.Cycle.{Step}
 use Rattle.graph.proofs.Truth.{false_of_not, not_both, not_of_false, false_of_not_true, or_cases, eqb_eq, le-leb}
 use Rattle.graph.proofs.Below.{below_or_last}
 use Rattle.graph.proofs.Members.{all_in_lem, each_in, is_in_last}
-use Rattle.naming.proofs.Listed.{get_d_tabulate}
+use Rattle.naming.proofs.Listed.{get_or-tabulate}
 use Rattle.ways.specs.Used.{Used, is_used, mate_used}
 use Rattle.ways.specs.TwoRoutes.{edges_of, none_back}
 use Rattle.ways.proofs.SearchOrder.{at_place_in}
@@ -42,7 +42,7 @@ bits_used g u s = go (is_used u s) (eqb (u s) (suc (edge g s).left)) (mate_used 
 
 -- each entry of a list stands in it
 entry_in : (n : ℕ) (f : ℕ → ℕ) (i : ℕ) → i < n → is_in (f i) (tabulate n f) ≡ true
-entry_in n f i h = rw (get_d_tabulate n f 0 i h) at (at_place_in (tabulate n f) i (omega (arith, length_tabulate n f)))
+entry_in n f i h = rw (get_or-tabulate n f 0 i h) at (at_place_in (tabulate n f) i (omega (arith, length_tabulate n f)))
 
 -- and what holds of each entry holds of all that stand in it
 by_entries : (P : ℕ → Type 0) (n : ℕ) (f : ℕ → ℕ) → ((i : ℕ) → i < n → P (f i)) → (s : ℕ) → is_in s (tabulate n f) ≡ true → P s

@@ -10,7 +10,7 @@ use Rattle.graph.specs.Below.{length_tabulate}
 use Rattle.graph.specs.Network.{Network, edge_count}
 use Rattle.graph.specs.Cycle.{Step}
 use Rattle.graph.proofs.Truth.{lt-ltb}
-use Rattle.naming.proofs.Listed.{get_d_tabulate}
+use Rattle.naming.proofs.Listed.{get_or-tabulate}
 use Rattle.ways.specs.Used.{Used, step_taken, way_taken, Usable, WayFits, goes_further}
 use Rattle.ways.specs.TwoRoutes.{edges_of}
 use Rattle.ways.proofs.UsedSteps.{step_usable}
@@ -81,7 +81,7 @@ module _ {shape : Shape} {g : Network} {u : Used} {a : ℕ} {ps : List Step} whe
         many = written_length shape column count old (edges_of ps) written
 
         here : get_or (edges_of ps) i 0 ≡ s
-        here = ap (λ l. get_or l i 0) (sym written) ∙ get_d_tabulate count (vertex_scratch shape old column) 0 i h
+        here = ap (λ l. get_or l i 0) (sym written) ∙ get_or-tabulate count (vertex_scratch shape old column) 0 i h
             ∙ sym (only.columns column i known refl (omega (
               arith,
               many,

@@ -1,5 +1,6 @@
 // The run of a journal, from an empty network to its end or to the command that is refused.
 #![tactic(auto)]
+
 ghost use Rattle.std.specs.Prelude.{◌≡◌, ◌≤◌, length};
 ghost use Rattle.commands.specs.Entry.{work_needed};
 ghost use Rattle.forest.specs.Promise.{words_needed};

@@ -47,22 +47,22 @@ unfolding cell put
 cell-put-same t area k c x v h l m = get_or-set_same t (place area c x) v 0 (omega (arith, place_below area k c x l m))
 
 -- a word at another place stays
-get_d_put_other : (t : List ℕ) (area : Area) (c x v p : ℕ) → (p ≡ place area c x → ⊥) → get_or (put t area c x v) p 0 ≡ get_or t p 0
+get_or-put_other : (t : List ℕ) (area : Area) (c x v p : ℕ) → (p ≡ place area c x → ⊥) → get_or (put t area c x v) p 0 ≡ get_or t p 0
 unfolding put
-get_d_put_other t area c x v p d = get_or-set_other t (place area c x) p v 0 d
+get_or-put_other t area c x v p d = get_or-set_other t (place area c x) p v 0 d
 
 -- a word of another column, or of another item, stays
 pub cell_put_other_column : (t : List ℕ) (area : Area) (c x v c' x' : ℕ) → x < area.size → x' < area.size → (c ≡ c' → ⊥)
     → cell (put t area c x v) area c' x' ≡ cell t area c' x'
 unfolding cell
 cell_put_other_column t area c x v c' x' l m d =
-    get_d_put_other t area c x v (place area c' x') (λ e. d (place_column area c x c' x' l m (sym e)))
+    get_or-put_other t area c x v (place area c' x') (λ e. d (place_column area c x c' x' l m (sym e)))
 
 pub cell_put_other_item : (t : List ℕ) (area : Area) (c x v x' : ℕ) → (x ≡ x' → ⊥)
     → cell (put t area c x v) area c x' ≡ cell t area c x'
 unfolding cell
 cell_put_other_item t area c x v x' d =
-    get_d_put_other t area c x v (place area c x') (λ e. d (place_item area c x x' (sym e)))
+    get_or-put_other t area c x v (place area c x') (λ e. d (place_item area c x x' (sym e)))
 
 -- a store leaves the words of other items, whatever their column
 pub cell_put_elsewhere : (t : List ℕ) (area : Area) (c x v c' x' : ℕ) → x < area.size → x' < area.size → (x ≡ x' → ⊥)
@@ -78,9 +78,9 @@ cell_put_elsewhere t area c x v c' x' h l d = go (true_or_false (eqb c c'))
     go (inr e) = cell_put_other_column t area c x v c' x' h l (eqb_ne c c' e)
 
 -- a word outside the first k columns of the area stays
-pub get_d_put_outside : (t : List ℕ) (area : Area) (k c x v p : ℕ) → c < k → x < area.size
+pub get_or-put_outside : (t : List ℕ) (area : Area) (k c x v p : ℕ) → c < k → x < area.size
     → ((area.base ≤ p) → (p < area.base + k * area.size) → ⊥) → get_or (put t area c x v) p 0 ≡ get_or t p 0
-get_d_put_outside t area k c x v p h l o = get_d_put_other t area c x v p (λ e. o (from e) (below e))
+get_or-put_outside t area k c x v p h l o = get_or-put_other t area c x v p (λ e. o (from e) (below e))
   where
     from : p ≡ place area c x → area.base ≤ p
     from e = omega (arith, place_from area c x)
@@ -98,13 +98,13 @@ pub cell_edge_after_vertex : (limits : Limits) (t : List ℕ) (c x v d s : ℕ) 
     → cell (put t (vertex_area limits) c x v) (edge_area limits) d s ≡ cell t (edge_area limits) d s
 unfolding cell
 cell_edge_after_vertex limits t c x v d s h l =
-    get_d_put_other t (vertex_area limits) c x v (place (edge_area limits) d s) (λ e. omega (arith, apart limits c x d s h l))
+    get_or-put_other t (vertex_area limits) c x v (place (edge_area limits) d s) (λ e. omega (arith, apart limits c x d s h l))
 
 pub cell_vertex_after_edge : (limits : Limits) (t : List ℕ) (d s v c x : ℕ) → c < Column.per_vertex → x < limits.vertices
     → cell (put t (edge_area limits) d s v) (vertex_area limits) c x ≡ cell t (vertex_area limits) c x
 unfolding cell
 cell_vertex_after_edge limits t d s v c x h l =
-    get_d_put_other t (edge_area limits) d s v (place (vertex_area limits) c x) (λ e. omega (arith, apart limits c x d s h l))
+    get_or-put_other t (edge_area limits) d s v (place (vertex_area limits) c x) (λ e. omega (arith, apart limits c x d s h l))
 
 -- the columns of bridge-blocks are columns of the vertices, behind those of components
 bridge_block-place : (limits : Limits) (c x : ℕ) → place (bridge_block_area limits) c x ≡ place (vertex_area limits) (Column.of_bridge_blocks c) x

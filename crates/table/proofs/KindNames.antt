@@ -4,7 +4,7 @@ use mathlib.Core.Bool.{and-true}
 use Rattle.graph.specs.Below.{length_tabulate}
 use Rattle.graph.proofs.Below.{count_same}
 use Rattle.naming.specs.Rename.{Grouping, size, name_of}
-use Rattle.naming.proofs.Listed.{get_d_tabulate}
+use Rattle.naming.proofs.Listed.{get_or-tabulate}
 use Rattle.naming.proofs.Naming.{group_by_name}
 use Rattle.table.specs.declared.words.Area.{Area}
 use Rattle.table.specs.Inside.Column
@@ -14,7 +14,7 @@ use Rattle.table.specs.Inside.KindValid.{names_in, KindValid, passing, Counts}
 -- the name of an item in the list of names
 pub name_in_list : (t : List ℕ) (area : Area) (n x : ℕ) → x < n → name_of (names_in t area n) x ≡ name_in t area x
 unfolding name_of names_in
-name_in_list t area n x h = get_d_tabulate n (name_in t area) 0 x h
+name_in_list t area n x h = get_or-tabulate n (name_in t area) 0 x h
 
 -- there are n names
 pub length-names : (t : List ℕ) (area : Area) (n : ℕ) → length (names_in t area n) ≡ n

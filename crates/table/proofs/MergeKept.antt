@@ -6,7 +6,7 @@ use Rattle.table.specs.Inside.Column
 use Rattle.table.specs.Inside.Column
 use Rattle.table.specs.Inside.Layout.{place, cell, put}
 use Rattle.table.specs.Inside.Merge.{item_of}
-use Rattle.table.proofs.Cells.{HasColumns, length-put, get_d_put_outside}
+use Rattle.table.proofs.Cells.{HasColumns, length-put, get_or-put_outside}
 
 -- The table has the columns of the area's kind of group, and sizes are among them.
 pub record HasKind (t : List ℕ) (area : Area) : Type 0 where
@@ -38,7 +38,7 @@ kept_trans k k' =
 -- by one store in those columns
 pub kept_put : (area : Area) (t : List ℕ) (c x v : ℕ) → c < area.columns → x < area.size → Kept area t (put t area c x v)
 kept_put area t c x v h l =
-    record { same_length = length-put t area c x v; outside = λ p o. get_d_put_outside t area area.columns c x v p h l o }
+    record { same_length = length-put t area c x v; outside = λ p o. get_or-put_outside t area area.columns c x v p h l o }
 
 -- the columns are still there
 pub kept_columns : {area : Area} {t t' : List ℕ} → Kept area t t' → HasKind t area → HasKind t' area

@@ -6,7 +6,7 @@ use Rattle.graph.proofs.Truth.{true_or_false, false_of_not, not_both, bool_ext, 
 use Rattle.graph.proofs.Below.{count_same, listed_same}
 use Rattle.naming.specs.Rename.{Grouping, name_of, candidate, best_of, rename}
 use Rattle.naming.proofs.Equivalent.{Equivalent}
-use Rattle.naming.proofs.Listed.{get_d_tabulate, tabulate_same}
+use Rattle.naming.proofs.Listed.{get_or-tabulate, tabulate_same}
 use Rattle.naming.proofs.Best.{BestOf, best_name_lem, best_of_list}
 use Rattle.naming.proofs.Rename.{length_rename, rename_agree}
 use Rattle.naming.proofs.Naming.{Naming, naming_agree, names_after_rename, name_of-name}
@@ -48,7 +48,7 @@ tabulate_entries n xs e =
     (tabulate n (λ i. get_or xs i 0))
     xs
     (length_tabulate n (λ i. get_or xs i 0) ∙ sym e)
-    (λ i h. get_d_tabulate n (λ i. get_or xs i 0) 0 i (rw (length_tabulate n (λ i. get_or xs i 0)) at h))
+    (λ i h. get_or-tabulate n (λ i. get_or xs i 0) 0 i (rw (length_tabulate n (λ i. get_or xs i 0)) at h))
 
 -- what shares a group with an item of merged groups is in them
 pub merged_whole : (groups : Grouping) → Equivalent groups → (is : List ℕ) (x y : ℕ)

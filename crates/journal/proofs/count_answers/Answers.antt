@@ -22,41 +22,41 @@ returns-then-refusal-ne0 c =
 pub overflow_cast-limits : goal.overflow_cast-limits
 overflow_cast-limits c =
     let begun : Begins (record { cabinets = c.args.c; spans = c.args.s }) (length c.args.journal.now) (length c.args.work.now) 6 =
-        begins
-        (record { cabinets = c.args.c; spans = c.args.s })
-        c.args.journal.now
-        (length c.args.work.now)
-        6
-        c.start_refusal-refusal.result
-        c.start_refusal-refusal.ensures
-        (omega (arith, c.if-refusal-ne0.false)) in
+    begins
+    (record { cabinets = c.args.c; spans = c.args.s })
+    c.args.journal.now
+    (length c.args.work.now)
+    6
+    c.start_refusal-refusal.result
+    c.start_refusal-refusal.ensures
+    (omega (arith, c.if-refusal-ne0.false)) in
     omega (arith, (begun).few_cabinets)
 
 pub overflow_cast-limits-2 : goal.overflow_cast-limits-2
 overflow_cast-limits-2 c =
     let begun : Begins (record { cabinets = c.args.c; spans = c.args.s }) (length c.args.journal.now) (length c.args.work.now) 6 =
-        begins
-        (record { cabinets = c.args.c; spans = c.args.s })
-        c.args.journal.now
-        (length c.args.work.now)
-        6
-        c.start_refusal-refusal.result
-        c.start_refusal-refusal.ensures
-        (omega (arith, c.if-refusal-ne0.false)) in
+    begins
+    (record { cabinets = c.args.c; spans = c.args.s })
+    c.args.journal.now
+    (length c.args.work.now)
+    6
+    c.start_refusal-refusal.result
+    c.start_refusal-refusal.ensures
+    (omega (arith, c.if-refusal-ne0.false)) in
     omega (arith, (begun).few_spans)
 
 pub run_unanswered-p-requires : goal.run_unanswered-p-requires
 unfolding capacities_of
 run_unanswered-p-requires c =
     let begun : Begins (record { cabinets = c.args.c; spans = c.args.s }) (length c.args.journal.now) (length c.args.work.now) 6 =
-        begins
-        (record { cabinets = c.args.c; spans = c.args.s })
-        c.args.journal.now
-        (length c.args.work.now)
-        6
-        c.start_refusal-refusal.result
-        c.start_refusal-refusal.ensures
-        (omega (arith, c.if-refusal-ne0.false)) in
+    begins
+    (record { cabinets = c.args.c; spans = c.args.s })
+    c.args.journal.now
+    (length c.args.work.now)
+    6
+    c.start_refusal-refusal.result
+    c.start_refusal-refusal.ensures
+    (omega (arith, c.if-refusal-ne0.false)) in
     run_asks (record { vertices = c.args.c; edges = c.args.s }) (begun)
 
 pub told_of-requires : goal.told_of-requires

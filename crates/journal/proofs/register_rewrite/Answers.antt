@@ -10,7 +10,7 @@ use Rattle.journal.proofs.register_rewrite.Goals as goal
 pub returns : goal.returns
 returns c =
     let bytes : all_bytes c.args.journal.now ≡ true =
-        bytes_by_place c.args.journal.now (λ i h. omega (arith, c.type_inv.journal i)) in
+    bytes_by_place c.args.journal.now (λ i h. omega (arith, c.type_inv.journal i)) in
     rewrite_promised
     c.args.journal.now
     c.args.out.now

@@ -12,7 +12,7 @@ use Rattle.journal.proofs.register_run.Goals as goal
 pub returns-then-refusal-ne0 : goal.returns-then-refusal-ne0
 returns-then-refusal-ne0 c =
     let bytes : all_bytes c.args.journal.now ≡ true =
-        bytes_by_place c.args.journal.now (λ i h. omega (arith, c.type_inv.journal i)) in
+    bytes_by_place c.args.journal.now (λ i h. omega (arith, c.type_inv.journal i)) in
     promised_at_start
     (record { cabinets = c.args.c; spans = c.args.s })
     c.args.journal.now
@@ -25,70 +25,70 @@ returns-then-refusal-ne0 c =
 pub overflow_cast-limits : goal.overflow_cast-limits
 overflow_cast-limits c =
     let begun : Begins
-        (record { cabinets = c.args.c; spans = c.args.s })
-        (length c.args.journal.now)
-        (length c.args.work.now)
-        (length c.args.report.now) =
-        begins
-        (record { cabinets = c.args.c; spans = c.args.s })
-        c.args.journal.now
-        (length c.args.work.now)
-        (length c.args.report.now)
-        c.start_refusal-refusal.result
-        c.start_refusal-refusal.ensures
-        (omega (arith, c.if-refusal-ne0.false)) in
+    (record { cabinets = c.args.c; spans = c.args.s })
+    (length c.args.journal.now)
+    (length c.args.work.now)
+    (length c.args.report.now) =
+    begins
+    (record { cabinets = c.args.c; spans = c.args.s })
+    c.args.journal.now
+    (length c.args.work.now)
+    (length c.args.report.now)
+    c.start_refusal-refusal.result
+    c.start_refusal-refusal.ensures
+    (omega (arith, c.if-refusal-ne0.false)) in
     omega (arith, (begun).few_cabinets)
 
 pub overflow_cast-limits-2 : goal.overflow_cast-limits-2
 overflow_cast-limits-2 c =
     let begun : Begins
-        (record { cabinets = c.args.c; spans = c.args.s })
-        (length c.args.journal.now)
-        (length c.args.work.now)
-        (length c.args.report.now) =
-        begins
-        (record { cabinets = c.args.c; spans = c.args.s })
-        c.args.journal.now
-        (length c.args.work.now)
-        (length c.args.report.now)
-        c.start_refusal-refusal.result
-        c.start_refusal-refusal.ensures
-        (omega (arith, c.if-refusal-ne0.false)) in
+    (record { cabinets = c.args.c; spans = c.args.s })
+    (length c.args.journal.now)
+    (length c.args.work.now)
+    (length c.args.report.now) =
+    begins
+    (record { cabinets = c.args.c; spans = c.args.s })
+    c.args.journal.now
+    (length c.args.work.now)
+    (length c.args.report.now)
+    c.start_refusal-refusal.result
+    c.start_refusal-refusal.ensures
+    (omega (arith, c.if-refusal-ne0.false)) in
     omega (arith, (begun).few_spans)
 
 pub run-p-requires : goal.run-p-requires
 unfolding capacities_of
 run-p-requires c =
     let begun : Begins
-        (record { cabinets = c.args.c; spans = c.args.s })
-        (length c.args.journal.now)
-        (length c.args.work.now)
-        (length c.args.report.now) =
-        begins
-        (record { cabinets = c.args.c; spans = c.args.s })
-        c.args.journal.now
-        (length c.args.work.now)
-        (length c.args.report.now)
-        c.start_refusal-refusal.result
-        c.start_refusal-refusal.ensures
-        (omega (arith, c.if-refusal-ne0.false)) in
+    (record { cabinets = c.args.c; spans = c.args.s })
+    (length c.args.journal.now)
+    (length c.args.work.now)
+    (length c.args.report.now) =
+    begins
+    (record { cabinets = c.args.c; spans = c.args.s })
+    c.args.journal.now
+    (length c.args.work.now)
+    (length c.args.report.now)
+    c.start_refusal-refusal.result
+    c.start_refusal-refusal.ensures
+    (omega (arith, c.if-refusal-ne0.false)) in
     run_asks (record { vertices = c.args.c; edges = c.args.s }) (begun)
 
 pub fill_report-requires : goal.fill_report-requires
 fill_report-requires c =
     let begun : Begins
-        (record { cabinets = c.args.c; spans = c.args.s })
-        (length c.args.journal.now)
-        (length c.args.work.now)
-        (length c.args.report.now) =
-        begins
-        (record { cabinets = c.args.c; spans = c.args.s })
-        c.args.journal.now
-        (length c.args.work.now)
-        (length c.args.report.now)
-        c.start_refusal-refusal.result
-        c.start_refusal-refusal.ensures
-        (omega (arith, c.if-refusal-ne0.false)) in
+    (record { cabinets = c.args.c; spans = c.args.s })
+    (length c.args.journal.now)
+    (length c.args.work.now)
+    (length c.args.report.now) =
+    begins
+    (record { cabinets = c.args.c; spans = c.args.s })
+    c.args.journal.now
+    (length c.args.work.now)
+    (length c.args.report.now)
+    c.start_refusal-refusal.result
+    c.start_refusal-refusal.ensures
+    (omega (arith, c.if-refusal-ne0.false)) in
     let run = c.run-p.ensures in
     record {
       long = (begun).long_report;
@@ -100,7 +100,7 @@ pub returns : goal.returns
 unfolding capacities_of
 returns c =
     let bytes : all_bytes c.args.journal.now ≡ true =
-        bytes_by_place c.args.journal.now (λ i h. omega (arith, c.type_inv.journal i)) in
+    bytes_by_place c.args.journal.now (λ i h. omega (arith, c.type_inv.journal i)) in
     promised_by_run
     (record { vertices = c.args.c; edges = c.args.s })
     c.args.journal.now

@@ -16,13 +16,13 @@ returns-then-bad_capacity c = rw (← c.bad_capacity.ensures, c.if-bad_capacity.
 pub overflow_cast-limits : goal.overflow_cast-limits
 overflow_cast-limits c =
     let few : InRange (record { cabinets = c.args.c; spans = c.args.s }) =
-        (good_exactly _).0 (true_of_not_false _ (sym c.bad_capacity.ensures ∙ c.if-bad_capacity.false)) in
+    (good_exactly _).0 (true_of_not_false _ (sym c.bad_capacity.ensures ∙ c.if-bad_capacity.false)) in
     omega (arith, (few).few_cabinets)
 
 pub overflow_cast-limits-2 : goal.overflow_cast-limits-2
 overflow_cast-limits-2 c =
     let few : InRange (record { cabinets = c.args.c; spans = c.args.s }) =
-        (good_exactly _).0 (true_of_not_false _ (sym c.bad_capacity.ensures ∙ c.if-bad_capacity.false)) in
+    (good_exactly _).0 (true_of_not_false _ (sym c.bad_capacity.ensures ∙ c.if-bad_capacity.false)) in
     omega (arith, (few).few_spans)
 
 pub returns-then-work-work_needed : goal.returns-then-work-work_needed

@@ -1,11 +1,9 @@
 -- `run` takes one command after another. The loop's invariant: what is left of the run leads to what the definition's run leaves behind.
 -- The measure is what is left of the journal.
 use mathlib.Core.Path.{sym, ◌∙◌, subst}
-use lib.ListN.{length}
 use Rattle.run.specs.Promise.{capacities_of, whole_of, RunPromise}
-use Rattle.run.specs.Inside.Runs.{with_answers, SoFar, steps_left}
 use Rattle.run.proofs.Whole.{at_start, begun_limits, begun_own, underway, step_on}
-use Rattle.run.proofs.WholeAnswered.{whole_leaves, starts_answered, run_promised}
+use Rattle.run.proofs.WholeAnswered.{starts_answered, run_promised}
 use Rattle.run.proofs.run.Goals as goal
 
 pub loop-work-init : goal.loop-work-init

@@ -1,10 +1,7 @@
 -- `put_raised` stores command after command. The invariant: with what is left stored too, the whole journal is. The measure is what is left of
 -- the journal.
-use Prim.Native.Nat.{◌-◌}
 use native.Mathlib.Omega.{arith}
-use lib.ListN.{length}
 use Rattle.joining.specs.Inside.Seams.{one_of}
-use Rattle.joining.specs.Inside.Raising.{RaisedTo}
 use Rattle.joining.proofs.Going.{raised_at_start, raisable_here, raised_behind, raised_to_end}
 use Rattle.joining.proofs.raising.put_raised.Goals as goal
 

@@ -1,9 +1,7 @@
 use Prim.Native.Nat.{◌-◌}
-use native.Mathlib.Omega.{arith}
 use lib.ListN.{length}
 use Rattle.joining.specs.Inside.Seams.{one_of}
 use Rattle.joining.specs.Inside.Raising.{RaisedTo}
-use Rattle.joining.proofs.Going.{raised_at_start, raisable_here, raised_behind, raised_to_end}
 use Rattle.joining.proofs.raising.put_raised.Given as goal
 
 abbrev pub invariant-loop-place : goal.invariant-loop-place

@@ -13,7 +13,7 @@ pub raise-requires : goal.raise-requires
 unfolding reading_of
 raise-requires c =
     let reads : command (meaning c.in-Command.order) c.in-Command.width ≡ reading_here c.args.journal.now c.args.place =
-        sym (ap reading_of c.in-Command.is) ∙ c.taken_at-taken.ensures in
+    sym (ap reading_of c.in-Command.is) ∙ c.taken_at-taken.ensures in
     order_fits _
     (read_fits c.args.journal.now c.args.place c.requires.in_journal _ _ (reads)
     (bytes_by_place c.args.journal.now (λ i h. omega (arith, c.type_inv.journal i))))
@@ -22,14 +22,14 @@ pub put_order-requires : goal.put_order-requires
 unfolding reading_of
 put_order-requires c =
     let reads : command (meaning c.in-Command.order) c.in-Command.width ≡ reading_here c.args.journal.now c.args.place =
-        sym (ap reading_of c.in-Command.is) ∙ c.taken_at-taken.ensures in
+    sym (ap reading_of c.in-Command.is) ∙ c.taken_at-taken.ensures in
     rw c.raise.ensures (room_raised c.args.journal.now c.args.place c.requires.in_journal _ _ (reads) _ c.requires)
 
 pub place_after-requires : goal.place_after-requires
 unfolding reading_of
 place_after-requires c =
     let reads : command (meaning c.in-Command.order) c.in-Command.width ≡ reading_here c.args.journal.now c.args.place =
-        sym (ap reading_of c.in-Command.is) ∙ c.taken_at-taken.ensures in
+    sym (ap reading_of c.in-Command.is) ∙ c.taken_at-taken.ensures in
     stands_whole c.args.journal.now c.args.place c.requires.in_journal _ _ (reads)
 
 pub returns-in-Unknown : goal.returns-in-Unknown
@@ -58,6 +58,6 @@ pub returns-in-Command : goal.returns-in-Command
 unfolding reading_of
 returns-in-Command c =
     let reads : command (meaning c.in-Command.order) c.in-Command.width ≡ reading_here c.args.journal.now c.args.place =
-        sym (ap reading_of c.in-Command.is) ∙ c.taken_at-taken.ensures in
+    sym (ap reading_of c.in-Command.is) ∙ c.taken_at-taken.ensures in
     rw (c.place_after.ensures, c.put_order.ensures, c.raise.ensures)
     (raised_on c.args.journal.now c.args.place c.requires.in_journal _ _ (reads) _ c.requires)

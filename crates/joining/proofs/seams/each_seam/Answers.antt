@@ -1,6 +1,5 @@
 -- `seams::each_seam` meets every seam in order.
 use mathlib.Core.Path.{sym, ◌∙◌, ap}
-use native.Mathlib.Omega.{arith}
 use Rattle.joining.specs.Inside.Seams.{Stage, meet}
 use Rattle.joining.proofs.SeamSteps.{begins, goes_on, over}
 use Rattle.joining.proofs.seams.each_seam.Goals as goal

@@ -1,6 +1,5 @@
 -- `meet_seam` looks at a seam where both journals are counted, and stores it behind them where they are stored.
 use mathlib.Core.Path.{sym, ◌∙◌}
-use Prim.Native.Nat.{◌<◌}
 use native.Mathlib.Omega.{arith}
 use Rattle.joining.proofs.Meeting.{met_refused, met_good, met_bad, met_stored}
 use Rattle.joining.proofs.seams.meet_seam.Goals as goal

@@ -26,13 +26,13 @@ shape_after-next-requires c =
 pub overflow_add-result-in-Done : goal.overflow_add-result-in-Done
 overflow_add-result-in-Done c =
     let done : CarriedOut c.args.p.shape (meaning c.args.order) c.args.work.now c.step-stepped.new.t c.in-Done.reply =
-        was_done
-        c.args.p.shape
-        (meaning c.args.order)
-        c.args.work.now
-        c.step-stepped.new.t
-        c.in-Done.reply
-        (rw c.in-Done.is at c.step-stepped.ensures) in
+    was_done
+    c.args.p.shape
+    (meaning c.args.order)
+    c.args.work.now
+    c.step-stepped.new.t
+    c.in-Done.reply
+    (rw c.in-Done.is at c.step-stepped.ensures) in
     omega (arith, can_be_counted c.requires.underway c.requires.reads (done), c.size_of.ensures)
 
 pub returns-in-Refused : goal.returns-in-Refused
@@ -50,13 +50,13 @@ returns-in-Refused c =
 pub returns-in-Done : goal.returns-in-Done
 returns-in-Done c =
     let done : CarriedOut c.args.p.shape (meaning c.args.order) c.args.work.now c.step-stepped.new.t c.in-Done.reply =
-        was_done
-        c.args.p.shape
-        (meaning c.args.order)
-        c.args.work.now
-        c.step-stepped.new.t
-        c.in-Done.reply
-        (rw c.in-Done.is at c.step-stepped.ensures) in
+    was_done
+    c.args.p.shape
+    (meaning c.args.order)
+    c.args.work.now
+    c.step-stepped.new.t
+    c.in-Done.reply
+    (rw c.in-Done.is at c.step-stepped.ensures) in
     counted_on
     c.requires.underway
     c.requires.reads

@@ -1,14 +1,10 @@
 -- `unanswered::run_unanswered` takes one command after another. The loop's invariant: what is left of the run comes to what the definition's
 -- run reports. The measure is what is left of the journal.
-use mathlib.Core.List.{[]}
 use mathlib.Core.Path.{sym, ◌∙◌, subst}
-use lib.ListN.{length}
 use Rattle.commands.specs.Register.{register_routes, ample_run}
 use Rattle.run.specs.Promise.{capacities_of, UnansweredPromise}
-use Rattle.run.specs.Inside.Runs.{SoFar, steps_left}
-use Rattle.run.specs.Inside.Unanswered.{without_answers}
 use Rattle.run.proofs.Whole.{at_start, begun_limits, begun_own, underway, step_on}
-use Rattle.run.proofs.WholeUnanswered.{whole_ends, starts_unanswered, unanswered_promised}
+use Rattle.run.proofs.WholeUnanswered.{starts_unanswered, unanswered_promised}
 use Rattle.run.proofs.unanswered.run_unanswered.Goals as goal
 
 pub loop-work-init : goal.loop-work-init

@@ -1,12 +1,8 @@
 use mathlib.Core.List.{[]}
-use mathlib.Core.Path.{sym, ◌∙◌, subst}
 use lib.ListN.{length}
-use Rattle.commands.specs.Register.{register_routes, ample_run}
-use Rattle.run.specs.Promise.{capacities_of, UnansweredPromise}
 use Rattle.run.specs.Inside.Runs.{SoFar, steps_left}
 use Rattle.run.specs.Inside.Unanswered.{without_answers}
-use Rattle.run.proofs.Whole.{at_start, begun_limits, begun_own, underway, step_on}
-use Rattle.run.proofs.WholeUnanswered.{whole_ends, starts_unanswered, unanswered_promised}
+use Rattle.run.proofs.WholeUnanswered.{whole_ends}
 use Rattle.run.proofs.unanswered.run_unanswered.Given as goal
 
 abbrev pub invariant-loop-work : goal.invariant-loop-work
