@@ -85,7 +85,7 @@ pub fn register_run(
     answers: &mut [u8],
     report: &mut [u32],
 ) -> u32
-    ensures { RegisterPromise (record { cabinets = c; spans = s }) journal.now (record { work = work.entry.now; answers = answers.old; report = report.old }) result (record { work = work.exit.now; answers = answers.new; report = report.new }) }
+    ensures { RegisterPromise (record { cabinets = c; spans = s }) journal.now (record { work = work.old; answers = answers.old; report = report.old }) result (record { work = work.new; answers = answers.new; report = report.new }) }
 {
     let refusal = start_refusal(c, s, journal.len(), work.len(), report.len());
     if refusal != 0 {
