@@ -28,6 +28,11 @@ MERGED = "each_seam pass_at passed_at place_after put_journals seam_at count_bot
 ENGLISH = "bridge-block bridge-blocks cut-off whole-run two-loss at-least of-all no-one".split()
 
 
+def of_function(path):
+    """A function's proof, and not a law file of that name, which stands right in proofs/."""
+    return os.path.basename(path) in OF_FUNCTIONS and os.path.basename(os.path.dirname(path)) != "proofs"
+
+
 def antt_files(root):
     return sorted(glob.glob(root + "/crates/*/specs/**/*.antt", recursive=True) + glob.glob(root + "/crates/*/proofs/**/*.antt", recursive=True))
 
@@ -37,7 +42,7 @@ def without_comments(text):
 
 
 def snake(name):
-    return re.sub(r"(?<=[a-z0-9])([A-Z])", lambda m: "_" + m.group(1).lower(), name)
+    return re.sub(r"(?<=[a-z0-9])([A-Z])|(?<=[A-Z])([A-Z])(?=[a-z])", lambda m: "_" + m.group(0), name).lower()
 
 
 def respelled(name, definitions):
@@ -73,7 +78,7 @@ def make_table(root):
     files = antt_files(root)
     texts = {f: open(f, encoding="utf-8").read() for f in files}
     foreign = foreign_names(texts.values())
-    laws = [f for f in files if os.path.basename(f) not in OF_FUNCTIONS]
+    laws = [f for f in files if not of_function(f)]
     tokens, defined = set(), set()
     for f in laws:
         code = without_comments(texts[f])
@@ -133,10 +138,10 @@ def turn_comment(comment, table, known):
     return WORD.sub(bare, comment)
 
 
-def turn_antt(text, table, of_function):
+def turn_antt(text, table, proves_function):
     known = set(WORD.findall(without_comments(text)))
     keep = set()
-    if of_function:
+    if proves_function:
         keep = set(re.findall(r"(?m)^(" + WORD.pattern + r") : tie\.", text))
     modules = set(re.findall(r"(?m)^use (?!Rattle\.(?!std))(?:[^\s;{]*\.)?([^\s;{.]+)(?: as \S+)?;?$", text))
     modules |= set(re.findall(r"(?m)^use (?!Rattle\.(?!std))[^\s;{]* as ([^\s;]+);?$", text))
@@ -191,7 +196,7 @@ def rewrite(path, turned):
 def turn(root):
     table, count = read_table(), 0
     for f in antt_files(root):
-        count += rewrite(f, lambda t: turn_antt(t, table, os.path.basename(f) in OF_FUNCTIONS))
+        count += rewrite(f, lambda t: turn_antt(t, table, of_function(f)))
     for f in sorted(glob.glob(root + "/crates/*/src/**/*.rt", recursive=True)):
         count += rewrite(f, lambda t: turn_rt(t, table))
     for f in [root + "/README.md"] + sorted(glob.glob(root + "/docs/*.md")):

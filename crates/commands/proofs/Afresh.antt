@@ -51,17 +51,17 @@ exchange_histories-made = refl
 
 -- and of the one with ducts
 duct_histories-made : map made duct_histories ≡ duct_histories
-unfolding computed Histories.output Histories.accepted Histories.refused_with Histories.notice Histories.group DuctHistories.two_in_one_duct DuctHistories.two_in_two_ducts DuctHistories.beside_aDuct DuctHistories.loop_around_aDuct DuctHistories.measured_in_spans DuctHistories.one_number_at_two_pairs DuctHistories.greatest_duct DuctHistories.two_with_no_duct_told DuctHistories.loop_with_no_duct_told DuctHistories.in_no_duct DuctHistories.duct_histories
+unfolding computed Histories.output Histories.accepted Histories.refused_with Histories.notice Histories.group DuctHistories.two_in_one_duct DuctHistories.two_in_two_ducts DuctHistories.beside_a_duct DuctHistories.loop_around_a_duct DuctHistories.measured_in_spans DuctHistories.one_number_at_two_pairs DuctHistories.greatest_duct DuctHistories.two_with_no_duct_told DuctHistories.loop_with_no_duct_told DuctHistories.in_no_duct DuctHistories.duct_histories
 duct_histories-made = refl
 
 -- and of the one with routes
 route_histories-made : map made route_histories ≡ route_histories
-unfolding computed Histories.output Histories.accepted Histories.refused_with Histories.notice RouteHistories.routes_in_two_ducts RouteHistories.triangle_spans RouteHistories.routes_in_triangle RouteHistories.ladder_spans RouteHistories.rung_given_back RouteHistories.two_meshes_spans RouteHistories.routes_through_cut RouteHistories.mates_and_aSpan RouteHistories.route_beside_mates RouteHistories.mates_on_the_way_spans RouteHistories.mates_on_the_way RouteHistories.only_mates RouteHistories.only_with_no_duct_told RouteHistories.across_rings RouteHistories.routes_across_districts RouteHistories.routes_to_itself RouteHistories.routes_to_nowhere RouteHistories.routes_from_nowhere RouteHistories.route_histories
+unfolding computed Histories.output Histories.accepted Histories.refused_with Histories.notice RouteHistories.routes_in_two_ducts RouteHistories.triangle_spans RouteHistories.routes_in_triangle RouteHistories.ladder_spans RouteHistories.rung_given_back RouteHistories.two_meshes_spans RouteHistories.routes_through_cut RouteHistories.mates_and_a_span RouteHistories.route_beside_mates RouteHistories.mates_on_the_way_spans RouteHistories.mates_on_the_way RouteHistories.only_mates RouteHistories.only_with_no_duct_told RouteHistories.across_rings RouteHistories.routes_across_districts RouteHistories.routes_to_itself RouteHistories.routes_to_nowhere RouteHistories.routes_from_nowhere RouteHistories.route_histories
 route_histories-made = refl
 
 -- and of the one with survey lengths
 survey_histories-made : map made survey_histories ≡ survey_histories
-unfolding computed Histories.output Histories.accepted Histories.refused_with Histories.notice SurveyHistories.one_span SurveyHistories.one_span_answers SurveyHistories.measured_once SurveyHistories.earlier_after_later SurveyHistories.one_day_twice SurveyHistories.day_nought SurveyHistories.last_day SurveyHistories.each_span_its_own SurveyHistories.measured_in_aDuct SurveyHistories.measured_nowhere SurveyHistories.length_nowhere SurveyHistories.survey_histories
+unfolding computed Histories.output Histories.accepted Histories.refused_with Histories.notice SurveyHistories.one_span SurveyHistories.one_span_answers SurveyHistories.measured_once SurveyHistories.earlier_after_later SurveyHistories.one_day_twice SurveyHistories.day_nought SurveyHistories.last_day SurveyHistories.each_span_its_own SurveyHistories.measured_in_a_duct SurveyHistories.measured_nowhere SurveyHistories.length_nowhere SurveyHistories.survey_histories
 survey_histories-made = refl
 
 -- and of the one with sizes
@@ -107,7 +107,7 @@ shares_shown = refl
 
 -- The pairs that are said to serve do, and the others do not.
 pub offers-judged : map judged offers ≡ map (λ o. o.serves) offers
-unfolding computed Lists.distinct Cycle.joins Cycle.leads Travel.visited Route.steps_along Route.is_route Route.apart Route.serve RouteHistories.two_ducts_spans RouteHistories.triangle_spans RouteHistories.ladder_spans RouteHistories.two_meshes_spans RouteHistories.mates_and_aSpan RouteHistories.mates_on_the_way_spans RouteHistories.offer RouteHistories.judged RouteHistories.offers
+unfolding computed Lists.distinct Cycle.joins Cycle.leads Travel.visited Route.steps_along Route.is_route Route.apart Route.serve RouteHistories.two_ducts_spans RouteHistories.triangle_spans RouteHistories.ladder_spans RouteHistories.two_meshes_spans RouteHistories.mates_and_a_span RouteHistories.mates_on_the_way_spans RouteHistories.offer RouteHistories.judged RouteHistories.offers
 offers-judged = refl
 
 -- The entry returns and leaves so for every call.

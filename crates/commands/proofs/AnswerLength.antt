@@ -51,10 +51,10 @@ routes_length ss ts =
     ))
 
 -- 8E: the metres, or none
-told-length : (o : Option Survey) → length (answer_bytes (plain (length_answer o))) ≤ 4
+told_length : (o : Option Survey) → length (answer_bytes (plain (length_answer o))) ≤ 4
 unfolding length_answer answer_bytes answer_fields plain_fields fields_bytes field_bytes two_bytes
-told-length none = omega arith
-told-length (some r) = omega arith
+told_length none = omega arith
+told_length (some r) = omega arith
 
 -- A state with at most c cabinets and s spans.
 module _ (state : State) (c s : ℕ) (few_cabinets : state.book.network.vertices ≤ c) (few_spans : edge_count state.book.network ≤ s) where
@@ -96,7 +96,7 @@ module _ (state : State) (c s : ℕ) (few_cabinets : state.book.network.vertices
           (given_served choice state.book.network sound.laws.proper serves x y (routes_asked caps state x y n)).short,
         )
     plain_no_longer (record_length x day metres) n = omega arith
-    plain_no_longer (span_length x) n = omega (arith, told-length (holding state.surveys x))
+    plain_no_longer (span_length x) n = omega (arith, told_length (holding state.surveys x))
     plain_no_longer exchange_share n = omega arith
 
     -- no answer is longer than is said of it, but for its notices

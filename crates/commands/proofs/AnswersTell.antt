@@ -14,7 +14,7 @@ use Rattle.graph.specs.Block.{shared_block, on_block}
 use Rattle.graph.specs.Between.{bridges_between, cuts_between}
 use Rattle.graph.specs.Route.{Choice, Serves, serve}
 use Rattle.graph.proofs.Truth.{false_of_not, not_both}
-use Rattle.graph.proofs.SharedBlock.{shared_block_some, shared_block_none, shared_block-found, shared_block_is}
+use Rattle.graph.proofs.SharedBlock.{shared_block_some, shared_block_none, shared_block_found, shared_block_is}
 use Rattle.naming.specs.Rename.{size, name_of}
 use Rattle.naming.specs.Book.{Book}
 use Rattle.naming.specs.Lookup.{Group, group_of, component_of, bridge_block_of, over_bridge_blocks}
@@ -115,7 +115,7 @@ module _ (b : Book) (laws : BookLaws b) (x y : ℕ) where
   unfolding told mesh_answer
   name_of_shared t d o =
       let g = b.network in
-      let (u, e) = shared_block-found g x y t o.at_first o.at_second in
+      let (u, e) = shared_block_found g x y t o.at_first o.at_second in
       let one = shared_block_is g laws.proper x y t u d o.at_first o.at_second e in
       rw e (ap mesh_shared (sym (laws.blocks_named.one_name t u o.known (found_shared g x y u e).known one)))
 

@@ -22,7 +22,7 @@ use Rattle.commands.specs.Answer.{Notice, changes, notices, Answer}
 use Rattle.commands.specs.Facts.{Facts, adds_cabinet, adds_span, adds_nothing, facts, addition_of, addition, after, span_answer, answer_to, answer, state_after}
 use Rattle.commands.specs.NameList.{Named, NameList, no_names, set_name, set_name_of, apply_notices, add_cabinet_named, add_span_named, hear, hear_all, named, names_of}
 use Rattle.commands.proofs.SizedBook.{SizedBook, sized_after}
-use Rattle.commands.proofs.Notices.{changes-told, changed}
+use Rattle.commands.proofs.Notices.{changes_told, changed}
 use Rattle.graph.proofs.Members.{is_in-listed}
 use Rattle.naming.proofs.Listed.{tabulate_same, map_tabulate}
 use Rattle.naming.proofs.Naming.{name_of_old, name_of_new}
@@ -131,7 +131,7 @@ apply_append (t ∷ ts) us l = apply_append ts us (set_name_of t.kind t.item t.n
 apply_changes : (kind : Kind) (old new : List ℕ) (l : NameList)
     → apply_notices (changes kind old new) l ≡ on_kind kind (set_names (name_of new) (changed old new)) l
 unfolding changed_items
-apply_changes kind old new l = rw (changes-told kind old new) (apply_of_kind kind (name_of new) (changed old new) l)
+apply_changes kind old new l = rw (changes_told kind old new) (apply_of_kind kind (name_of new) (changed old new) l)
 
 -- the new span under its answered name, and then the notices, turn the names before into the names after
 pub hear-notices : (b b' : Book) → SizedBook b → b'.network.vertices ≡ b.network.vertices

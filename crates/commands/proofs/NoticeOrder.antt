@@ -17,7 +17,7 @@ use Rattle.commands.specs.Field.{Kind, district, ring, mesh}
 use Rattle.commands.specs.Answer.{kind_byte, Notice, notices}
 use Rattle.commands.specs.WholeRun.{EachNotice, same_kind, count_notices, items_of}
 use Rattle.commands.proofs.SizedBook.{SizedBook, names_in, sized_names}
-use Rattle.commands.proofs.Notices.{told_of, told, changes-told, told_ind, each_append, each_told, changes_of, by_kind, differs, changed, is_among, same_notice, same-notice}
+use Rattle.commands.proofs.Notices.{told_of, told, changes_told, told_ind, each_append, each_told, changes_of, by_kind, differs, changed, is_among, same_notice, same-notice}
 
 -- the first notice is of an earlier kind, or of one kind with the other and of a lower item
 unfoldable pub is_before : Notice → Notice → Bool
@@ -70,7 +70,7 @@ unfolding changed_items is_before
 kinds_before b b' k l e =
     let told_k = told_of k (name_of (names_in k b')) in
     let told_l = told_of l (name_of (names_in l b')) in
-    rw (changes-told k (names_in k b) (names_in k b'), changes-told l (names_in l b) (names_in l b'))
+    rw (changes_told k (names_in k b) (names_in k b'), changes_told l (names_in l b) (names_in l b'))
     (each_told
     told_k
     (differs (names_in k b) (names_in k b'))
@@ -108,7 +108,7 @@ notices_rise b b' =
   where
     of : (kind : Kind) → Rising (changes_of kind b b')
     of kind =
-        rw (changes-told kind (names_in kind b) (names_in kind b'))
+        rw (changes_told kind (names_in kind b) (names_in kind b'))
         (rising_told kind (name_of (names_in kind b')) (differs (names_in kind b) (names_in kind b')) (length (names_in kind b)))
 
 -- no notice is before itself
@@ -184,13 +184,13 @@ module _ (b b' : Book) (s : SizedBook b) where
       → count_notices kind (changes_of kind b b') ≡ count (items_of kind b.network) (differs (names_in kind b) (names_in kind b'))
   unfolding changed_items
   own kind =
-      rw (changes-told kind (names_in kind b) (names_in kind b'), ← sized_names b s kind)
+      rw (changes_told kind (names_in kind b) (names_in kind b'), ← sized_names b s kind)
       (count_own kind (name_of (names_in kind b')) (differs (names_in kind b) (names_in kind b')) (length (names_in kind b)))
 
   others : (kind other : Kind) → same_kind kind other ≡ false → count_notices kind (changes_of other b b') ≡ 0
   unfolding changed_items
   others kind other e =
-      rw (changes-told other (names_in other b) (names_in other b'))
+      rw (changes_told other (names_in other b) (names_in other b'))
       (count_other kind other (name_of (names_in other b')) e (changed (names_in other b) (names_in other b')))
 
   -- the notices of a kind are as many as the items of that kind whose name is another now

@@ -65,9 +65,9 @@ each_told f p P =
     (λ n q ih h. ih (λ x l. h x (omega arith)))
 
 -- the notices of a kind, by the items that changed
-pub changes-told : (kind : Kind) (old new : List ℕ) → changes kind old new ≡ map (told_of kind (name_of new)) (changed_items old new)
+pub changes_told : (kind : Kind) (old new : List ℕ) → changes kind old new ≡ map (told_of kind (name_of new)) (changed_items old new)
 unfolding changes changes_between change_notice
-changes-told kind old new = go (changed_items old new)
+changes_told kind old new = go (changed_items old new)
   where
     go : (l : List ℕ) → map (change_notice kind) (map (λ x. let c : Change = record { item = x; name = name_of new x } in c) l) ≡ map (told_of kind (name_of new)) l
     go [] = refl
@@ -92,7 +92,7 @@ module _ (P : Notice → Type 0) (b b' : Book) (s : SizedBook b) where
   each_change : (kind : Kind) → EachChanged kind → EachNotice P (changes_of kind b b')
   unfolding changed_items
   each_change kind h =
-      rw (changes-told kind (names_in kind b) (names_in kind b'))
+      rw (changes_told kind (names_in kind b) (names_in kind b'))
       (each_told
       (told_of kind (name_of (names_in kind b')))
       (differs (names_in kind b) (names_in kind b'))
@@ -183,7 +183,7 @@ module _ (b b' : Book) (s : SizedBook b) where
       → is_among t (changes_of kind b b') ≡ same_kind t.kind kind && is_change b b' kind t.item t.name
   unfolding changed_items is_change
   among_changes kind t =
-      ap (is_among t) (changes-told kind (names_in kind b) (names_in kind b'))
+      ap (is_among t) (changes_told kind (names_in kind b) (names_in kind b'))
       ∙ among_told t kind (name_of (names_in kind b')) (changed (names_in kind b) (names_in kind b'))
       ∙ rw (is_in-listed (length (names_in kind b)) (differs (names_in kind b) (names_in kind b')) t.item, sized_names b s kind)
 

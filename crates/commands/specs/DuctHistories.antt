@@ -75,8 +75,8 @@ two_in_two_ducts =
     }
 
 -- A span of 02 is no mate of a span in a duct: beside it that one makes one ring, and a mate of that one changes nothing.
-unfoldable pub beside_aDuct : History
-beside_aDuct =
+unfoldable pub beside_a_duct : History
+beside_a_duct =
     record {
       input =
           journal_bytes
@@ -96,8 +96,8 @@ beside_aDuct =
     }
 
 -- A mate entered before a loop closes around the pair, and one after it.
-unfoldable pub loop_around_aDuct : History
-loop_around_aDuct =
+unfoldable pub loop_around_a_duct : History
+loop_around_a_duct =
     record {
       input =
           journal_bytes
@@ -310,8 +310,8 @@ unfoldable pub duct_histories : List History
 duct_histories =
     two_in_one_duct
     ∷ two_in_two_ducts
-    ∷ beside_aDuct
-    ∷ loop_around_aDuct
+    ∷ beside_a_duct
+    ∷ loop_around_a_duct
     ∷ measured_in_spans
     ∷ one_number_at_two_pairs
     ∷ greatest_duct

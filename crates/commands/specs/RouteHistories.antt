@@ -149,13 +149,13 @@ routes_through_cut =
     }
 
 -- Two mates and a span beside them: the span is one route, and either mate the other. The register gives the later mate.
-unfoldable pub mates_and_aSpan : List Command
-mates_and_aSpan = add_cabinet ∷ add_cabinet ∷ add_duct_span 0 1 7 ∷ add_duct_span 1 0 7 ∷ add_span 0 1 ∷ []
+unfoldable pub mates_and_a_span : List Command
+mates_and_a_span = add_cabinet ∷ add_cabinet ∷ add_duct_span 0 1 7 ∷ add_duct_span 1 0 7 ∷ add_span 0 1 ∷ []
 
 unfoldable pub route_beside_mates : History
 route_beside_mates =
     record {
-      input = journal_bytes (mates_and_aSpan ++ routes_between 0 1 ∷ []);
+      input = journal_bytes (mates_and_a_span ++ routes_between 0 1 ∷ []);
       output =
           output
           (cabinet_added 0
@@ -339,11 +339,11 @@ offers =
     ∷ offer two_meshes_spans 1 2 (1 ∷ []) (2 ∷ 3 ∷ 0 ∷ []) false
     ∷ offer two_meshes_spans 0 1 (2 ∷ 0 ∷ 1 ∷ []) (3 ∷ []) false
     ∷ offer two_meshes_spans 0 1 (3 ∷ []) (2 ∷ 0 ∷ 1 ∷ []) false
-    ∷ offer mates_and_aSpan 0 1 (2 ∷ []) (1 ∷ []) true
-    ∷ offer mates_and_aSpan 0 1 (2 ∷ []) (0 ∷ []) true
-    ∷ offer mates_and_aSpan 0 1 (1 ∷ []) (2 ∷ []) true
-    ∷ offer mates_and_aSpan 0 1 (0 ∷ []) (2 ∷ []) true
-    ∷ offer mates_and_aSpan 0 1 (0 ∷ []) (1 ∷ []) false
+    ∷ offer mates_and_a_span 0 1 (2 ∷ []) (1 ∷ []) true
+    ∷ offer mates_and_a_span 0 1 (2 ∷ []) (0 ∷ []) true
+    ∷ offer mates_and_a_span 0 1 (1 ∷ []) (2 ∷ []) true
+    ∷ offer mates_and_a_span 0 1 (0 ∷ []) (2 ∷ []) true
+    ∷ offer mates_and_a_span 0 1 (0 ∷ []) (1 ∷ []) false
     ∷ offer mates_on_the_way_spans 0 2 (2 ∷ 4 ∷ []) (1 ∷ 3 ∷ []) true
     ∷ offer mates_on_the_way_spans 0 2 (2 ∷ 4 ∷ []) (0 ∷ 3 ∷ []) true
     ∷ offer mates_on_the_way_spans 0 2 (2 ∷ 3 ∷ []) (1 ∷ 4 ∷ []) true

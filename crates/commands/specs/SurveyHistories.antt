@@ -189,8 +189,8 @@ each_span_its_own =
 
 -- A span in a duct is measured before its mate is entered: the two are mates all the same, both sole, and 06 lists the lesser. The mate has no
 -- length of its own; a cabinet more and an exchange leave the lengths as they are.
-unfoldable pub measured_in_aDuct : History
-measured_in_aDuct =
+unfoldable pub measured_in_a_duct : History
+measured_in_a_duct =
     record {
       input =
           journal_bytes
@@ -251,7 +251,7 @@ survey_histories =
     ∷ day_nought
     ∷ last_day
     ∷ each_span_its_own
-    ∷ measured_in_aDuct
+    ∷ measured_in_a_duct
     ∷ measured_nowhere
     ∷ length_nowhere
     ∷ []

@@ -7,7 +7,7 @@ use Rattle.graph.proofs.Truth.{true_or_false, false_of_not, not_both, not_of_fal
 use Rattle.graph.proofs.Truth.{eqb_eq, eq-eqb, ne_eqb, eqb_ne}
 use Rattle.graph.proofs.Block.{block_sym, block_trans}
 use Rattle.graph.proofs.BlockVertices.{OnBlock, on_block_lem, on_same_block}
-use Rattle.graph.proofs.SharedBlock.{shared_block_some, shared_block-found, shared_block_is, no_shared_block}
+use Rattle.graph.proofs.SharedBlock.{shared_block_some, shared_block_found, shared_block_is, no_shared_block}
 use Rattle.naming.specs.Rename.{name_of}
 use Rattle.numbers.specs.declared.Limits.{Limits}
 use Rattle.table.specs.Inside.Layout.{edge_area}
@@ -143,7 +143,7 @@ module _ {limits : Limits} {n m : ℕ} {t : List ℕ} (valid : Valid limits n m 
     on_both e h p q = rw (found.1, named)
       where
         found : (s : ℕ) × (shared_block g a b ≡ some s)
-        found = shared_block-found g a b e p q
+        found = shared_block_found g a b e p q
 
         known : found.0 < m
         known = rw (edge_count_lem limits n m t) at (shared_block_some g a b found.0 found.1).known

@@ -82,8 +82,8 @@ module _ {t t' : List ℕ} {limits : Limits} {n m : ℕ} {g : Network} {x s d : 
     deep = omega (arith, way_deep t limits low k next way)
 
     -- with the vertex at hand hung, the next one dangles
-    pub turn-goes_on : Dangling t' limits n m g (above_edge t limits r) r (suc d)
-    turn-goes_on =
+    pub turn_goes_on : Dangling t' limits n m g (above_edge t limits r) r (suc d)
+    turn_goes_on =
         record {
           forest =
               forest_but
@@ -105,5 +105,5 @@ module _ {t t' : List ℕ} {limits : Limits} {n m : ℕ} {g : Network} {x s d : 
         here = moved r ∙ block_refl g r
 
     -- and its way up is left
-    pub way-goes_on : Way t' limits low k (above_edge t limits r)
-    way-goes_on = way_stays k next next_known (le_refl _) way
+    pub way_goes_on : Way t' limits low k (above_edge t limits r)
+    way_goes_on = way_stays k next next_known (le_refl _) way

@@ -17,7 +17,7 @@ use Rattle.forest.proofs.Columns.{among}
 use Rattle.forest.proofs.KindWords.{kind_same}
 use Rattle.forest.proofs.Frames.{Frame, ◌then◌, frame_vertex, frame_edge, same_blocks, same_above}
 use Rattle.forest.proofs.Turn.{Dangling, HungAnew, hangs}
-use Rattle.forest.proofs.TurnSteps.{Way, way_deep, turn-ends, turn-goes_on, way-goes_on}
+use Rattle.forest.proofs.TurnSteps.{Way, way_deep, turn-ends, turn_goes_on, way_goes_on}
 
 -- at a root, turning hangs it and ends
 turn_root : (k : ℕ) (t : List ℕ) (limits : Limits) (x up depth : ℕ) → up_of t limits x ≡ 0
@@ -54,15 +54,15 @@ module _ (limits : Limits) (n m : ℕ) (g : Network) (vertices_fit : n ≤ limit
     above₁ : (e : ℕ) → e < m → above_edge t₁ limits e ≡ above_edge t limits e
     above₁ e l = same_above (frame₁ (Column.up ∷ Column.depth ∷ []) [] refl refl) e (omega arith) (omega (arith, name_known blocks e l)) refl refl
 
-    up-here₁ : up_of t₁ limits x ≡ suc s
+    up_here₁ : up_of t₁ limits x ≡ suc s
     unfolding hung_vertex
-    up-here₁ =
+    up_here₁ =
         cell_put_other_column _ (vertex_area limits) Column.depth x d Column.up x fits fits (λ e. omega arith)
         ∙ cell-put-same t (vertex_area limits) Column.per_vertex Column.up x (suc s) (omega arith) (omega arith) fits
 
-    depth-here₁ : depth_of t₁ limits x ≡ d
+    depth_here₁ : depth_of t₁ limits x ≡ d
     unfolding hung_vertex
-    depth-here₁ =
+    depth_here₁ =
         cell-put-same
         (put t (vertex_area limits) Column.up x (suc s))
         (vertex_area limits)
@@ -84,9 +84,9 @@ module _ (limits : Limits) (n m : ℕ) (g : Network) (vertices_fit : n ≤ limit
     unfolding hangs
     hung_root u =
         record {
-          up_here = up-here₁;
+          up_here = up_here₁;
           up_else = else₁ Column.up;
-          depth_here = depth-here₁;
+          depth_here = depth_here₁;
           depth_else = else₁ Column.depth;
           above_here = λ e l q. absurd (not_both q (ap (λ k. hangs g k e) u));
           above_else = λ e l q. above₁ e l;
@@ -147,9 +147,9 @@ module _ (limits : Limits) (n m : ℕ) (g : Network) (vertices_fit : n ≤ limit
       unfolding hangs
       hung_step =
           record {
-            up_here = vertex₂ Column.up x (omega arith) h ∙ up-here₁;
+            up_here = vertex₂ Column.up x (omega arith) h ∙ up_here₁;
             up_else = λ y k q. vertex₂ Column.up y (omega arith) k ∙ else₁ Column.up y k q;
-            depth_here = vertex₂ Column.depth x (omega arith) h ∙ depth-here₁;
+            depth_here = vertex₂ Column.depth x (omega arith) h ∙ depth_here₁;
             depth_else = λ y k q. vertex₂ Column.depth y (omega arith) k ∙ else₁ Column.depth y k q;
             above_here = λ e k q. moved_top e k (sym (ap (λ v. hangs g v e) u) ∙ q);
             above_else = λ e k q. other_top e k (sym (ap (λ v. hangs g v e) u) ∙ q);
@@ -204,8 +204,8 @@ module _ (limits : Limits) (n m : ℕ) (g : Network) (vertices_fit : n ≤ limit
               r
               (suc d)
               low
-              (turn-goes_on f moved r low k u (way.1 r u) (omega arith))
-              (way-goes_on f moved r low k u (way.1 r u) (omega arith))
+              (turn_goes_on f moved r low k u (way.1 r u) (omega arith))
+              (way_goes_on f moved r low k u (way.1 r u) (omega arith))
               (omega arith)
               small
             where

@@ -14,7 +14,7 @@ use Rattle.graph.specs.Block.{shared_block, on_block}
 use Rattle.graph.specs.BlockPath.{BlockPath}
 use Rattle.graph.proofs.Truth.{not_both, eq-eqb, eqb_swap}
 use Rattle.graph.proofs.BlockVertices.{block_outlives_vertex}
-use Rattle.graph.proofs.SharedBlock.{shared_block_some, shared_block-found}
+use Rattle.graph.proofs.SharedBlock.{shared_block_some, shared_block_found}
 use Rattle.graph.proofs.BlockPath.{onward, stays, steps_to_next, start_fresh, visited_differs, end_visited, block-component, path_parts_at_vertex}
 use Rattle.graph.proofs.BlockPathExists.{component_block_path}
 
@@ -66,5 +66,5 @@ module _ (g : Network) (proper : Proper g) where
   shared_block_found_exactly x y d = (
     λ f. let r = shared_block_some g x y f.0 f.1 in
         (shares_block_exactly x y d).0 (record { by = f.0; known = r.known; first = r.on_first; second = r.on_second }),
-    λ o. let b = (shares_block_exactly x y d).1 o in shared_block-found g x y b.by b.first b.second,
+    λ o. let b = (shares_block_exactly x y d).1 o in shared_block_found g x y b.by b.first b.second,
   )

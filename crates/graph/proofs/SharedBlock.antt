@@ -55,9 +55,9 @@ shared_block_none g a b e s o =
         (f r.by r.known))
 
 -- where some block has both vertices on it, one is found
-pub shared_block-found : (g : Network) (a b s : ℕ) → on_block g s a ≡ true → on_block g s b ≡ true
+pub shared_block_found : (g : Network) (a b s : ℕ) → on_block g s a ≡ true → on_block g s b ≡ true
     → (t : ℕ) × (shared_block g a b ≡ some t)
-shared_block-found g a b s e f = go (shared_block g a b) refl
+shared_block_found g a b s e f = go (shared_block g a b) refl
   where
     go : (o : Option ℕ) → shared_block g a b ≡ o → (t : ℕ) × (shared_block g a b ≡ some t)
     go (some t) q = (t, q)

@@ -15,7 +15,7 @@ use Rattle.commands.specs.Command.{Command, Form, unknown, takes, forms, form, o
 use Rattle.commands.proofs.Cases.{le_or_gt, gt_leb, impossible}
 use Rattle.commands.proofs.ByPlace.{each_at, ◌also◌}
 use Rattle.commands.proofs.Reading.{width_of, long_enough, too_short, cut_off_lem, unknown_byte_lem, unknown_exactly, known_bytes}
-use Rattle.reading.specs.Inside.Reads.{OneOperand, TwoOperands, ThreeOperands, made, form_width, entry_of, widths, entryWidth, no_command, cut_short, whole, pass_over}
+use Rattle.reading.specs.Inside.Reads.{OneOperand, TwoOperands, ThreeOperands, made, form_width, entry_of, widths, entry_width, no_command, cut_short, whole, pass_over}
 
 -- a number from low on that is not low is above it
 pub above : (low n : ℕ) → low ≤ n → n ≢ low → low < n
@@ -123,29 +123,29 @@ module _ (byte : ℕ) (bytes : List ℕ) (width : ℕ) (wide : form_width (form 
           rw (too_short n make bytes (omega arith))
 
 -- a byte that is no command's is found so
-pub passed-unknown : (byte : ℕ) (bytes : List ℕ) → form_width (form byte) ≡ none → pass_over byte (read_command byte bytes) ≡ no_command
+pub passed_unknown : (byte : ℕ) (bytes : List ℕ) → form_width (form byte) ≡ none → pass_over byte (read_command byte bytes) ≡ no_command
 unfolding read_command form_width pass_over
-passed-unknown byte bytes = go (form byte)
+passed_unknown byte bytes = go (form byte)
   where
     go : (f : Form) → form_width f ≡ none → pass_over byte (read_form f bytes) ≡ no_command
     go unknown e = unfold read_form in refl
     go (takes n make) e = impossible (cc)
 
 -- an entry of the table of widths tells that the byte is no command's, or a width
-pub entry-none : (entry : ℕ) → entry ≡ 15 → entryWidth entry ≡ none
-unfolding entryWidth
-entry-none entry e = rw (eq-eqb entry 15 e)
+pub entry_none : (entry : ℕ) → entry ≡ 15 → entry_width entry ≡ none
+unfolding entry_width
+entry_none entry e = rw (eq-eqb entry 15 e)
 
-pub entry-some : (entry : ℕ) → entry ≢ 15 → entryWidth entry ≡ some entry
-unfolding entryWidth
-entry-some entry d = rw (ne_eqb entry 15 d)
+pub entry_some : (entry : ℕ) → entry ≢ 15 → entry_width entry ≡ some entry
+unfolding entry_width
+entry_some entry d = rw (ne_eqb entry 15 d)
 
 -- the table has an entry for each byte up to 0F
-pub widths_are : (byte : ℕ) → byte ≤ 15 → form_width (form byte) ≡ entryWidth (entry_of widths byte)
-unfolding form forms form_width entry_of entryWidth
+pub widths_are : (byte : ℕ) → byte ≤ 15 → form_width (form byte) ≡ entry_width (entry_of widths byte)
+unfolding form forms form_width entry_of entry_width
 widths_are =
     each_at
-    (λ byte f. byte ≤ 15 → form_width f ≡ entryWidth (entry_of widths byte))
+    (λ byte f. byte ≤ 15 → form_width f ≡ entry_width (entry_of widths byte))
     forms
     unknown
     ((λ h. refl)

@@ -3,7 +3,7 @@ ghost use Rattle.std.specs.Prelude.{◌≡◌, ◌+◌, ◌<◌, ◌≤◌, leng
 ghost use Rattle.commands.specs.Bytes.{number};
 ghost use Rattle.commands.specs.Command.{read_command};
 ghost use Rattle.commands.specs.Command.{form};
-ghost use Rattle.reading.specs.Inside.Reads.{meaning, reading_of, OneOperand, TwoOperands, ThreeOperands, MadeOfOne, MadeOfTwo, MadeOfThree, form_width, entry_of, entryWidth, passing_of, pass_over};
+ghost use Rattle.reading.specs.Inside.Reads.{meaning, reading_of, OneOperand, TwoOperands, ThreeOperands, MadeOfOne, MadeOfTwo, MadeOfThree, form_width, entry_of, entry_width, passing_of, pass_over};
 
 use numbers::{Duct, Edge, Measure, Vertex};
 
@@ -177,7 +177,7 @@ const WIDTHS: u64 = 0x0264_6222_4442_240F;
 
 // What a byte is, by its entry in the table; if a command's, its operands stand from a place on.
 fn pass_over(journal: &[u8], byte: u8, from: usize, entry: u8) -> Passed
-    requires { (form_width (form byte) ≡ entryWidth entry) × (from ≤ length journal.now) }
+    requires { (form_width (form byte) ≡ entry_width entry) × (from ≤ length journal.now) }
     ensures { passing_of result ≡ pass_over byte (read_command byte (drop from journal.now)) }
 {
     if entry == NONE {

@@ -26,7 +26,7 @@ measured_at_start journal r =
       spans = 0;
       in_journal = omega arith;
       whole_here = r.whole;
-      same-told = refl;
+      same_told = refl;
       same_length = omega arith;
       few = omega arith;
     }
@@ -38,7 +38,7 @@ module _ {journal : List ℕ} {so_far place : ℕ} (m : MeasuredTo journal so_fa
   unfolding ends_with first_duct_told rewrite_from journal_bytes
   measured_to_end h =
       let nothing : reads_at journal place ≡ [] = ap (λ t. t.commands) (text_at_end journal place h) in (
-        sym m.same-told ∙ ap first_duct_told nothing,
+        sym m.same_told ∙ ap first_duct_told nothing,
         omega (arith, m.same_length, ap (λ l. length (journal_bytes (rewrite_from m.spans (map (λ r. r.command) l)))) nothing),
       )
 
@@ -46,7 +46,7 @@ module _ {journal : List ℕ} {so_far place : ℕ} (m : MeasuredTo journal so_fa
   module _ (are : all_bytes journal ≡ true) (at_byte : place < length journal) (byte width : ℕ) (passed : whole byte width ≡ passing_here journal place at_byte) where
     -- a 0B is the first
     pub first_duct_told_lem : byte ≡ 11 → Measures journal (M.DuctTold place)
-    first_duct_told_lem e = (sym m.same-told ∙ told_here journal are place at_byte byte width passed e, m.in_journal)
+    first_duct_told_lem e = (sym m.same_told ∙ told_here journal are place at_byte byte width passed e, m.in_journal)
 
     -- behind any other the journal is measured with its size
     pub measured_behind : byte ≢ 11 → MeasuredTo journal (so_far + size_of byte width) (place + 1 + width)
@@ -58,7 +58,7 @@ module _ {journal : List ℕ} {so_far place : ℕ} (m : MeasuredTo journal so_fa
           spans = spans_behind byte spans;
           in_journal = operands_here journal place at_byte byte width passed;
           whole_here = whole_behind_passed journal place at_byte byte width passed m.whole_here;
-          same-told = sym (not_told_here journal are place at_byte byte width passed other) ∙ m.same-told;
+          same_told = sym (not_told_here journal are place at_byte byte width passed other) ∙ m.same_told;
           same_length =
               omega (
                 arith,

@@ -69,12 +69,12 @@ module _ {shape : Shape} {g : Network} {u : Used} {a : ℕ} {ps : List Step} whe
         go (p ∷ rest) e q = absurd (cons≢nil e)
 
     -- a step more is taken
-    pub take-goes_on : {t new : List ℕ} {x i : ℕ} → network_in shape old ≡ g → length ps < g.vertices → column < scratch_words
+    pub take_goes_on : {t new : List ℕ} {x i : ℕ} → network_in shape old ≡ g → length ps < g.vertices → column < scratch_words
         → Only shape edges_only old t → TakenTo shape g u a ps t x i → i < count → (s : ℕ) → s ≡ vertex_scratch shape t column i
         → (s < shape.edges → StepDone shape x s t new) → (y : ℕ) → y ≡ far_end (network_in shape new) s x
         → TakenTo shape g u a ps new y (i + 1)
     unfolding edges_of way_taken far_end edges_only
-    take-goes_on {t} {new} {x} {i} is short known only w h s e done y q =
+    take_goes_on {t} {new} {x} {i} is short known only w h s e done y q =
         go w.rest (sym w.edges_left ∙ at_place) w.fits w.same_whole
       where
         many : length (edges_of ps) ≡ count

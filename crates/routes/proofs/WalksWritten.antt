@@ -16,7 +16,7 @@ use Rattle.naming.proofs.Listed.{tabulate_same}
 use Rattle.ways.specs.Search.{Found, way_by, step_of, Orderly}
 use Rattle.ways.specs.TwoRoutes.{edges_of}
 use Rattle.ways.proofs.SearchOrder.{in_order_exactly}
-use Rattle.ways.proofs.SearchWay.{way-at_goal, NextStep, way-goes_on}
+use Rattle.ways.proofs.SearchWay.{way-at_goal, NextStep, way_goes_on}
 use Rattle.forest.specs.declared.Shape.{Shape}
 use Rattle.forest.specs.Promise.{network_in, vertices_held, vertices_fit, proper_held, scratch_words, vertex_scratch, VertexScratchStored}
 use Rattle.routes.specs.Inside.Frame.{next_column, Only, column_only, Written}
@@ -69,7 +69,7 @@ module _ {shape : Shape} {column a : ℕ} {f : Found} where
         step = omega (arith, some)
 
         on : NextStep g f x (step_of f.links x - 1)
-        on = way-goes_on orderly x (step_of f.links x - 1) step
+        on = way_goes_on orderly x (step_of f.links x - 1) step
 
         inside : x < shape.vertices
         inside = rw (← is, vertices_held shape old) at

@@ -155,10 +155,10 @@ module _ {g : Network} {y s : ℕ} {f : Found} (w : Fits g y s f) where
       go false d e = next_other x t d (n e)
 
 -- the way from a vertex goes on by its step
-pub way-goes_on : {g : Network} {b : ℕ} {f : Found} → Orderly g b f → (x s : ℕ) → step_of f.links x ≡ suc s → NextStep g f x s
+pub way_goes_on : {g : Network} {b : ℕ} {f : Found} → Orderly g b f → (x s : ℕ) → step_of f.links x ≡ suc s → NextStep g f x s
 unfolding at_goal step_of
-way-goes_on starts = λ x s e. absurd (omega (arith, e))
-way-goes_on (goes_further y t w o) = λ x s. next_linked w x s (way-goes_on o x s)
+way_goes_on starts = λ x s e. absurd (omega (arith, e))
+way_goes_on (goes_further y t w o) = λ x s. next_linked w x s (way_goes_on o x s)
 
 -- every step of the ways is one that may be taken
 ways_allowed : {g : Network} {allowed : Allowed} (b : ℕ) {f : Found} → Grown g allowed (at_goal b) f

@@ -137,18 +137,18 @@ pub unused_carries : (g : Network) (a b : ℕ) → Carries g unused a b 0
 unused_carries g a b = record { usable = unused_usable g; balanced = unused_balanced g a b }
 
 -- where no loss of one edge parts a and b, none of at most one does
-outlives-one : (g : Network) (a b : ℕ) → bridge_block g a b ≡ true → (ss : List ℕ) → length ss ≤ 1
+outlives_one : (g : Network) (a b : ℕ) → bridge_block g a b ≡ true → (ss : List ℕ) → length ss ≤ 1
     → ((s : ℕ) → is_in s ss ≡ true → s < edge_count g) → joined g (loss_of_all g ss) a b ≡ true
 unfolding loss_of_all loss_of component nothing
-outlives-one g a b e [] h k = bridge_block-component g a b e
-outlives-one g a b e (s ∷ []) h k =
-    joined_same_loss g (loss_of_all g (s ∷ [])) (mates g s) (λ t i. cond-test (mates g s t)) a b
+outlives_one g a b e [] h k = bridge_block-component g a b e
+outlives_one g a b e (s ∷ []) h k =
+    joined_same_loss g (loss_of_all g (s ∷ [])) (mates g s) (λ t i. cond_test (mates g s t)) a b
     ∙ bridge_block_lasts g a b e s (k s (is_in_head s []))
   where
-    cond-test : (c : Bool) → cond c true false ≡ c
-    cond-test true = refl
-    cond-test false = refl
-outlives-one g a b e (s ∷ t ∷ ss) h k = absurd (omega arith)
+    cond_test : (c : Bool) → cond c true false ≡ c
+    cond_test true = refl
+    cond_test false = refl
+outlives_one g a b e (s ∷ t ∷ ss) h k = absurd (omega arith)
 
 -- the vertices that a search for vertex b does not reach
 unreached : Network → Allowed → ℕ → Set
@@ -182,9 +182,9 @@ module _ (g : Network) (proper : Proper g) (b : ℕ) (known : b < g.vertices) (a
       back = other_end_back (edge g s) x t
 
   -- the goal is reached, so a way from a is found unless it can be that a is not reached and the goal is
-  way-found : (a : ℕ) → (unreached g allowed b a ≡ true → unreached g allowed b b ≡ false → ⊥) → WayFound g allowed a b
+  way_found : (a : ℕ) → (unreached g allowed b a ≡ true → unreached g allowed b b ≡ false → ⊥) → WayFound g allowed a b
   unfolding unreached
-  way-found a w = record {
+  way_found a w = record {
     reached = r;
     lead = way-leads g proper allowed b known a r;
     all_allowed_lem = way_allowed g proper allowed b known a r;
@@ -199,10 +199,10 @@ module _ (g : Network) (proper : Proper g) (rule : MateRule g.rule) (a b : ℕ) 
   module _ (share : bridge_block g a b ≡ true) (u : Used) (k : ℕ) (few : k ≤ 1) (c : Carries g u a b k) where
     -- while at most one way is carried between two vertices of a bridge-block, one way more is found
     pub more_found_lem : WayFound g (one_more g u) a b
-    more_found_lem = way-found g proper b known (one_more g u) a (λ p q.
+    more_found_lem = way_found g proper b known (one_more g u) a (λ p q.
         let shut = unreached_shut g proper b known (one_more g u) in
         let cut = no_way_more_parts g rule u c.usable (unreached g (one_more g u) b) shut a b k c.balanced p q in
-        not_both (outlives-one g a b share cut.edges (omega (arith, cut.many)) (λ s i. c.usable.known s (cut.used s i)))
+        not_both (outlives_one g a b share cut.edges (omega (arith, cut.many)) (λ s i. c.usable.known s (cut.used s i)))
         cut.parted)
 
     -- and with it one way more is carried
@@ -220,7 +220,7 @@ module _ (g : Network) (proper : Proper g) (rule : MateRule g.rule) (a b : ℕ) 
     -- while a way is carried, a way along used edges is found
     pub along_found : WayFound g (along_used u) a b
     unfolding along_used used_to
-    along_found = way-found g proper b known (along_used u) a (λ p q. not_both
+    along_found = way_found g proper b known (along_used u) a (λ p q. not_both
         (used_leads_on g u a b k c.balanced (unreached g (along_used u) b) p (λ s e n.
         unreached_shut g proper b known (along_used u) (used_from u s) s n (c.usable.known s e)
         (joins-touches (edge g s) (used_from u s) (used_to g u s) (used_joins g u s c.usable e))

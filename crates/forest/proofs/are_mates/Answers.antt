@@ -10,10 +10,10 @@ use Rattle.forest.proofs.QueryNames.{edge_held}
 use Rattle.forest.proofs.are_mates.Goals as goal
 
 -- the table's rule, by what the table has stored
-by-rule : (shape : Shape) (t : List ℕ) (s r : ℕ) → s < shape.edges → r < shape.edges
+by_rule : (shape : Shape) (t : List ℕ) (s r : ℕ) → s < shape.edges → r < shape.edges
     → lost_together t shape.limits s r ≡ (network_in shape t).rule (edge (network_in shape t) s) (edge (network_in shape t) r)
 unfolding lost_together ends_agree are_pair table_rule one_duct parallel stored_edge edge_in_duct
-by-rule shape t s r h k = rw (rule_held shape t, edge_held shape t s h, edge_held shape t r k) refl
+by_rule shape t s r h k = rw (rule_held shape t, edge_held shape t s h, edge_held shape t r k) refl
 
 pub returns-then-s-other : goal.returns-then-s-other
 unfolding mates
@@ -23,4 +23,4 @@ pub returns : goal.returns
 unfolding mates
 returns c =
     rw (c.lost_together.ensures, ne_eqb c.args.s.0 c.args.other.0 c.if-s-other.false)
-    (by-rule c.args.shape c.args.t.now c.args.s.0 c.args.other.0 c.requires.1 c.requires.2)
+    (by_rule c.args.shape c.args.t.now c.args.s.0 c.args.other.0 c.requires.1 c.requires.2)

@@ -18,8 +18,8 @@ cleared_more t i h =
     )
 
 -- behind the words that are set to 0 stand those behind the count
-cleared-all : (t : List ℕ) (count i : ℕ) → i ≡ min count (length t) → replicate i 0 ++ drop i t ≡ replicate (min count (length t)) 0 ++ drop count t
-cleared-all t count i e = ap₂ (λ (k : ℕ) (rest : List ℕ). replicate k 0 ++ rest) e (go (true_or_false (ltb (length t) count)))
+cleared_all : (t : List ℕ) (count i : ℕ) → i ≡ min count (length t) → replicate i 0 ++ drop i t ≡ replicate (min count (length t)) 0 ++ drop count t
+cleared_all t count i e = ap₂ (λ (k : ℕ) (rest : List ℕ). replicate k 0 ++ rest) e (go (true_or_false (ltb (length t) count)))
   where
     inside : count ≤ length t → i ≡ count
     inside h = omega arith
@@ -54,4 +54,4 @@ pub returns : goal.returns
 returns c =
     let l = c.loop-i in
     let all : l.i ≡ min c.args.count (length c.args.t.now) = omega (arith, l.invariant.0) in
-    l.invariant.3 ∙ cleared-all c.args.t.now c.args.count l.i all
+    l.invariant.3 ∙ cleared_all c.args.t.now c.args.count l.i all

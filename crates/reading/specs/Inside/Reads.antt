@@ -78,8 +78,8 @@ abbrev pub widths : ℕ
 widths = 0x026462224442240F
 
 -- What an entry of the table says.
-unfoldable pub entryWidth : ℕ → Option ℕ
-entryWidth entry = cond (eqb entry 15) none (some entry)
+unfoldable pub entry_width : ℕ → Option ℕ
+entry_width entry = cond (eqb entry 15) none (some entry)
 
 -- What is known of a reading where the operands are passed over: of a command its byte and the number of its operands' bytes.
 pub data Passing : Type 0 where

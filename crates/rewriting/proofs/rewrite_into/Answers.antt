@@ -17,41 +17,41 @@ returns-then-foretold-ne0 c =
 pub measure-measured-requires : goal.measure-measured-requires
 unfolding foretold
 measure-measured-requires c =
-    let read-to-its-end : Readable c.args.journal.now =
+    let read_to_its_end : Readable c.args.journal.now =
     readable
     c.args.journal.now
     (sym (ap (λ f. f.number) c.forecast_of-foretold.ensures) ∙ omega (arith, c.if-foretold-ne0.false)) in
-    read-to-its-end
+    read_to_its_end
 
 pub overflow_cast-place : goal.overflow_cast-place
 unfolding foretold
 overflow_cast-place c =
-    let read-to-its-end : Readable c.args.journal.now =
+    let read_to_its_end : Readable c.args.journal.now =
     readable
     c.args.journal.now
     (sym (ap (λ f. f.number) c.forecast_of-foretold.ensures) ∙ omega (arith, c.if-foretold-ne0.false)) in
-    let measured-told : Measures c.args.journal.now (M.DuctTold c.in-DuctTold.place) =
+    let measured_told : Measures c.args.journal.now (M.DuctTold c.in-DuctTold.place) =
     subst (Measures c.args.journal.now) c.in-DuctTold.is c.measure-measured.ensures in
-    omega (arith, (measured-told).1, (read-to-its-end).short)
+    omega (arith, (measured_told).1, (read_to_its_end).short)
 
 pub write_within-requires : goal.write_within-requires
 unfolding foretold
 write_within-requires c =
-    let read-to-its-end : Readable c.args.journal.now =
+    let read_to_its_end : Readable c.args.journal.now =
     readable
     c.args.journal.now
     (sym (ap (λ f. f.number) c.forecast_of-foretold.ensures) ∙ omega (arith, c.if-foretold-ne0.false)) in
     let measured =
     subst (Measures c.args.journal.now) c.in-Length.is c.measure-measured.ensures in
-    record { readable = read-to-its-end; none_told = measured.0; length_is = measured.1 }
+    record { readable = read_to_its_end; none_told = measured.0; length_is = measured.1 }
 
 pub returns-in-DuctTold : goal.returns-in-DuctTold
 unfolding foretold
 returns-in-DuctTold c =
-    let read-to-its-end : Readable c.args.journal.now =
+    let read_to_its_end : Readable c.args.journal.now =
     readable
     c.args.journal.now
     (sym (ap (λ f. f.number) c.forecast_of-foretold.ensures) ∙ omega (arith, c.if-foretold-ne0.false)) in
-    let measured-told : Measures c.args.journal.now (M.DuctTold c.in-DuctTold.place) =
+    let measured_told : Measures c.args.journal.now (M.DuctTold c.in-DuctTold.place) =
     subst (Measures c.args.journal.now) c.in-DuctTold.is c.measure-measured.ensures in
-    refused_as_told (read-to-its-end) (measured-told).0 (omega arith) c.refused-in-DuctTold.ensures
+    refused_as_told (read_to_its_end) (measured_told).0 (omega arith) c.refused-in-DuctTold.ensures

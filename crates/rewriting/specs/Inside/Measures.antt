@@ -22,6 +22,6 @@ pub record MeasuredTo (journal : List ℕ) (so_far place : ℕ) : Type 0 where
   pub spans : ℕ
   pub in_journal : place ≤ length journal
   pub whole_here : (text_from place 0 (drop place journal)).refusal ≡ none
-  pub same-told : first_duct_told (reads_at journal place) ≡ first_duct_told (text_of journal).commands
+  pub same_told : first_duct_told (reads_at journal place) ≡ first_duct_told (text_of journal).commands
   pub same_length : so_far + length (journal_bytes (rewrite_from spans (commands_at journal place))) ≡ length (rewritten_bytes journal)
   pub few : so_far ≤ 3 * place

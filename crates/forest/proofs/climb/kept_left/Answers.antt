@@ -13,7 +13,7 @@ returns-then-r-eq0-2 c = kept_no_right _ _ _ c.if-r-eq0-2.true
 
 pub returns-then-block_of : goal.returns-then-block_of
 returns-then-block_of c =
-    let kept-by-blocks : cond (eqb c.block_of.result.0 c.block_of-2.result.0) (c.args.r.left - 1) c.args.r.left ≡ kept_left c.args.t.now c.args.limits c.args.r =
+    let kept_by_blocks : cond (eqb c.block_of.result.0 c.block_of-2.result.0) (c.args.r.left - 1) c.args.r.left ≡ kept_left c.args.t.now c.args.limits c.args.r =
     rw (
       c.block_of-2.ensures,
       c.block_of.ensures,
@@ -23,11 +23,11 @@ returns-then-block_of c =
       c.vertex_area.ensures,
     )
     (kept_both _ _ _ c.if-r-eq0.false c.if-r-eq0-2.false) in
-    rw (eq-eqb _ _ c.if-block_of.true) at (kept-by-blocks)
+    rw (eq-eqb _ _ c.if-block_of.true) at (kept_by_blocks)
 
 pub returns-else-block_of : goal.returns-else-block_of
 returns-else-block_of c =
-    let kept-by-blocks : cond (eqb c.block_of.result.0 c.block_of-2.result.0) (c.args.r.left - 1) c.args.r.left ≡ kept_left c.args.t.now c.args.limits c.args.r =
+    let kept_by_blocks : cond (eqb c.block_of.result.0 c.block_of-2.result.0) (c.args.r.left - 1) c.args.r.left ≡ kept_left c.args.t.now c.args.limits c.args.r =
     rw (
       c.block_of-2.ensures,
       c.block_of.ensures,
@@ -37,4 +37,4 @@ returns-else-block_of c =
       c.vertex_area.ensures,
     )
     (kept_both _ _ _ c.if-r-eq0.false c.if-r-eq0-2.false) in
-    rw (ne_eqb _ _ c.if-block_of.false) at (kept-by-blocks)
+    rw (ne_eqb _ _ c.if-block_of.false) at (kept_by_blocks)

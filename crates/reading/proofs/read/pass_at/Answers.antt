@@ -5,18 +5,18 @@ use Prim.Native.Nat.{◌+◌}
 use native.Mathlib.Omega.{arith}
 use lib.ListN.{get_or, drop}
 use Rattle.commands.specs.Command.{forms, form}
-use Rattle.reading.specs.Inside.Reads.{form_width, entryWidth, passing_of, pass_over}
+use Rattle.reading.specs.Inside.Reads.{form_width, entry_width, passing_of, pass_over}
 use Rattle.reading.proofs.ReadSteps.{read_unknown, passed_whole, widths_are}
 use Rattle.reading.proofs.read.pass_at.Goals as goal
 
 pub pass_over-requires : goal.pass_over-requires
-unfolding form forms form_width entryWidth
+unfolding form forms form_width entry_width
 pass_over-requires c = (rw c.in-2.is refl, omega arith)
 
 pub pass_over-requires-in-3-to-15 : goal.pass_over-requires-in-3-to-15
 pass_over-requires-in-3-to-15 c =
     let byte = get_or c.args.journal.now c.args.at 0 in
-    (widths_are byte (omega arith) ∙ ap entryWidth (sym c.entry_of.ensures), omega arith)
+    (widths_are byte (omega arith) ∙ ap entry_width (sym c.entry_of.ensures), omega arith)
 
 pub returns-in-1 : goal.returns-in-1
 unfolding form forms form_width passing_of

@@ -35,6 +35,6 @@ returns-in_default-2 c =
     let a = c.args in
     let byte = get_or a.journal.now a.at 0 in
     let not = c.in_default.in_default-own.rest in
-    let above-12 = above 12 byte (above 11 byte c.in_default.if-byte-lt11-own.false (λ e. not.0.1 (inl e))) (λ e. not.0.0.0.1 (inr e)) in
-    let above-14 = above 14 byte (above 13 byte above-12 (λ e. not.0.1 (inr e))) not.0.0.1 in
-    sym (read_unknown byte (drop (a.at + 1) a.journal.now) (inr (above 15 byte above-14 not.1)))
+    let above_12 = above 12 byte (above 11 byte c.in_default.if-byte-lt11-own.false (λ e. not.0.1 (inl e))) (λ e. not.0.0.0.1 (inr e)) in
+    let above_14 = above 14 byte (above 13 byte above_12 (λ e. not.0.1 (inr e))) not.0.0.1 in
+    sym (read_unknown byte (drop (a.at + 1) a.journal.now) (inr (above 15 byte above_14 not.1)))

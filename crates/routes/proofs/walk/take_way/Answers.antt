@@ -3,7 +3,7 @@
 use native.Mathlib.Omega.{arith}
 use Rattle.routes.specs.Inside.Frame.{edges_only}
 use Rattle.routes.proofs.Frames.{only_refl, only_trans}
-use Rattle.routes.proofs.WalksWay.{Stepped, take_begins, take_ends, take-goes_on, stepped_then, stepped_not}
+use Rattle.routes.proofs.WalksWay.{Stepped, take_begins, take_ends, take_goes_on, stepped_then, stepped_not}
 use Rattle.routes.proofs.walk.take_way.Goals as goal
 use Rattle.routes.proofs.walk.take_way.Goals.{then-s-shape, else-s-shape}
 
@@ -34,7 +34,7 @@ loop-i-preserved c =
     elim c.if-s-shape.branch [ then-s-shape w ↦ stepped_then w.take_step.ensures w.t-is | else-s-shape w ↦ stepped_not holds w.if-s-shape.false w.t-is ] in (
       only_trans now.invariant.0 went.only,
       λ g u ps is listed usable fits short written.
-          take-goes_on c.args.column c.args.count c.args.t.now written is short c.requires.1 now.invariant.0
+          take_goes_on c.args.column c.args.count c.args.t.now written is short c.requires.1 now.invariant.0
           (now.invariant.1 g u ps is listed usable fits short written) c.loop-i-test.true
           c.vertex_scratch.result c.vertex_scratch.ensures went.done
           c.far_end-x.result.0 c.far_end-x.ensures,
