@@ -7,7 +7,7 @@ use Prim.Native.Nat.{ℕ, suc, ◌<◌}
 use native.Mathlib.Omega.{arith}
 use lib.Dec.{eqb}
 use Rattle.graph.specs.Network.{Network, Edge, MateRule, Proper, edge, edge_count, parallel, add_vertex, add_edge, mates}
-use Rattle.graph.specs.Groups.{component, bridge, bridge_block}
+use Rattle.graph.specs.Groups.{component, bridge, bridge_block, outlive_two}
 use Rattle.graph.specs.Cycle.{joins}
 use Rattle.graph.specs.Block.{block, at_both, shared_block}
 use Rattle.graph.specs.Between.{least_mate, bridges_between, cuts_between}
@@ -19,6 +19,7 @@ use Rattle.graph.proofs.Joined.{edge_count_more, edge_old, edge_new, old_or_new,
 use Rattle.graph.proofs.MateLoss.{mates_old, mates_new}
 use Rattle.graph.proofs.Image.{Image, component_image}
 use Rattle.graph.proofs.ImageBlocks.{bridge_image, bridge_block_image, block_image_any, at_both_image}
+use Rattle.graph.proofs.ImageLosses.{outlive_two_image}
 use Rattle.graph.proofs.ImageLists.{bridges_between_image, cuts_between_image}
 
 -- Two networks alike: as many vertices and edges, the same ends in either direction, the same mates.
@@ -79,6 +80,10 @@ module _ {g h : Network} (a : Alike g h) where
     -- and the same bridges
     pub bridge_alike : (s : ℕ) → s < edge_count g → bridge h s ≡ bridge g s
     bridge_alike = bridge_image (alike_image a) rule
+
+    -- and the same vertices outlive two losses
+    pub outlive_two_alike : (x y : ℕ) → outlive_two h x y ≡ outlive_two g x y
+    outlive_two_alike = outlive_two_image (alike_image a) rule
 
     -- and the same cut vertices between two vertices, in the same order
     pub cuts_between_alike : Proper g → (x y : ℕ) → cuts_between h x y ≡ cuts_between g x y

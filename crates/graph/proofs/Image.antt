@@ -11,7 +11,7 @@ use Rattle.graph.proofs.Below.{Below}
 use Rattle.graph.proofs.Joined.{joined_equivalence, joined_least}
 use Rattle.graph.proofs.Walks.{joins-ends, joins_swap, joins_least, joins-joined}
 use Rattle.graph.proofs.Joins.{joins_back, joins_carries, joins-touches, touches-joins}
-use Rattle.graph.proofs.Mates.{mates_refl, mates_sym, mates_trans, loss_of-mates}
+use Rattle.graph.proofs.Mates.{mates_refl, mates_sym, loss_of-mates, mates-lost_together}
 use Rattle.graph.proofs.MateEdges.{mates-joins}
 
 -- Network h holds an image of network g: vertex x of g is vertex f x of h, and edge s is edge p s.
@@ -116,9 +116,7 @@ module _ {g h : Network} {f p : ℕ → ℕ} (i : Image g h f p) (rule : MateRul
   edge_loss_image s r k m =
       record {
         agrees = λ t l. loss_of-mates h rule r (p s) m (p t) ∙ i.mates_go s t k l;
-        mates_alike = λ t u n.
-            bool_ext (mates h r t) (mates h r u) (λ a. mates_trans h rule r t u a n)
-            (λ a. mates_trans h rule r u t a (mates_sym h rule t u n));
+        mates_alike = mates-lost_together h rule r;
       }
 
   -- the loss of a vertex's image is the image of the vertex's loss

@@ -16,6 +16,7 @@ pub mod Mates
 pub mod Ducts
 pub mod Losses
 pub mod BridgeBlock
+pub mod TwoLosses
 pub mod Members
 pub mod Sort
 pub mod Firsts
@@ -53,12 +54,17 @@ pub mod Lengths
 pub mod MappedLists
 pub mod FirstMates
 pub mod Image
+pub mod Outlives
+pub mod OutlivesGrows
 pub mod ImageBlocks
+pub mod ImageLosses
 pub mod ImageLists
 pub mod Alike
 pub mod RoutesImage
 pub mod Places
 pub mod Reduced
 pub mod ReducedGroups
+pub mod EdgeConnected
 pub mod RoutePairs
+pub mod AfterTwoLosses
 pub mod Routes

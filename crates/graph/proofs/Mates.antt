@@ -66,6 +66,12 @@ module _ (g : Network) (r : MateRule g.rule) where
   loss_of-mates s t h u =
       bool_ext (mates g s u) (mates g t u) (mates_trans t s u (mates_sym s t h)) (mates_trans s t u h)
 
+  -- the loss of an edge takes mates together
+  pub mates-lost_together : (s t u : ℕ) → mates g t u ≡ true → loss_of g s t ≡ loss_of g s u
+  unfolding loss_of
+  mates-lost_together s t u h =
+      bool_ext (mates g s t) (mates g s u) (λ k. mates_trans s t u k h) (λ k. mates_trans s u t k (mates_sym t u h))
+
   -- whatever holds of a mate's two ends, in whichever order, holds of the edge's own
   pub mates_carry : (P : ℕ → ℕ → Type 0) → ((x y : ℕ) → P x y → P y x) → (s t : ℕ) → mates g s t ≡ true
       → P (edge g t).left (edge g t).right → P (edge g s).left (edge g s).right

@@ -3,12 +3,13 @@ use mathlib.Core.List.{map, map-id}
 use mathlib.Core.Path.{◌≡◌, sym, ◌∙◌}
 use Prim.Native.Nat.{ℕ, ◌<◌}
 use Rattle.graph.specs.Network.{Network, MateRule, Proper, edge_count}
-use Rattle.graph.specs.Groups.{component, bridge, bridge_block}
+use Rattle.graph.specs.Groups.{component, bridge, bridge_block, outlive_two}
 use Rattle.graph.specs.Block.{block}
 use Rattle.graph.specs.Between.{bridges_between, cuts_between}
 use Rattle.graph.specs.Reduced.{reduced, reduced_number, full_number}
 use Rattle.graph.proofs.Image.{component_image}
 use Rattle.graph.proofs.ImageBlocks.{bridge_image, bridge_block_image, block_image}
+use Rattle.graph.proofs.ImageLosses.{outlive_two_image}
 use Rattle.graph.proofs.ImageLists.{bridges_between_image, cuts_between_image}
 use Rattle.graph.proofs.Never.{least_never}
 use Rattle.graph.proofs.Reduced.{reduced-never, reduced_rule, full_least, reduced_image, image_reduced, reduced_proper}
@@ -25,6 +26,10 @@ module _ (g : Network) (rule : MateRule g.rule) where
   -- the bridge-blocks are those of the reduced network
   pub bridge_block-reduced : (x y : ℕ) → bridge_block g x y ≡ bridge_block (reduced g) x y
   bridge_block-reduced x y = sym (bridge_block_image (image_reduced g rule) rule (reduced_rule g) x y)
+
+  -- vertices outlive two losses exactly if they do in the reduced network
+  pub outlive_two-reduced : (x y : ℕ) → outlive_two g x y ≡ outlive_two (reduced g) x y
+  outlive_two-reduced x y = sym (outlive_two_image (image_reduced g rule) (reduced_rule g) x y)
 
   -- edges share a block exactly if the edges that stand for them and their mates do
   pub block-reduced : (s t : ℕ) → s < edge_count g → t < edge_count g

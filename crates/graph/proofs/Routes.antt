@@ -120,7 +120,7 @@ module _ (g : Network) where
       ltb_lt s (edge_count g) (each_in (λ s. ltb s (edge_count g)) ss (walk_known ss a b (route_leads a b ss r)) s i)
 
   -- a route no edge of which is lost joins its ends
-  route_joined : (lost : Loss) (a b : ℕ) (ss : List ℕ) → is_route g a b ss ≡ true → all_in (λ s. not (lost s)) ss ≡ true
+  pub route_joined : (lost : Loss) (a b : ℕ) (ss : List ℕ) → is_route g a b ss ≡ true → all_in (λ s. not (lost s)) ss ≡ true
       → joined g lost a b ≡ true
   route_joined lost a b ss r n = walk_joined g lost (steps_along g a ss) a b (route_leads a b ss r) (none_along lost ss a n)
 
@@ -135,6 +135,13 @@ module _ (g : Network) where
   unfolding apart
   apart-mates ss ts w s t i k = false_of_not_true (mates g s t)
       (each_in (λ t. not (mates g s t)) ts (each_in (λ s. all_in (λ t. not (mates g s t)) ts) ss w s i) t k)
+
+  -- of two lists that are apart, the loss of an edge with its mates meets at most one
+  pub apart_spared : MateRule g.rule → (ss ts : List ℕ) → apart g ss ts ≡ true → (s : ℕ)
+      → all_in (λ t. not (mates g s t)) ss ≡ false → all_in (λ t. not (mates g s t)) ts ≡ true
+  apart_spared rule ss ts w s met = all_in_lem (λ t. not (mates g s t)) ts (λ v k. not_of_false (false_of_not (mates g s v) (λ m.
+      not_both (all_in_lem (λ t. not (mates g s t)) ss (λ t i. not_of_false (false_of_not (mates g s t) (λ n.
+      not_both (mates_trans g rule t s v (mates_sym g rule s t n) m) (apart-mates ss ts w t v i k))))) met)))
 
 module _ (g : Network) (a b : ℕ) (r : Routes) (e : serve g a b r ≡ true) where
   -- what two routes that serve are
@@ -170,12 +177,8 @@ served_share g rule a b r e = in_bridge_block g a b
     both : (is_route g a b r.first ≡ true) × (is_route g a b r.second ≡ true) × (apart g r.first r.second ≡ true)
     both = served g a b r e
 
-    spared : (s : ℕ) → all_in (λ t. not (mates g s t)) r.first ≡ false → (v : ℕ) → is_in v r.second ≡ true → mates g s v ≡ true → ⊥
-    spared s met v k m = not_both (all_in_lem (λ t. not (mates g s t)) r.first (λ t i. not_of_false (false_of_not (mates g s t) (λ n.
-        not_both (mates_trans g rule t s v (mates_sym g rule s t n) m) (apart-mates g r.first r.second both.2 t v i k))))) met
-
     outlives : (s : ℕ) → (all_in (λ t. not (mates g s t)) r.first ≡ true) ⊎ (all_in (λ t. not (mates g s t)) r.first ≡ false)
         → joined g (mates g s) a b ≡ true
     outlives s (inl w) = route_joined g (mates g s) a b r.first both.0 w
-    outlives s (inr w) = route_joined g (mates g s) a b r.second both.1
-        (all_in_lem (λ t. not (mates g s t)) r.second (λ v k. not_of_false (false_of_not (mates g s v) (spared s w v k))))
+    outlives s (inr w) =
+        route_joined g (mates g s) a b r.second both.1 (apart_spared g rule r.first r.second both.2 s w)

@@ -11,7 +11,7 @@ use lib.Dec.{eqb, leb, ltb}
 use lib.ListN.{length, length-append, length-map, get_or-append}
 use lib.Seq.{get_or-append-add}
 use Rattle.graph.specs.Network.{Network, Edge, Rule, MateRule, Proper, one_duct, edge, edge_count, touches, parallel, add_vertex, add_edge, mates}
-use Rattle.graph.specs.Groups.{component, bridge_block}
+use Rattle.graph.specs.Groups.{component, bridge_block, outlive_two}
 use Rattle.graph.specs.Block.{link, block}
 use Rattle.graph.proofs.Truth.{true_or_false, false_of_not, bool_ext, or_neither, not_both, eqb_eq, eqb_same, ne_eqb, lt-ltb, ltb_lt, ge_ltb, ltb_ge, leb_le, le-leb}
 use Rattle.graph.proofs.Below.{Below}
@@ -23,8 +23,10 @@ use Rattle.graph.proofs.Joins.{joins-touches}
 use Rattle.graph.proofs.Links.{Link, link-parts}
 use Rattle.graph.proofs.Block.{block_least}
 use Rattle.graph.proofs.BridgeBlock.{bridge_block-component}
+use Rattle.graph.proofs.TwoLosses.{outlive_two-component}
 use Rattle.graph.proofs.Image.{Image, component_image, component_image_closed}
 use Rattle.graph.proofs.ImageBlocks.{bridge_block_image, block_image, block_image_any}
+use Rattle.graph.proofs.ImageLosses.{outlive_two_image}
 
 -- an edge with its ends raised
 unfoldable pub raise_edge : ℕ → Edge → Edge
@@ -310,6 +312,11 @@ module _ {b g : Network} (w : Beside b g) where
     bridge_block-apart x y l =
         false_of_not (bridge_block both x (m + y)) (λ e. not_both (bridge_block-component both x (m + y) e) (component-apart x y l))
 
+    -- and they do not outlive two losses
+    pub outlive_two-apart : (x y : ℕ) → x < m → outlive_two both x (m + y) ≡ false
+    outlive_two-apart x y l =
+        false_of_not (outlive_two both x (m + y)) (λ e. not_both (outlive_two-component both x (m + y) e) (component-apart x y l))
+
     -- Vertices of the first share a component exactly if they do in the first,
     pub component_of_first : (x y : ℕ) → x < m → y < m → component both x y ≡ component b x y
     component_of_first x y l l' =
@@ -321,7 +328,13 @@ module _ {b g : Network} (w : Beside b g) where
         ap₂ (bridge_block both) (sym (known_in_first b g x l)) (sym (known_in_first b g y l'))
         ∙ bridge_block_image first_image rule rule_of_both x y
 
-    -- edges of it a block
+    -- and outlive two losses exactly if they do in the first
+    pub outlive_two_of_first : (x y : ℕ) → x < m → y < m → outlive_two both x y ≡ outlive_two b x y
+    outlive_two_of_first x y l l' =
+        ap₂ (outlive_two both) (sym (known_in_first b g x l)) (sym (known_in_first b g y l'))
+        ∙ outlive_two_image first_image rule_of_both x y
+
+    -- edges of it share a block exactly if they do in the first
     pub block_of_first : (s t : ℕ) → s < k → t < k → block both s t ≡ block b s t
     block_of_first = block_image first_image rule rule_of_both
 
@@ -331,6 +344,9 @@ module _ {b g : Network} (w : Beside b g) where
 
     pub bridge_block_of_second : (x y : ℕ) → bridge_block both (m + x) (m + y) ≡ bridge_block g x y
     bridge_block_of_second = bridge_block_image second_image rule_of_second rule_of_both
+
+    pub outlive_two_of_second : (x y : ℕ) → outlive_two both (m + x) (m + y) ≡ outlive_two g x y
+    outlive_two_of_second = outlive_two_image second_image rule_of_both
 
     -- whether there are such edges or not
     pub block_of_second : (s t : ℕ) → block both (k + s) (k + t) ≡ block g s t

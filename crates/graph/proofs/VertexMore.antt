@@ -7,7 +7,7 @@ use native.Mathlib.Omega.{arith}
 use lib.Dec.{eqb}
 use Rattle.graph.specs.Below.{all_below}
 use Rattle.graph.specs.Network.{Network, Edge, Loss, Proper, edge, touches, nothing, edge_count, add_vertex, add_edge, mates, loss_of, without, joined}
-use Rattle.graph.specs.Groups.{component, parts, bridge_block}
+use Rattle.graph.specs.Groups.{component, parts, bridge_block, loss_of_both, outlive_two}
 use Rattle.graph.specs.Block.{link, link_at, links, block}
 use Rattle.graph.specs.Between.{is_cut_between}
 use Rattle.graph.proofs.Truth.{bool_ext, or_neither, and_left, and_both, eqb_eq, eqb_same, ne_eqb}
@@ -23,6 +23,11 @@ component_vertex_more g x y = refl
 pub bridge_block_vertex_more : (g : Network) (x y : ℕ) → bridge_block (add_vertex g) x y ≡ bridge_block g x y
 unfolding bridge_block component loss_of mates joined edge edge_count add_vertex
 bridge_block_vertex_more g x y = refl
+
+-- one vertex more changes nothing of which vertices outlive two losses
+pub outlive_two_vertex_more : (g : Network) (x y : ℕ) → outlive_two (add_vertex g) x y ≡ outlive_two g x y
+unfolding outlive_two component loss_of_both loss_of mates joined edge edge_count add_vertex
+outlive_two_vertex_more g x y = refl
 
 -- one vertex more changes no block
 pub block_vertex_more : (g : Network) (s t : ℕ) → block (add_vertex g) s t ≡ block g s t

@@ -10,4 +10,6 @@ pub mod Between
 pub mod Travel
 pub mod Route
 pub mod Reduced
+pub mod EdgeConnected
 pub mod Examples
+pub mod TwoLossExamples

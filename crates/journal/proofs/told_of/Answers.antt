@@ -1,4 +1,4 @@
--- `told_of_lem` tells a refusal with its place, and else the bytes that were counted.
+-- `told_of` tells a refusal with its place, and else the bytes that were counted.
 use native.Mathlib.Omega.{arith}
 use Rattle.forecast.specs.Promise.{foretold}
 use Rattle.journal.proofs.ExactLaws.{tells_refusal, tells_bytes}
