@@ -7,7 +7,7 @@ pub mod RoutesAlike
 pub mod UsedSteps
 pub mod Balance
 pub mod BalanceCuts
-pub mod WaysCarried
 pub mod TwoRoutes
+pub mod WaysCarried
 pub mod WaysFound
 pub mod RoutesApart

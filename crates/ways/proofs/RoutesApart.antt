@@ -18,8 +18,9 @@ use Rattle.ways.specs.Used.{Used, unused, is_used, way_taken}
 use Rattle.ways.specs.TwoRoutes.{edges_of, way_used}
 use Rattle.ways.specs.WaysFound.{ways_taken, ways_found}
 use Rattle.ways.specs.RoutesApart.{all_apart, RoutesApart}
-use Rattle.ways.proofs.WaysCarried.{Carries, unused_carries, one_less}
-use Rattle.ways.proofs.WaysCarried.{along_uses_none, along_route, along_goes, along_uses, along_apart}
+use Rattle.ways.proofs.TwoRoutes.{Carries, unused_carries, one_less}
+use Rattle.ways.proofs.TwoRoutes.{along_uses_none, along_route, along_goes}
+use Rattle.ways.proofs.WaysCarried.{along_uses, along_apart}
 use Rattle.ways.proofs.WaysFound.{ways_found_carried, ways_found_exactly, outlive_two_three_ways}
 
 -- what passes one test passes another that follows from it

@@ -55,13 +55,13 @@ module _ (u : Used) (x s : ℕ) (a : along_used u s x ≡ true) where
 
 module _ {g : Network} where
   -- a way along used edges uses none that was not
-  along_uses_none : {u : Used} {x y : ℕ} {ps : List Step} → Goes g along_used u x ps y
+  pub along_uses_none : {u : Used} {x y : ℕ} {ps : List Step} → Goes g along_used u x ps y
       → (t : ℕ) → is_used (way_taken u x ps) t ≡ true → is_used u t ≡ true
   along_uses_none = goes_least (λ u v x y. (t : ℕ) → is_used v t ≡ true → is_used u t ≡ true)
       (λ u x t e. e) (λ u v w x y z f h t e. f t (h t e)) (λ u x s f a. step_uses_none u x s a)
 
   -- its own edges were used, and are no longer when it is taken
-  along_frees : {u : Used} {x y : ℕ} {ps : List Step} → Goes g along_used u x ps y
+  pub along_frees : {u : Used} {x y : ℕ} {ps : List Step} → Goes g along_used u x ps y
       → (t : ℕ) → is_in t (edges_of ps) ≡ true → (is_used u t ≡ true) × (is_used (way_taken u x ps) t ≡ false)
   unfolding edges_of way_taken is_in
   along_frees arrives t i = absurd (false≢true i)
@@ -151,7 +151,7 @@ outlives_one g a b e (s ∷ []) h k =
 outlives_one g a b e (s ∷ t ∷ ss) h k = absurd (omega arith)
 
 -- the vertices that a search for vertex b does not reach
-unreached : Network → Allowed → ℕ → Set
+pub unreached : Network → Allowed → ℕ → Set
 unreached g allowed b x = not (is_in x (search g allowed b).order)
 
 -- the search for b reaches a, and the way from a leads to b over steps that may be taken, by no vertex twice
@@ -162,13 +162,13 @@ pub record WayFound (g : Network) (allowed : Allowed) (a b : ℕ) : Type 0 where
   pub differ : distinct (visited a (way g allowed a b)) ≡ true
 
 -- a way that is found is a route
-found_route : (g : Network) (allowed : Allowed) (a b : ℕ) → WayFound g allowed a b → is_route g a b (edges_of (way g allowed a b)) ≡ true
+pub found_route : (g : Network) (allowed : Allowed) (a b : ℕ) → WayFound g allowed a b → is_route g a b (edges_of (way g allowed a b)) ≡ true
 unfolding edges_of
 found_route g allowed a b f = walk_is_route g (way g allowed a b) a b f.lead f.differ
 
 module _ (g : Network) (proper : Proper g) (b : ℕ) (known : b < g.vertices) (allowed : Allowed) where
   -- no step that may be taken leads from a vertex that is not reached to one that is
-  unreached_shut : (x s : ℕ) → unreached g allowed b x ≡ true → s < edge_count g → touches (edge g s) x ≡ true → allowed s x ≡ true
+  pub unreached_shut : (x s : ℕ) → unreached g allowed b x ≡ true → s < edge_count g → touches (edge g s) x ≡ true → allowed s x ≡ true
       → unreached g allowed b (other_end (edge g s) x) ≡ true
   unfolding unreached
   unreached_shut x s n h t a = not_of_false (false_of_not (is_in y (search g allowed b).order) (λ r.
@@ -181,19 +181,21 @@ module _ (g : Network) (proper : Proper g) (b : ℕ) (known : b < g.vertices) (a
       back : other_end (edge g s) y ≡ x
       back = other_end_back (edge g s) x t
 
-  -- the goal is reached, so a way from a is found unless it can be that a is not reached and the goal is
-  way_found : (a : ℕ) → (unreached g allowed b a ≡ true → unreached g allowed b b ≡ false → ⊥) → WayFound g allowed a b
-  unfolding unreached
-  way_found a w = record {
+  -- where the search reaches a, the way from a is found
+  pub reached_found : (a : ℕ) → is_in a (search g allowed b).order ≡ true → WayFound g allowed a b
+  reached_found a r = record {
     reached = r;
     lead = way-leads g proper allowed b known a r;
     all_allowed_lem = way_allowed g proper allowed b known a r;
     differ = way-distinct g proper allowed b known a r;
   }
-    where
-      r : is_in a (search g allowed b).order ≡ true
-      r = ⊎_elim (λ e. e) (λ n. absurd (w (not_of_false n) (not_of_true (goal_reached g proper allowed b known))))
-          (true_or_false (is_in a (search g allowed b).order))
+
+  -- the goal is reached, so a way from a is found unless it can be that a is not reached and the goal is
+  pub way_found : (a : ℕ) → (unreached g allowed b a ≡ true → unreached g allowed b b ≡ false → ⊥) → WayFound g allowed a b
+  unfolding unreached
+  way_found a w = reached_found a (⊎_elim (λ e. e)
+      (λ n. absurd (w (not_of_false n) (not_of_true (goal_reached g proper allowed b known))))
+      (true_or_false (is_in a (search g allowed b).order)))
 
 module _ (g : Network) (proper : Proper g) (rule : MateRule g.rule) (a b : ℕ) (known : b < g.vertices) where
   module _ (share : bridge_block g a b ≡ true) (u : Used) (k : ℕ) (few : k ≤ 1) (c : Carries g u a b k) where
@@ -228,12 +230,12 @@ module _ (g : Network) (proper : Proper g) (rule : MateRule g.rule) (a b : ℕ) 
         q)
 
     -- it is a route
-    along_route : is_route g a b (edges_of (way_used g a b u)) ≡ true
+    pub along_route : is_route g a b (edges_of (way_used g a b u)) ≡ true
     unfolding way_used
     along_route = found_route g (along_used u) a b along_found
 
     -- each of its steps fits when its turn comes
-    along_goes : Goes g along_used u a (way_used g a b u) b
+    pub along_goes : Goes g along_used u a (way_used g a b u) b
     unfolding way_used
     along_goes = lasting_goes (along_lasting g) (way_used g a b u) u a b along_found.lead along_found.all_allowed_lem along_found.differ
 

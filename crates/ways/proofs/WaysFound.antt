@@ -14,7 +14,8 @@ use Rattle.graph.proofs.Outlives.{fewer_losses, component_exactly, bridge_block_
 use Rattle.ways.specs.Used.{Used, one_more}
 use Rattle.ways.specs.WaysFound.{more_found, ways_taken, ways_found}
 use Rattle.ways.proofs.BalanceCuts.{more_ways_than_losses}
-use Rattle.ways.proofs.WaysCarried.{same_loss, Carries, unused_carries, WayFound, reached_found, more_found_lem, one_more_lem}
+use Rattle.ways.proofs.TwoRoutes.{Carries, unused_carries, WayFound, reached_found}
+use Rattle.ways.proofs.WaysCarried.{same_loss, more_found_lem, one_more_lem}
 
 -- where more ways are found, fewer are
 pub fewer_found : (g : Network) (a b j k : ℕ) → j ≤ k → ways_found g a b k ≡ true → ways_found g a b j ≡ true

@@ -1,9 +1,8 @@
 -- `count_answers` tells a start refusal, or the run without answers, with the table cleared behind it.
 use native.Mathlib.Omega.{arith}
-use lib.ListN.{length}
 use Rattle.forecast.specs.Promise.{foretold}
 use Rattle.run.specs.Promise.{capacities_of}
-use Rattle.journal.proofs.EntryLaws.{Begins, run_asks, begins}
+use Rattle.journal.proofs.EntryLaws.{run_asks, begins}
 use Rattle.journal.proofs.ExactLaws.{counts_at_start, counts_by_run}
 use Rattle.journal.proofs.count_answers.Goals as goal
 
@@ -21,43 +20,19 @@ returns-then-refusal-ne0 c =
 
 pub overflow_cast-limits : goal.overflow_cast-limits
 overflow_cast-limits c =
-    let begun : Begins (record { cabinets = c.args.c; spans = c.args.s }) (length c.args.journal.now) (length c.args.work.now) 6 =
-    begins
-    (record { cabinets = c.args.c; spans = c.args.s })
-    c.args.journal.now
-    (length c.args.work.now)
-    6
-    c.start_refusal-refusal.result
-    c.start_refusal-refusal.ensures
-    (omega (arith, c.if-refusal-ne0.false)) in
-    omega (arith, (begun).few_cabinets)
+    let begun = begins _ c.args.journal.now _ 6 _ c.start_refusal-refusal.ensures (omega (arith, c.if-refusal-ne0.false)) in
+    omega (arith, begun.few_cabinets)
 
 pub overflow_cast-limits-2 : goal.overflow_cast-limits-2
 overflow_cast-limits-2 c =
-    let begun : Begins (record { cabinets = c.args.c; spans = c.args.s }) (length c.args.journal.now) (length c.args.work.now) 6 =
-    begins
-    (record { cabinets = c.args.c; spans = c.args.s })
-    c.args.journal.now
-    (length c.args.work.now)
-    6
-    c.start_refusal-refusal.result
-    c.start_refusal-refusal.ensures
-    (omega (arith, c.if-refusal-ne0.false)) in
-    omega (arith, (begun).few_spans)
+    let begun = begins _ c.args.journal.now _ 6 _ c.start_refusal-refusal.ensures (omega (arith, c.if-refusal-ne0.false)) in
+    omega (arith, begun.few_spans)
 
 pub run_unanswered-p-requires : goal.run_unanswered-p-requires
 unfolding capacities_of
 run_unanswered-p-requires c =
-    let begun : Begins (record { cabinets = c.args.c; spans = c.args.s }) (length c.args.journal.now) (length c.args.work.now) 6 =
-    begins
-    (record { cabinets = c.args.c; spans = c.args.s })
-    c.args.journal.now
-    (length c.args.work.now)
-    6
-    c.start_refusal-refusal.result
-    c.start_refusal-refusal.ensures
-    (omega (arith, c.if-refusal-ne0.false)) in
-    run_asks (record { vertices = c.args.c; edges = c.args.s }) (begun)
+    let begun = begins _ c.args.journal.now _ 6 _ c.start_refusal-refusal.ensures (omega (arith, c.if-refusal-ne0.false)) in
+    run_asks (record { vertices = c.args.c; edges = c.args.s }) begun
 
 pub told_of-requires : goal.told_of-requires
 told_of-requires c =

@@ -1,5 +1,5 @@
 -- `climb::climb` leaves the path that the model leaves: up from both ends, then the right side turned round behind the left.
-use Rattle.std.proofs.Common.{◌+◌, ◌<◌, arith}
+use Rattle.std.proofs.Common.{arith}
 use Rattle.forest.specs.Inside.Climb.{climb_both, climb_table, climb_route}
 use Rattle.forest.proofs.ClimbSteps.{kept_most, reach_most}
 use Rattle.forest.proofs.climb.climb.Goals as goal
@@ -10,20 +10,20 @@ climb_on-r-requires c =
     omega arith
 
 pub join-requires : goal.join-requires
-join-requires c =
-    let few : c.kept_left-kept.result + c.climb_on-r.result.right < 4294967295 =
-    let kept = kept_most _ _ _ _ c.kept_left-kept.ensures in
-    let most = reach_most _ _ _ _ _ c.reach_of-remaining.ensures in
-    omega (arith, c.climb_on-r.ensures.2) in
-    few
+join-requires c = omega (
+  arith,
+  kept_most _ _ _ _ c.kept_left-kept.ensures,
+  reach_most _ _ _ _ _ c.reach_of-remaining.ensures,
+  c.climb_on-r.ensures.2,
+)
 
 pub overflow_add-result : goal.overflow_add-result
-overflow_add-result c =
-    let few : c.kept_left-kept.result + c.climb_on-r.result.right < 4294967295 =
-    let kept = kept_most _ _ _ _ c.kept_left-kept.ensures in
-    let most = reach_most _ _ _ _ _ c.reach_of-remaining.ensures in
-    omega (arith, c.climb_on-r.ensures.2) in
-    omega (arith, few)
+overflow_add-result c = omega (
+  arith,
+  kept_most _ _ _ _ c.kept_left-kept.ensures,
+  reach_most _ _ _ _ _ c.reach_of-remaining.ensures,
+  c.climb_on-r.ensures.2,
+)
 
 pub returns : goal.returns
 unfolding climb_table climb_route climb_both

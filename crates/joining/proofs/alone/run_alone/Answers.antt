@@ -1,9 +1,7 @@
 -- `run_alone` refuses a journal that is too long or whose run is refused, and else gives the size of its network.
-use mathlib.Core.Bool.{true}
-use mathlib.Core.Path.{◌≡◌, refl}
+use mathlib.Core.Path.{refl}
 use native.Mathlib.Omega.{arith}
 use lib.ListN.{length}
-use Rattle.commands.specs.Bytes.{all_bytes}
 use Rattle.commands.proofs.Bytes.{bytes_by_place}
 use Rattle.forest.specs.Promise.{same_beyond_refl}
 use Rattle.joining.specs.Inside.Alone.{greatest}
@@ -12,8 +10,7 @@ use Rattle.joining.proofs.alone.run_alone.Goals as goal
 
 pub returns-then-journal-gt65536 : goal.returns-then-journal-gt65536
 returns-then-journal-gt65536 c =
-    let bytes : all_bytes c.args.journal.now ≡ true =
-    bytes_by_place c.args.journal.now (λ i h. omega (arith, c.type_inv.journal i)) in
+    let bytes = bytes_by_place c.args.journal.now (λ i h. omega (arith, c.type_inv.journal i)) in
     (too_long_alone c.args.journal.now (omega (arith, c.if-journal-gt65536.true)), same_beyond_refl greatest c.args.work.now, bytes)
 
 pub run_unanswered-p-requires : goal.run_unanswered-p-requires
@@ -23,8 +20,7 @@ run_unanswered-p-requires c =
 
 pub returns-then-p-ne0 : goal.returns-then-p-ne0
 returns-then-p-ne0 c =
-    let bytes : all_bytes c.args.journal.now ≡ true =
-    bytes_by_place c.args.journal.now (λ i h. omega (arith, c.type_inv.journal i)) in
+    let bytes = bytes_by_place c.args.journal.now (λ i h. omega (arith, c.type_inv.journal i)) in
     let journal = c.args.journal.now in
     let is = c.greatest_limits.ensures in
     let ran = c.run_unanswered-p.ensures in
@@ -54,8 +50,7 @@ overflow_cast-result-2 c =
 
 pub returns : goal.returns
 returns c =
-    let bytes : all_bytes c.args.journal.now ≡ true =
-    bytes_by_place c.args.journal.now (λ i h. omega (arith, c.type_inv.journal i)) in
+    let bytes = bytes_by_place c.args.journal.now (λ i h. omega (arith, c.type_inv.journal i)) in
     let journal = c.args.journal.now in
     let is = c.greatest_limits.ensures in
     let ran = c.run_unanswered-p.ensures in (

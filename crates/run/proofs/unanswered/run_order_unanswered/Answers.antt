@@ -4,7 +4,7 @@ use Rattle.commands.proofs.TextAt.{operands_stand}
 use Rattle.forest.specs.Promise.{few_vertices, few_edges}
 use Rattle.reading.specs.Inside.Reads.{meaning}
 use Rattle.run.proofs.Course.{ends-without_answers}
-use Rattle.run.proofs.Further.{CarriedOut, was_done, step_refused_on}
+use Rattle.run.proofs.Further.{was_done, step_refused_on}
 use Rattle.run.proofs.FurtherUnanswered.{can_be_counted, counted_on}
 use Rattle.run.proofs.unanswered.run_order_unanswered.Goals as goal
 
@@ -25,15 +25,8 @@ shape_after-next-requires c =
 
 pub overflow_add-result-in-Done : goal.overflow_add-result-in-Done
 overflow_add-result-in-Done c =
-    let done : CarriedOut c.args.p.shape (meaning c.args.order) c.args.work.now c.step-stepped.new.t c.in-Done.reply =
-    was_done
-    c.args.p.shape
-    (meaning c.args.order)
-    c.args.work.now
-    c.step-stepped.new.t
-    c.in-Done.reply
-    (rw c.in-Done.is at c.step-stepped.ensures) in
-    omega (arith, can_be_counted c.requires.underway c.requires.reads (done), c.size_of.ensures)
+    let done = was_done _ _ c.args.work.now _ _ (rw c.in-Done.is at c.step-stepped.ensures) in
+    omega (arith, can_be_counted c.requires.underway c.requires.reads done, c.size_of.ensures)
 
 pub returns-in-Refused : goal.returns-in-Refused
 returns-in-Refused c =
@@ -49,18 +42,11 @@ returns-in-Refused c =
 
 pub returns-in-Done : goal.returns-in-Done
 returns-in-Done c =
-    let done : CarriedOut c.args.p.shape (meaning c.args.order) c.args.work.now c.step-stepped.new.t c.in-Done.reply =
-    was_done
-    c.args.p.shape
-    (meaning c.args.order)
-    c.args.work.now
-    c.step-stepped.new.t
-    c.in-Done.reply
-    (rw c.in-Done.is at c.step-stepped.ensures) in
+    let done = was_done _ _ c.args.work.now _ _ (rw c.in-Done.is at c.step-stepped.ensures) in
     counted_on
     c.requires.underway
     c.requires.reads
-    (done)
+    done
     c.shape_after-next.ensures
     (omega (arith, c.place_after-place.ensures))
     (omega arith)
