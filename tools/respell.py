@@ -1,7 +1,8 @@
 #!/usr/bin/env python3
 """Respells the repository's own names of definitions, lemmas, fields and constructors: `placeAfter` and `is-told` to `place_after` and `is_told`.
 
-usage: respell.py table ROOT      makes tools/respell.tsv beside this script from the law files and definitions of the tree ROOT
+usage: respell.py table ROOT      makes tools/respell.tsv beside this script from the law files and definitions of the tree ROOT; the table
+                                 that stands here has rows by hand besides
        respell.py turn ROOT       respells ROOT by that table, in place: .antt files, the clauses of .rt files, and code spans of README.md and docs/
 
 A dash stays between two names of definitions (`bridge_block-reduced`). A lemma that would have the name of a definition gets `_lem`. Names of
