@@ -3,15 +3,15 @@
 #![tactic(auto)]
 
 // The number of a vertex. Component and bridge-block names are vertices.
-#[derive(Clone, Copy)]
+#[derive(Clone, Copy, PartialEq, Eq)]
 pub struct Vertex(pub u32);
 
 // The number of an edge. Block names are edges.
-#[derive(Clone, Copy)]
+#[derive(Clone, Copy, PartialEq, Eq)]
 pub struct Edge(pub u32);
 
 // The number of a duct; 0 where none is told.
-#[derive(Clone, Copy)]
+#[derive(Clone, Copy, PartialEq, Eq)]
 pub struct Duct(pub u16);
 
 // A length in metres, and the day on which it was measured.
