@@ -14,7 +14,7 @@ use Rattle.table.specs.Inside.Merge.{name_in}
 use Rattle.table.specs.Inside.KindValid.{passing, Counts}
 use Rattle.table.proofs.Cells.{HasColumns}
 use Rattle.table.proofs.KindNames.{name_known, one_name, one_group}
-use Rattle.forest.specs.declared.Shape.{Shape}
+use Rattle.numbers.specs.declared.Shape.{Shape}
 use Rattle.forest.specs.Inside.Tree.{mark_table}
 use Rattle.forest.specs.Inside.Valid.{network_of, book_of, marked_in, Valid}
 use Rattle.forest.specs.Promise.{Holds, state_of, VertexMarked}

@@ -15,7 +15,7 @@ use Rattle.table.specs.Inside.Column
 use Rattle.table.specs.Inside.Layout.{cell, put, vertex_area, bridge_block_area, edge_area}
 use Rattle.table.proofs.Cells.{HasColumns, cell-put-same, cell_put_other_item, cell-bridge_block}
 use Rattle.table.proofs.KindNames.{name_in_list}
-use Rattle.forest.specs.declared.Shape.{Shape}
+use Rattle.numbers.specs.declared.Shape.{Shape}
 use Rattle.forest.specs.Inside.Climb.{block_of, path_vertex, path_edge, climb_table, climb_route}
 use Rattle.forest.specs.Inside.Route.{step_at, steps_of}
 use Rattle.forest.specs.Inside.Valid.{Valid, network_of, book_of}

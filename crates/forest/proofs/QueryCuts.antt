@@ -6,7 +6,7 @@ use Rattle.graph.specs.Groups.{component}
 use Rattle.graph.specs.Between.{cuts_between}
 use Rattle.graph.proofs.PathCuts.{inner, cuts_of_block_path}
 use Rattle.numbers.specs.declared.Limits.{Limits}
-use Rattle.forest.specs.declared.Shape.{Shape}
+use Rattle.numbers.specs.declared.Shape.{Shape}
 use Rattle.forest.specs.Inside.Climb.{path_vertex, climb_table, climb_route}
 use Rattle.forest.specs.Inside.Route.{step_at, steps_of}
 use Rattle.forest.specs.Inside.Valid.{network_of, book_of}

@@ -9,7 +9,7 @@ use Rattle.numbers.specs.declared.Limits.{Limits}
 use Rattle.table.specs.Inside.Layout.{vertex_area, bridge_block_area, edge_area}
 use Rattle.table.specs.Inside.Merge.{name_in, size_in}
 use Rattle.table.proofs.KindNames.{name_in_list, same-group}
-use Rattle.forest.specs.declared.Shape.{Shape}
+use Rattle.numbers.specs.declared.Shape.{Shape}
 use Rattle.forest.specs.declared.VertexGroups.{VertexGroups}
 use Rattle.forest.specs.declared.VertexGroups.TheVariants as G
 use Rattle.forest.specs.Inside.Words.{group_area}

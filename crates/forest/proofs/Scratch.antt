@@ -5,7 +5,7 @@ use Rattle.numbers.specs.declared.Limits.{Limits}
 use Rattle.table.specs.Inside.Column
 use Rattle.table.specs.Inside.Layout.{cell, put, vertex_area, edge_area}
 use Rattle.table.proofs.Cells.{cell-put-same, cell_put_other_column, cell_put_other_item, cell_edge_after_vertex, cell_vertex_after_edge}
-use Rattle.forest.specs.declared.Shape.{Shape}
+use Rattle.numbers.specs.declared.Shape.{Shape}
 use Rattle.forest.specs.Promise.{scratch_words, Holds, vertex_scratch, edge_scratch, VertexScratchStored, EdgeScratchStored}
 use Rattle.forest.proofs.Columns.{among, scratch}
 use Rattle.forest.proofs.Beyond.{frame_beyond}

@@ -10,7 +10,7 @@ use Rattle.numbers.specs.declared.Limits.{Limits}
 use Rattle.table.specs.Inside.Column
 use Rattle.table.specs.Inside.Layout.{edge_area}
 use Rattle.table.proofs.Cells.{HasColumns}
-use Rattle.forest.specs.declared.Shape.{Shape}
+use Rattle.numbers.specs.declared.Shape.{Shape}
 use Rattle.forest.specs.Inside.Surveys.{is_surveyed, is_replaced, kept_day, survey_stored, survey_table, length_in}
 use Rattle.forest.specs.Inside.Valid.{book_of, survey_kept, surveys_in, Valid}
 use Rattle.forest.specs.Promise.{Holds, state_of, SurveyEntered, same_beyond_refl, length_given}

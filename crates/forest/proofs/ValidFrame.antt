@@ -11,7 +11,7 @@ use Rattle.table.specs.Inside.KindValid.{Counts}
 use Rattle.table.proofs.KindNames.{name_known}
 use Rattle.forest.specs.Inside.Climb.{up_of, depth_of, above_edge}
 use Rattle.forest.specs.Inside.Valid.{network_of, book_of, marked_in, HangsBelow, ForestValid, Valid}
-use Rattle.forest.specs.declared.Shape.{Shape}
+use Rattle.numbers.specs.declared.Shape.{Shape}
 use Rattle.forest.specs.Promise.{Holds, state_of, ListWritten}
 use Rattle.forest.proofs.Columns.{scratch, mark_columns, edge_columns}
 use Rattle.forest.proofs.KindWords.{names_same, kind_same, counts_same}

@@ -13,7 +13,7 @@ use Rattle.naming.specs.State.{State, Agree, empty_state, after_addition, record
 use Rattle.numbers.specs.declared.Limits.{Limits}
 use Rattle.table.specs.Inside.Column
 use Rattle.table.specs.Inside.Layout.{cell, vertex_area, edge_area}
-use Rattle.forest.specs.declared.Shape.{Shape}
+use Rattle.numbers.specs.declared.Shape.{Shape}
 use Rattle.forest.specs.declared.VertexGroups.{VertexGroups}
 use Rattle.forest.specs.declared.VertexGroups.TheVariants as G
 use Rattle.forest.specs.declared.Growth.{Growth}

@@ -21,19 +21,11 @@ pub mod query;
 pub mod survey;
 pub mod tree;
 
-use numbers::{Duct, Edge, Limits, Measure, Vertex};
+use numbers::{Duct, Edge, Limits, Measure, Shape, Vertex};
 use table::words::{
     Area, CHANGED, ENDS, MARK, MARK_COUNT, NAME, PATH_VERTEX, RIGHT_EDGE, SIZE, WORDS_PER_EDGE,
     WORDS_PER_VERTEX, bridge_block_area, edge_area, set_word, vertex_area, word, word_behind,
 };
-
-// How many vertices and edges the table has words for, and how many it holds.
-#[derive(Clone, Copy)]
-pub struct Shape {
-    pub limits: Limits,
-    pub vertices: u32,
-    pub edges: u32,
-}
 
 // The two kinds of groups of vertices.
 #[derive(Clone, Copy)]

@@ -4,8 +4,8 @@
 ghost use Rattle.std.specs.Prelude.{◌<◌};
 ghost use Rattle.forest.specs.Promise.{Holds};
 
-use forest::{Growth, Shape, Shared, VertexGroups};
-use numbers::{Duct, Edge, Limits, Vertex};
+use forest::{Growth, Shared, VertexGroups};
+use numbers::{Duct, Edge, Limits, Shape, Vertex};
 use std::io;
 
 // The lists that an operation leaves in the table: the items that changed their name, and what lies between two vertices.

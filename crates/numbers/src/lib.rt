@@ -1,5 +1,5 @@
 // The numbers of vertices, of edges and of ducts, and lengths with their days, so that none is taken for another; and how many vertices and
-// edges a table has words for.
+// edges a table has words for, and how many it holds.
 #![tactic(auto)]
 
 // The number of a vertex. Component and bridge-block names are vertices.
@@ -15,15 +15,23 @@ pub struct Edge(pub u32);
 pub struct Duct(pub u16);
 
 // A length in metres, and the day on which it was measured.
-#[derive(Clone, Copy)]
+#[derive(Clone, Copy, PartialEq, Eq)]
 pub struct Measure {
     pub day: u16,
     pub metres: u16,
 }
 
 // The most vertices and edges that a table has words for.
-#[derive(Clone, Copy)]
+#[derive(Clone, Copy, PartialEq, Eq)]
 pub struct Limits {
     pub vertices: u16,
     pub edges: u16,
+}
+
+// How many vertices and edges a table has words for, and how many it holds.
+#[derive(Clone, Copy, PartialEq, Eq)]
+pub struct Shape {
+    pub limits: Limits,
+    pub vertices: u32,
+    pub edges: u32,
 }

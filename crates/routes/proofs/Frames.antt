@@ -12,7 +12,7 @@ use Rattle.graph.proofs.Truth.{true_or_false, not_both, eqb_eq, eqb_ne}
 use Rattle.graph.proofs.Ducts.{one_duct-mates}
 use Rattle.naming.proofs.Listed.{tabulate_same}
 use Rattle.ways.specs.Used.{Used}
-use Rattle.forest.specs.declared.Shape.{Shape}
+use Rattle.numbers.specs.declared.Shape.{Shape}
 use Rattle.forest.specs.Promise.{Holds, network_in, table_rule_lem, vertices_held, edges_held, vertices_fit, edges_fit, proper_held, rule_held, same_beyond_refl, same_beyond_trans, scratch_words, vertex_scratch, VertexScratchStored, EdgeScratchStored}
 use Rattle.routes.specs.Inside.Frame.{head_column, Free, Only, edges_only, column_only, Written}
 use Rattle.routes.specs.Inside.Lists.{Linked, Listed}

@@ -11,7 +11,7 @@ use Rattle.graph.specs.Network.{Network, edge, edge_count, touches, mates}
 use Rattle.graph.proofs.Truth.{true_or_false, false_of_not, not_both, and_right, eqb_swap, ne_eqb, eqb_ne}
 use Rattle.graph.proofs.Below.{below_or_last, some_below}
 use Rattle.ways.specs.Used.{unused, is_used, mate_used}
-use Rattle.forest.specs.declared.Shape.{Shape}
+use Rattle.numbers.specs.declared.Shape.{Shape}
 use Rattle.forest.specs.Promise.{Holds, network_in, vertices_held, edges_held, vertices_fit, edges_fit, few_edges, proper_held, scratch_words, vertex_scratch, edge_scratch, VertexScratchStored, EdgeScratchStored}
 use Rattle.routes.specs.Inside.Frame.{head_column, Only, column_only, edges_only, ColumnCleared}
 use Rattle.routes.specs.Inside.Lists.{last_at, entries_of, Linked, use_of, Listed, lists_only, EdgeEntered, ListsBuilt}

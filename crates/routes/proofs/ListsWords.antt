@@ -9,7 +9,7 @@ use lib.Dec.{eqb}
 use Rattle.graph.specs.Network.{Network, edge, edge_count, touches}
 use Rattle.graph.proofs.Truth.{true_or_false, eqb_eq, eqb_ne}
 use Rattle.ways.specs.Search.{Allowed, Found, look, look_below}
-use Rattle.forest.specs.declared.Shape.{Shape}
+use Rattle.numbers.specs.declared.Shape.{Shape}
 use Rattle.forest.specs.Promise.{Holds, network_in, few_edges, vertex_scratch}
 use Rattle.routes.specs.Inside.Frame.{head_column}
 use Rattle.routes.specs.Inside.Lists.{last_at, entries_of, Linked, entry_behind}

@@ -18,7 +18,7 @@ use Rattle.ways.specs.TwoRoutes.{edges_of, way_more, with_one_more, none_back, w
 use Rattle.ways.proofs.SearchWay.{way_short}
 use Rattle.ways.proofs.UsedSteps.{more_fits, along_fits}
 use Rattle.ways.proofs.TwoRoutes.{Carries, unused_carries, WayFound, more_found_lem, one_more_lem, along_found, one_less}
-use Rattle.forest.specs.declared.Shape.{Shape}
+use Rattle.numbers.specs.declared.Shape.{Shape}
 use Rattle.forest.specs.Promise.{Holds, state_of, network_in, SameBeyond, vertices_held, vertices_fit, same_beyond_trans, vertex_scratch}
 use Rattle.routes.specs.declared.search.Allowance.{Allowance}
 use Rattle.routes.specs.declared.search.Allowance.TheVariants as A

@@ -15,7 +15,7 @@ use Rattle.naming.proofs.Listed.{tabulate_same}
 use Rattle.ways.specs.Search.{Allowed, Found, linked, look, step_of, Fits, Orderly, goes_further}
 use Rattle.ways.specs.Used.{Used}
 use Rattle.ways.proofs.SearchOrder.{goal_in_order, in_order_exactly, order_fits_more}
-use Rattle.forest.specs.declared.Shape.{Shape}
+use Rattle.numbers.specs.declared.Shape.{Shape}
 use Rattle.forest.specs.Promise.{Holds, network_in, vertices_held, edges_held, proper_held, vertex_scratch, edge_scratch}
 use Rattle.routes.specs.declared.search.Allowance.{Allowance}
 use Rattle.routes.specs.Inside.Frame.{next_column, order_column, Only, search_only, Written}

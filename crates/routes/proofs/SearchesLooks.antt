@@ -9,7 +9,7 @@ use Rattle.graph.specs.Network.{Network, edge_count}
 use Rattle.ways.specs.Search.{Found, look, look_below}
 use Rattle.ways.specs.Used.{Used}
 use Rattle.ways.proofs.SearchOrder.{in_order_known, look_grows, grown_reached}
-use Rattle.forest.specs.declared.Shape.{Shape}
+use Rattle.numbers.specs.declared.Shape.{Shape}
 use Rattle.forest.specs.Promise.{Holds, vertex_scratch}
 use Rattle.routes.specs.declared.search.Allowance.{Allowance}
 use Rattle.routes.specs.Inside.Frame.{head_column, Only, search_only}

@@ -6,7 +6,7 @@ use Prim.Native.Nat.{ℕ, suc}
 use native.Mathlib.Omega.{arith}
 use lib.Dec.{eqb}
 use Rattle.graph.proofs.Truth.{or_neither_left, or_neither_right}
-use Rattle.forest.specs.declared.Shape.{Shape}
+use Rattle.numbers.specs.declared.Shape.{Shape}
 use Rattle.forest.specs.Promise.{VertexScratchStored}
 use Rattle.routes.specs.Inside.Frame.{next_column, order_column, Only, search_only, column_only, ColumnCleared}
 use Rattle.routes.specs.Inside.Searches.{Reached, Begun}

@@ -15,7 +15,7 @@ use Rattle.ways.specs.Used.{Used, Usable}
 use Rattle.ways.proofs.SearchOrder.{at_place_in, later_turns_grow}
 use Rattle.ways.proofs.SearchClosed.{reached_known}
 use Rattle.ways.proofs.SearchWay.{grown_way}
-use Rattle.forest.specs.declared.Shape.{Shape}
+use Rattle.numbers.specs.declared.Shape.{Shape}
 use Rattle.forest.specs.Promise.{Holds, network_in, vertices_held, vertex_scratch}
 use Rattle.routes.specs.declared.search.Allowance.{Allowance}
 use Rattle.routes.specs.Inside.Frame.{next_column, order_column, search_only}

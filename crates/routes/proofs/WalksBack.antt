@@ -18,7 +18,7 @@ use Rattle.naming.proofs.Listed.{get_or-tabulate}
 use Rattle.ways.specs.Used.{Used, is_used, mate_used}
 use Rattle.ways.specs.TwoRoutes.{edges_of, none_back}
 use Rattle.ways.proofs.SearchOrder.{at_place_in}
-use Rattle.forest.specs.declared.Shape.{Shape}
+use Rattle.numbers.specs.declared.Shape.{Shape}
 use Rattle.forest.specs.Promise.{vertex_scratch, edge_scratch}
 use Rattle.routes.specs.Inside.Lists.{along_code, use_of, Listed}
 use Rattle.routes.specs.Inside.Walks.{TakesBack}

@@ -11,7 +11,7 @@ use Rattle.graph.proofs.Truth.{true_or_false, false_of_not, not_both, bool_ext, 
 use Rattle.graph.proofs.Truth.{eqb_eq, eqb_ne, leb_le, le-leb}
 use Rattle.graph.proofs.Ends.{touched_known}
 use Rattle.ways.proofs.UsedSteps.{mates_touch}
-use Rattle.forest.specs.declared.Shape.{Shape}
+use Rattle.numbers.specs.declared.Shape.{Shape}
 use Rattle.forest.specs.Promise.{Holds, network_in, vertices_held, proper_held, vertex_scratch}
 use Rattle.routes.specs.Inside.Frame.{head_column}
 use Rattle.routes.specs.Inside.Lists.{last_at, Linked, entry_behind}

@@ -9,7 +9,7 @@ use lib.Dec.{eqb}
 use Rattle.graph.specs.Network.{Network, MateRule, edge, edge_count, mates}
 use Rattle.graph.proofs.Truth.{true_or_false, eqb_eq, eqb_ne}
 use Rattle.ways.specs.Used.{Used, is_used, mate_used, step_taken, Usable, StepFits}
-use Rattle.forest.specs.declared.Shape.{Shape}
+use Rattle.numbers.specs.declared.Shape.{Shape}
 use Rattle.forest.specs.Promise.{network_in, edge_scratch}
 use Rattle.routes.specs.Inside.Lists.{along_code, use_of, Linked, Listed}
 use Rattle.routes.specs.Inside.Walks.{taken_use, mates_use, is_other_mate, UsesSet, MatesSet, StepDone}

@@ -14,7 +14,7 @@ use Rattle.naming.proofs.Listed.{get_or-tabulate}
 use Rattle.ways.specs.Used.{Used, step_taken, way_taken, Usable, WayFits, goes_further}
 use Rattle.ways.specs.TwoRoutes.{edges_of}
 use Rattle.ways.proofs.UsedSteps.{step_usable}
-use Rattle.forest.specs.declared.Shape.{Shape}
+use Rattle.numbers.specs.declared.Shape.{Shape}
 use Rattle.forest.specs.Promise.{Holds, network_in, vertices_held, vertices_fit, scratch_words, vertex_scratch}
 use Rattle.routes.specs.Inside.Frame.{Only, edges_only, Written}
 use Rattle.routes.specs.Inside.Lists.{Listed, far_end}

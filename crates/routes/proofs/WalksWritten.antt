@@ -17,7 +17,7 @@ use Rattle.ways.specs.Search.{Found, way_by, step_of, Orderly}
 use Rattle.ways.specs.TwoRoutes.{edges_of}
 use Rattle.ways.proofs.SearchOrder.{in_order_exactly}
 use Rattle.ways.proofs.SearchWay.{way-at_goal, NextStep, way_goes_on}
-use Rattle.forest.specs.declared.Shape.{Shape}
+use Rattle.numbers.specs.declared.Shape.{Shape}
 use Rattle.forest.specs.Promise.{network_in, vertices_held, vertices_fit, proper_held, scratch_words, vertex_scratch, VertexScratchStored}
 use Rattle.routes.specs.Inside.Frame.{next_column, Only, column_only, Written}
 use Rattle.routes.specs.Inside.Lists.{far_end}

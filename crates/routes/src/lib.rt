@@ -15,8 +15,8 @@ pub mod walk;
 use crate::lists::build_lists;
 use crate::search::{Allowance, search};
 use crate::walk::{take_way, takes_back, write_way};
-use forest::{Shape, vertex_scratch};
-use numbers::{Edge, Vertex};
+use forest::vertex_scratch;
+use numbers::{Edge, Shape, Vertex};
 
 // The vertices' scratch words: the first entry of a vertex's list of edges, its step towards the goal, the vertices in the order in which they
 // were reached, and the first route. The second route stands where the vertices in order stood.

@@ -6,10 +6,8 @@ ghost use Rattle.routes.specs.Inside.Frame.{head_column, ColumnCleared};
 ghost use Rattle.routes.specs.Inside.Lists.{EdgeEntered, ListsBuilt, far_end, entry_behind};
 
 use crate::HEAD;
-use forest::{
-    Ends, Shape, edge_scratch, ends_of, set_edge_scratch, set_vertex_scratch, vertex_scratch,
-};
-use numbers::{Edge, Vertex};
+use forest::{Ends, edge_scratch, ends_of, set_edge_scratch, set_vertex_scratch, vertex_scratch};
+use numbers::{Edge, Shape, Vertex};
 
 // The lesser of two numbers.
 pub(crate) fn lesser(a: u32, b: u32) -> u32

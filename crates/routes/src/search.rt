@@ -7,8 +7,8 @@ ghost use Rattle.routes.specs.declared.search.Allowance.TheVariants as Variants;
 
 use crate::lists::{clear_column, entry_behind, first_entry, other_end};
 use crate::{NEXT, ORDER};
-use forest::{Shape, edge_scratch, ends_of, set_vertex_scratch, vertex_scratch};
-use numbers::{Edge, Vertex};
+use forest::{edge_scratch, ends_of, set_vertex_scratch, vertex_scratch};
+use numbers::{Edge, Shape, Vertex};
 
 // Which steps a search may take: those of one way more, or those along used edges.
 #[derive(Clone, Copy)]

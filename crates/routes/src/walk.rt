@@ -7,9 +7,9 @@ use crate::NEXT;
 use crate::lists::{entry_behind, far_end, first_entry};
 use crate::search::along_code;
 use forest::{
-    Shape, are_mates, edge_scratch, ends_of, set_edge_scratch, set_vertex_scratch, vertex_scratch,
+    are_mates, edge_scratch, ends_of, set_edge_scratch, set_vertex_scratch, vertex_scratch,
 };
-use numbers::{Edge, Vertex};
+use numbers::{Edge, Shape, Vertex};
 
 // The edge of an entry.
 fn edge_of(entry: u32) -> Edge

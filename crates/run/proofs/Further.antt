@@ -14,7 +14,7 @@ use Rattle.commands.specs.Register.{register_routes}
 use Rattle.commands.proofs.Cases.{impossible}
 use Rattle.commands.proofs.Steps.{for_byte, for_operands, for_command}
 use Rattle.commands.proofs.Table.{number_above_zero}
-use Rattle.forest.specs.declared.Shape.{Shape}
+use Rattle.numbers.specs.declared.Shape.{Shape}
 use Rattle.forest.specs.Promise.{Holds, state_of, SameBeyond, same_beyond_refl}
 use Rattle.step.specs.declared.Reply.{Reply}
 use Rattle.step.specs.declared.Stepped.TheVariants as S

@@ -10,7 +10,7 @@ use Rattle.commands.specs.Answer.{answer_bytes}
 use Rattle.commands.specs.Facts.{answer}
 use Rattle.commands.specs.Run.{accepted_in}
 use Rattle.commands.specs.Register.{register_routes}
-use Rattle.forest.specs.declared.Shape.{Shape}
+use Rattle.numbers.specs.declared.Shape.{Shape}
 use Rattle.forest.specs.Promise.{state_of}
 use Rattle.step.specs.declared.Reply.{Reply}
 use Rattle.step.specs.Promise.{reply_answer, reply_size, shape_after}

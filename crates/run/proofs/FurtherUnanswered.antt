@@ -11,7 +11,7 @@ use Rattle.commands.specs.Facts.{after, answer}
 use Rattle.commands.specs.Run.{Accepted, Run, and_then, accepted_in, bytes_of_answers}
 use Rattle.commands.specs.Register.{register_routes}
 use Rattle.commands.proofs.Room.{bytes_of_more}
-use Rattle.forest.specs.declared.Shape.{Shape}
+use Rattle.numbers.specs.declared.Shape.{Shape}
 use Rattle.forest.specs.Promise.{state_of}
 use Rattle.step.specs.declared.Reply.{Reply}
 use Rattle.step.specs.Promise.{reply_size, shape_after}

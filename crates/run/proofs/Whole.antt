@@ -10,7 +10,7 @@ use Rattle.graph.proofs.Truth.{and_left, and_right, eqb_eq, eq-eqb, ltb_lt, ltb_
 use Rattle.naming.specs.State.{empty_state}
 use Rattle.commands.specs.Register.{register_rule}
 use Rattle.numbers.specs.declared.Limits.{Limits}
-use Rattle.forest.specs.declared.Shape.{Shape}
+use Rattle.numbers.specs.declared.Shape.{Shape}
 use Rattle.forest.specs.Promise.{table_rule_lem, state_of, same_beyond_refl, same_beyond_trans, Begun}
 use Rattle.run.specs.declared.Progress.{Progress}
 use Rattle.run.specs.Inside.Runs.{Account, Going, Underway, Leads, goes_on, is_refused, SoFar, goes_further, OneOn}

@@ -15,7 +15,7 @@ use Rattle.commands.proofs.Place.{run_place_in_journal}
 use Rattle.commands.proofs.ForecastRoom.{all_answers_fit}
 use Rattle.commands.proofs.WholeRun.{register-mates, register_serves}
 use Rattle.numbers.specs.declared.Limits.{Limits}
-use Rattle.forest.specs.declared.Shape.{Shape}
+use Rattle.numbers.specs.declared.Shape.{Shape}
 use Rattle.forest.specs.Promise.{Begun}
 use Rattle.step.specs.Promise.{capacities_of}
 use Rattle.run.specs.declared.Progress.{Progress}

@@ -10,8 +10,8 @@ ghost use Rattle.run.specs.Inside.Runs.{refused_progress, with_answers, Underway
 
 pub mod unanswered;
 
-use forest::{Shape, begin, words_needed};
-use numbers::Limits;
+use forest::{begin, words_needed};
+use numbers::{Limits, Shape};
 use reading::read::{Order, Taken};
 use reading::reader::{place_after, taken_at};
 use step::{Reply, Stepped, shape_after, size_of, step};

@@ -13,7 +13,7 @@ use Rattle.graph.proofs.Truth.{ltb_lt, ltb_ge}
 use Rattle.commands.specs.Exchange.{ring_holds_exchange, with_exchange, thousandths, share_with_exchange}
 use Rattle.commands.proofs.Thousandths.{Nearest, below_nearest, next_nearest, even_nearest, share_exactly}
 use Rattle.commands.proofs.Exchange.{with_exchange_at_most}
-use Rattle.forest.specs.declared.Shape.{Shape}
+use Rattle.numbers.specs.declared.Shape.{Shape}
 use Rattle.forest.specs.Promise.{Holds, state_of, vertices_held, few_vertices}
 
 -- a test more: it adds 1 where it passes, and 0 where it does not

@@ -14,7 +14,7 @@ use Rattle.commands.specs.Facts.{asks, facts, operands_of, demands_of, addition_
 use Rattle.commands.specs.Refusal.{refusal_number, unknown_cabinet, unknown_span, equal_cabinets, full, two_districts, already_exchange, no_duct, no_shared_ring, Refusal, Line, first_that_applies, cabinet_known, span_known, cabinets_known, spans_known, met, cause, meets, full_for, is_full, lines, refusal_of}
 use Rattle.commands.specs.Entry.{number_of}
 use Rattle.commands.proofs.Cases.{leb_gt}
-use Rattle.forest.specs.declared.Shape.{Shape}
+use Rattle.numbers.specs.declared.Shape.{Shape}
 use Rattle.forest.specs.Promise.{state_of, network_in, vertices_held, edges_held}
 use Rattle.reading.specs.declared.read.Lay.{Lay}
 use Rattle.reading.specs.declared.read.Lay.TheVariants as L

@@ -15,7 +15,7 @@ use Rattle.forest.specs.declared.Group.{Group}
 use Rattle.forest.specs.declared.Growth.{Growth}
 use Rattle.forest.specs.declared.Length.{Length}
 use Rattle.forest.specs.declared.Length.TheVariants as H
-use Rattle.forest.specs.declared.Shape.{Shape}
+use Rattle.numbers.specs.declared.Shape.{Shape}
 use Rattle.forest.specs.declared.Shared.{Shared}
 use Rattle.forest.specs.declared.Shared.TheVariants as Q
 use Rattle.forest.specs.declared.VertexGroups.{VertexGroups}

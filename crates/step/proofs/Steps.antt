@@ -6,7 +6,7 @@ use Prim.Native.Nat.{ℕ}
 use Rattle.commands.specs.Refusal.{Refusal, refusal_of}
 use Rattle.commands.specs.Entry.{number_of}
 use Rattle.commands.proofs.Returned.{zero_exactly}
-use Rattle.forest.specs.declared.Shape.{Shape}
+use Rattle.numbers.specs.declared.Shape.{Shape}
 use Rattle.forest.specs.Promise.{state_of, same_beyond_refl}
 use Rattle.reading.specs.declared.read.Order.{Order}
 use Rattle.reading.specs.Inside.Reads.{meaning}

@@ -10,7 +10,7 @@ use Rattle.commands.specs.Facts.{after, state_after}
 use Rattle.commands.specs.Surveys.{surveys_entered}
 use Rattle.commands.proofs.Agree.{agree_after}
 use Rattle.commands.proofs.Surveys.{kept_in_run}
-use Rattle.forest.specs.declared.Shape.{Shape}
+use Rattle.numbers.specs.declared.Shape.{Shape}
 use Rattle.forest.specs.Promise.{state_of, table_rule}
 use Rattle.step.specs.declared.Reply.{Reply}
 use Rattle.step.specs.Promise.{shape_after, Carried}

@@ -11,7 +11,7 @@ use Rattle.commands.specs.Facts.{after, answer}
 use Rattle.commands.specs.Refusal.{Refusal, refusal_number, Capacities, refusal_of}
 use Rattle.commands.specs.Register.{register_routes}
 use Rattle.numbers.specs.declared.Limits.{Limits}
-use Rattle.forest.specs.declared.Shape.{Shape}
+use Rattle.numbers.specs.declared.Shape.{Shape}
 use Rattle.forest.specs.declared.Group.{Group}
 use Rattle.forest.specs.declared.Growth.{Growth}
 use Rattle.forest.specs.declared.Length.{Length}

@@ -11,10 +11,10 @@ ghost use Rattle.step.specs.Inside.Asked.{asks_group, duct_of};
 use crate::exchange::{ring_holds_exchange, share_with_exchange};
 use crate::{Finding, Listed, Reply};
 use forest::{
-    Shape, VertexGroups, add_edge, add_vertex, bridges_between, cuts_between, enter_survey,
-    group_of, is_bridge, length_of, mark, shared_block,
+    VertexGroups, add_edge, add_vertex, bridges_between, cuts_between, enter_survey, group_of,
+    is_bridge, length_of, mark, shared_block,
 };
-use numbers::{Duct, Edge, Measure, Vertex};
+use numbers::{Duct, Edge, Measure, Shape, Vertex};
 use reading::read::{Lay, Order};
 use routes::find;
 

@@ -3,8 +3,8 @@ ghost use Rattle.std.specs.Prelude.{◌≡◌, ◌<◌, ◌≤◌};
 ghost use Rattle.commands.specs.Exchange.{ring_holds_exchange, with_exchange, thousandths, share_with_exchange};
 ghost use Rattle.forest.specs.Promise.{Holds, state_of};
 
-use forest::{Shape, marks_with};
-use numbers::Vertex;
+use forest::marks_with;
+use numbers::{Shape, Vertex};
 
 // Whether a cabinet's ring holds an exchange: the ring's count of exchanges is not 0.
 pub(crate) fn ring_holds_exchange(t: &[u32], shape: Shape, a: Vertex) -> bool

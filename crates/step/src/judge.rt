@@ -3,8 +3,8 @@ ghost use Rattle.std.specs.Prelude.{◌≡◌};
 ghost use Rattle.forest.specs.Promise.{Holds};
 ghost use Rattle.step.specs.Inside.Judged.{cabinet_refusal, span_refusal, pair_refusal, different_refusal, exchange_refusal, duct_refusal, new_cabinet_refusal, new_span_refusal, district_refusal, ring_refusal, judgement};
 
-use forest::{Shape, is_marked, same_bridge_block, same_component};
-use numbers::{Edge, Vertex};
+use forest::{is_marked, same_bridge_block, same_component};
+use numbers::{Edge, Shape, Vertex};
 use reading::read::{Lay, Order};
 
 // 6: the cabinet is not known.

@@ -13,8 +13,8 @@ pub mod judge;
 
 use crate::carry::carry_out;
 use crate::judge::judge;
-use forest::{Group, Growth, Length, Shape, Shared, VertexGroups};
-use numbers::{Edge, Vertex};
+use forest::{Group, Growth, Length, Shared, VertexGroups};
+use numbers::{Edge, Shape, Vertex};
 use reading::read::Order;
 use routes::Lengths;
 

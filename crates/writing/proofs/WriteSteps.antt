@@ -14,7 +14,7 @@ use Rattle.commands.specs.Answer.{notice_fields, notices_fields, bool_byte, plai
 use Rattle.commands.specs.Entry.{over}
 use Rattle.commands.proofs.Bytes.{InTwoBytes, cabinets_in_two_bytes, spans_in_two_bytes, bytes_of-one_more, length_two_bytes_each}
 use Rattle.commands.proofs.NoticeBytes.{length_notices_bytes, notices_bytes_append, bytes_of-one_more-notice}
-use Rattle.forest.specs.declared.Shape.{Shape}
+use Rattle.numbers.specs.declared.Shape.{Shape}
 use Rattle.forest.specs.declared.Group.{Group}
 use Rattle.forest.specs.declared.Growth.{Growth}
 use Rattle.forest.specs.declared.VertexGroups.{VertexGroups}

@@ -18,7 +18,8 @@ use crate::write::{
     write_cabinet, write_code, write_flag, write_group, write_length, write_list, write_number,
     write_shared,
 };
-use forest::{Shape, VertexGroups};
+use forest::VertexGroups;
+use numbers::Shape;
 use step::{Finding, Reply};
 
 // The code of the answer to 03 or 04.

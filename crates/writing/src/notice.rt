@@ -7,10 +7,8 @@ ghost use Rattle.commands.specs.Answer.{notice_fields, notices_fields, span_adde
 ghost use Rattle.step.specs.Promise.{notice_at, notices_of, notice_count, growth_notices};
 ghost use Rattle.writing.specs.Inside.Notices.{kind_of, notice_of, head_bytes};
 
-use forest::{
-    EdgeChange, Growth, Shape, VertexChange, VertexGroups, edge_change_at, vertex_change_at,
-};
-use numbers::Edge;
+use forest::{EdgeChange, Growth, VertexChange, VertexGroups, edge_change_at, vertex_change_at};
+use numbers::{Edge, Shape};
 use storing::{put_byte, put_two};
 
 // The kinds of notices.

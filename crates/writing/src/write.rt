@@ -8,8 +8,8 @@ ghost use Rattle.commands.specs.Answer.{plain, answer_bytes};
 ghost use Rattle.step.specs.Promise.{item_at, shared_answer, length_told, list_answer};
 ghost use Rattle.writing.specs.Inside.Writes.{list_code, list_field};
 
-use forest::{Group, Length, Shape, Shared, bridge_at, cut_at};
-use numbers::Vertex;
+use forest::{Group, Length, Shared, bridge_at, cut_at};
+use numbers::{Shape, Vertex};
 use step::Listed;
 use storing::{put_byte, put_two};
 

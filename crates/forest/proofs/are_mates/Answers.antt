@@ -1,7 +1,7 @@
 -- `are_mates` tells whether two edges are one, or lost together by the table's rule.
 use Rattle.std.proofs.Common.{◌≡◌, ℕ, ◌<◌, List, refl, eq-eqb, ne_eqb}
 use Rattle.graph.specs.Network.{edge_in_duct, parallel, one_duct, edge, mates}
-use Rattle.forest.specs.declared.Shape.{Shape}
+use Rattle.numbers.specs.declared.Shape.{Shape}
 use Rattle.forest.specs.Rule.{table_rule}
 use Rattle.forest.specs.Inside.Queries.{are_pair, ends_agree, lost_together}
 use Rattle.forest.specs.Inside.Valid.{stored_edge}

@@ -1,7 +1,7 @@
 -- The scratch words of a search, and what a function leaves as it was.
 use Rattle.std.specs.Prelude.{Bool, true, false, ◌||◌, List, ◌≡◌, ℕ, ◌<◌, eqb}
 use Rattle.graph.specs.Below.{tabulate}
-use Rattle.forest.specs.declared.Shape.{Shape}
+use Rattle.numbers.specs.declared.Shape.{Shape}
 use Rattle.forest.specs.Promise.{Holds, state_of, SameBeyond, scratch_words, vertex_scratch, edge_scratch}
 
 -- The columns of the vertices' scratch words: the first entry of a vertex's list of edges; its step towards the goal; the vertices in the

@@ -2,7 +2,7 @@
 use Rattle.std.specs.Prelude.{Bool, true, false, cond, List, ◌≡◌, ℕ, zero, suc, ◌+◌, ◌*◌, ◌/◌, ◌%◌, ◌<◌, min, eqb, ltb}
 use Rattle.graph.specs.Network.{Network, edge, edge_count, touches, other_end}
 use Rattle.ways.specs.Used.{Used, is_used, mate_used, unused}
-use Rattle.forest.specs.declared.Shape.{Shape}
+use Rattle.numbers.specs.declared.Shape.{Shape}
 use Rattle.forest.specs.Promise.{network_in, vertex_scratch, edge_scratch}
 use Rattle.routes.specs.Inside.Frame.{head_column, Free, Only}
 

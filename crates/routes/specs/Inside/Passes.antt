@@ -5,7 +5,7 @@ use Rattle.graph.specs.Network.{Network}
 use Rattle.ways.specs.Search.{search, way}
 use Rattle.ways.specs.Used.{Used, way_taken, Usable, WayFits}
 use Rattle.ways.specs.TwoRoutes.{edges_of}
-use Rattle.forest.specs.declared.Shape.{Shape}
+use Rattle.numbers.specs.declared.Shape.{Shape}
 use Rattle.forest.specs.Promise.{network_in}
 use Rattle.routes.specs.declared.search.Allowance.{Allowance}
 use Rattle.routes.specs.Inside.Frame.{next_column, order_column, first_column, Free, Only, Written}

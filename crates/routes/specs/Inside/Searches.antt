@@ -4,7 +4,7 @@ use Rattle.graph.specs.Lists.{is_in}
 use Rattle.graph.specs.Network.{Network, edge, edge_count, touches}
 use Rattle.ways.specs.Search.{Allowed, Found, look, look_below, turn, search, way_by, way, step_of, Orderly}
 use Rattle.ways.specs.Used.{Used, one_more, along_used, Usable}
-use Rattle.forest.specs.declared.Shape.{Shape}
+use Rattle.numbers.specs.declared.Shape.{Shape}
 use Rattle.forest.specs.Promise.{network_in, vertex_scratch}
 use Rattle.routes.specs.declared.search.Allowance.{Allowance}
 use Rattle.routes.specs.declared.search.Allowance.TheVariants as A

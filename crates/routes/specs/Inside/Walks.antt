@@ -6,7 +6,7 @@ use Rattle.graph.specs.Cycle.{Step}
 use Rattle.ways.specs.Search.{Found, way_by, Orderly}
 use Rattle.ways.specs.Used.{Used, step_taken, way_taken, Usable, StepFits, WayFits}
 use Rattle.ways.specs.TwoRoutes.{edges_of, none_back}
-use Rattle.forest.specs.declared.Shape.{Shape}
+use Rattle.numbers.specs.declared.Shape.{Shape}
 use Rattle.forest.specs.Promise.{network_in, edge_scratch}
 use Rattle.routes.specs.Inside.Frame.{Only, edges_only, column_only, Written}
 use Rattle.routes.specs.Inside.Lists.{along_code, Linked, Listed}

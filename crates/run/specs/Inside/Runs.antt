@@ -11,7 +11,7 @@ use Rattle.commands.specs.Run.{Run, run_within, commands_of, bytes_of_answers, p
 use Rattle.commands.specs.Entry.{over, number_of}
 use Rattle.commands.specs.Register.{register_routes}
 use Rattle.numbers.specs.declared.Limits.{Limits}
-use Rattle.forest.specs.declared.Shape.{Shape}
+use Rattle.numbers.specs.declared.Shape.{Shape}
 use Rattle.forest.specs.Promise.{Holds, state_of, SameBeyond}
 use Rattle.reading.specs.declared.read.Order.{Order}
 use Rattle.reading.specs.Inside.Reads.{meaning}

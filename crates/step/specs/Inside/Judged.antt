@@ -1,7 +1,7 @@
 -- The refusals that the code tests for, by their numbers: 0 is none.
 use Rattle.std.specs.Prelude.{cond, List, ℕ, eqb, leb, ltb}
 use Rattle.graph.specs.Groups.{component, bridge_block}
-use Rattle.forest.specs.declared.Shape.{Shape}
+use Rattle.numbers.specs.declared.Shape.{Shape}
 use Rattle.forest.specs.Promise.{state_of, network_in}
 use Rattle.reading.specs.declared.read.Lay.{Lay}
 use Rattle.reading.specs.declared.read.Lay.TheVariants as L
