@@ -8,6 +8,7 @@ ghost use Rattle.routes.specs.Promise.{edge_at};
 ghost use Rattle.step.specs.Promise.{routes_told};
 ghost use Rattle.writing.specs.Inside.Writes.{route_bytes};
 
+use numbers::Shape;
 use routes::{Lengths, Route, edge_at};
 use storing::{put_byte, put_two};
 
