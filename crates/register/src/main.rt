@@ -2,11 +2,10 @@
 #![tactic(auto)]
 
 ghost use Rattle.std.proofs.Math.Option.{Option};
-ghost use Rattle.std.specs.Prelude.{◌≡◌, ◌≤◌, length};
+ghost use Rattle.std.specs.Prelude.{◌≡◌, ◌≤◌, length, IfOk};
 ghost use Rattle.commands.specs.Refusal.{Refusal};
 ghost use Rattle.commands.specs.Entry.{number_of};
 ghost use Rattle.commands.specs.Register.{ending};
-ghost use Rattle.register.specs.Input.{Within};
 ghost use Rattle.register.specs.Output.{Put, ProgramOutput};
 
 use std::io;
@@ -16,28 +15,28 @@ const CABINETS: u32 = 256;
 
 const SPANS: u32 = 512;
 
-// How many bytes were read, or that reading failed.
-#[derive(Clone, Copy)]
-pub enum Input {
-    Bytes(usize),
-    Failed,
-}
+// The words of a working table for these capacities.
+const WORDS: usize = 10304;
 
-// Reads until the buffer is full or the input ends.
-fn read_input(from: &mut impl Read, buf: &mut [u8]) -> Input
-    ensures { Within result (length buf.new) }
+// The most bytes that a journal may have, and as many for its answers.
+const LONGEST: usize = 65536;
+
+// The most bytes that end the output.
+const ENDING: usize = 6;
+
+// Reads until the buffer is full or the input ends. Gives how many bytes were read.
+fn read_input(from: &mut impl Read, buf: &mut [u8]) -> io::Result<usize>
+    ensures { IfOk result (λ got. got ≤ length buf.new) }
 {
-    let mut done: usize = 0;
+    let mut done = 0;
     while done < buf.len() {
-        let Ok(got) = from.read(&mut buf[done..]) else {
-            return Input::Failed;
-        };
+        let got = from.read(&mut buf[done..])?;
         if got == 0 {
-            return Input::Bytes(done);
+            break;
         }
         done += got;
     }
-    Input::Bytes(done)
+    Ok(done)
 }
 
 // Puts what ends the output at the front of the buffer: 80, or FF, the refusal's number in one byte, and its place in four, high
@@ -52,10 +51,7 @@ fn put_ending(out: &mut [u8], refusal: u32, place: u32) -> usize
     }
     out[0] = 0xFF;
     out[1] = (refusal % 256) as u8;
-    out[2] = (place / 16777216 % 256) as u8;
-    out[3] = (place / 65536 % 256) as u8;
-    out[4] = (place / 256 % 256) as u8;
-    out[5] = (place % 256) as u8;
+    out[2..6].copy_from_slice(&place.to_be_bytes());
     6
 }
 
@@ -65,14 +61,14 @@ fn run_input(input: &[u8], output: &mut [u8]) -> usize
     requires { 65542 ≤ length output.old }
     ensures { ProgramOutput input.now output.new result }
 {
-    let mut work = [0u32; 10304];
+    let mut work = [0u32; WORDS];
     let mut report = [0u32; 6];
     let refusal = journal::register_run(
         CABINETS,
         SPANS,
         input,
         &mut work,
-        &mut output[..65536],
+        &mut output[..LONGEST],
         &mut report,
     );
     let size = report[3] as usize;
@@ -81,11 +77,11 @@ fn run_input(input: &[u8], output: &mut [u8]) -> usize
 
 // One byte more than a journal may have is enough to refuse it. Where reading fails nothing is written.
 fn main(rt: HostRuntime) -> io::Result<()> {
-    let mut input = [0u8; 65537];
-    let mut output = [0u8; 65542];
-    if let Input::Bytes(got) = read_input(&mut rt.stdin(), &mut input) {
-        let size = run_input(&input[..got], &mut output);
-        rt.write_all(&output[..size])?;
-    }
-    Ok(())
+    let mut input = [0u8; LONGEST + 1];
+    let mut output = [0u8; LONGEST + ENDING];
+    let Ok(got) = read_input(&mut rt.stdin(), &mut input) else {
+        return Ok(());
+    };
+    let size = run_input(&input[..got], &mut output);
+    rt.write_all(&output[..size])
 }
