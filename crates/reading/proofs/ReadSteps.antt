@@ -1,36 +1,23 @@
 -- What is read of a command by its byte: the bytes of commands with one operand, with two and with three, and where the operands stand.
 use mathlib.Core.Bool.{true, false, ◌&&◌, and-false}
 use mathlib.Core.List.{List}
-use mathlib.Core.Logic.{◌⊎◌, inl, inr, ⊎_elim, ◌≢◌}
+use mathlib.Core.Logic.{◌⊎◌, inl, inr, ◌≢◌}
 use mathlib.Core.Option.{none, some}
-use mathlib.Core.Path.{◌≡◌, refl, ap, ap₂, ◌∙◌}
+use mathlib.Core.Path.{◌≡◌, refl, sym, ap, ap₂, ◌∙◌}
 use Prim.Native.Nat.{ℕ, ◌+◌, ◌*◌, ◌≤◌, ◌<◌}
 use native.Mathlib.Omega.{arith}
 use lib.Dec.{eqb, leb}
 use lib.ListN.{length, get_or, drop}
 use lib.Seq.{get_or-drop}
 use Rattle.commands.specs.Bytes.{number}
-use Rattle.graph.proofs.Truth.{true_or_false, eqb_eq, eq-eqb, ne_eqb}
+use Rattle.graph.proofs.Truth.{true_or_false, eqb_eq, ne_eqb}
 use Rattle.commands.specs.Command.{Command, Form, unknown, takes, forms, form, operand, Reading, unknown_byte, cut_off, command, read_form, read_command}
-use Rattle.commands.proofs.Cases.{le_or_gt, gt_leb, impossible}
+use Rattle.commands.proofs.Cases.{gt_leb, impossible}
 use Rattle.commands.proofs.ByPlace.{each_at, ◌also◌}
 use Rattle.commands.proofs.Reading.{width_of, long_enough, too_short, cut_off_lem, unknown_byte_lem, unknown_exactly, known_bytes}
-use Rattle.reading.specs.Inside.Reads.{OneOperand, TwoOperands, ThreeOperands, made, form_width, entry_of, widths, entry_width, no_command, cut_short, whole, pass_over}
-
--- a number from low on that is not low is above it
-pub above : (low n : ℕ) → low ≤ n → n ≢ low → low < n
-above low n h d = omega (arith, d)
-
--- a number in a pair of numbers or in three, one after another
-pub one_of_two : (low n : ℕ) → low ≤ n → n < low + 2 → (n ≡ low) ⊎ (n ≡ low + 1)
-one_of_two low n h k = ⊎_elim (λ l. inl (omega arith)) (λ l. inr (omega arith)) (le_or_gt n low)
-
-pub one_of_three : (low n : ℕ) → low ≤ n → n < low + 3 → (n ≡ low) ⊎ ((n ≡ low + 1) ⊎ (n ≡ low + 2))
-one_of_three low n h k = ⊎_elim (λ l. inl (omega arith)) (λ l. inr (go (le_or_gt n (low + 1)) l)) (le_or_gt n low)
-  where
-    go : (n ≤ low + 1) ⊎ (low + 1 < n) → low < n → (n ≡ low + 1) ⊎ (n ≡ low + 2)
-    go (inl a) b = inl (omega arith)
-    go (inr a) b = inr (omega arith)
+use Rattle.std.specs.Prelude.{Err}
+use Rattle.reading.specs.declared.read.Unread.{Unread}
+use Rattle.reading.specs.Inside.Reads.{reading_of, OperandsAre, Makes, TooShort, OneOperand, TwoOperands, ThreeOperands, made, form_width, entry_of, widths, entry_width, no_command, cut_short, whole, pass_over}
 
 -- how many bytes their operands have
 pub width_one : (byte : ℕ) → OneOperand byte → width_of (form byte) ≡ 2 * 1
@@ -89,6 +76,18 @@ module _ (byte : ℕ) (bytes : List ℕ) where
       outside (inl h) = rw (gt_leb 1 byte h)
       outside (inr h) = rw (gt_leb byte 15 h) (and-false (leb 1 byte))
 
+-- operands that are cut off, as the code tells them
+pub operands_cut : (byte n : ℕ) (bytes : List ℕ) (e : Unread) → width_of (form byte) ≡ 2 * n → TooShort n e bytes
+    → reading_of (Err e) ≡ read_command byte bytes
+unfolding reading_of
+operands_cut byte n bytes e wide short = rw short.cut_operands (sym (cut_operands_lem byte bytes n wide short.short))
+
+-- and operands that are read
+pub operands_read : (byte n : ℕ) (bytes x : List ℕ) (c : Command) → OperandsAre n x bytes → Makes byte n x c
+    → command c (2 * n) ≡ read_command byte bytes
+operands_read byte n bytes x c are makes =
+    sym (read_operands byte bytes n c (makes (operand bytes) (λ k h. sym (are.each k h))) are.there)
+
 -- an operand of the bytes from a place on
 pub operand_at : (journal : List ℕ) (from k place : ℕ) → place ≡ from + 2 * k
     → operand (drop from journal) k ≡ number (get_or journal place 0) (get_or journal (place + 1) 0)
@@ -131,11 +130,7 @@ passed_unknown byte bytes = go (form byte)
     go unknown e = unfold read_form in refl
     go (takes n make) e = impossible (cc)
 
--- an entry of the table of widths tells that the byte is no command's, or a width
-pub entry_none : (entry : ℕ) → entry ≡ 15 → entry_width entry ≡ none
-unfolding entry_width
-entry_none entry e = rw (eq-eqb entry 15 e)
-
+-- an entry of the table of widths that is not 15 is a width
 pub entry_some : (entry : ℕ) → entry ≢ 15 → entry_width entry ≡ some entry
 unfolding entry_width
 entry_some entry d = rw (ne_eqb entry 15 d)

@@ -1,24 +1,17 @@
 // Reading a command from the journal's bytes. The command byte decides everything that follows it.
-ghost use Rattle.std.specs.Prelude.{◌≡◌, ◌+◌, ◌<◌, ◌≤◌, length, get_or, drop};
+ghost use Rattle.std.specs.Prelude.{◌≡◌, ◌+◌, ◌*◌, ◌<◌, ◌≤◌, length, get_or, drop, MatchResult};
 ghost use Rattle.commands.specs.Bytes.{number};
-ghost use Rattle.commands.specs.Command.{read_command};
-ghost use Rattle.commands.specs.Command.{form};
-ghost use Rattle.reading.specs.Inside.Reads.{meaning, reading_of, OneOperand, TwoOperands, ThreeOperands, MadeOfOne, MadeOfTwo, MadeOfThree, form_width, entry_of, entry_width, passing_of, pass_over};
+ghost use Rattle.commands.specs.Command.{form, read_command};
+ghost use Rattle.reading.specs.Inside.Reads.{meaning, reading_of, refused_as, OneOperand, TwoOperands, ThreeOperands, Makes, form_width, entry_of, entry_width, passing_of, pass_over, OperandsAre, TooShort};
 
 use numbers::{Duct, Edge, Measure, Vertex};
+use refusals::Refusal;
 
-// Where a new span lies: in no duct (02), or in a duct (0B).
-#[derive(Clone, Copy)]
-pub enum Lay {
-    NoDuct,
-    InDuct(Duct),
-}
-
-// A command with its operands: cabinets are vertices, spans are edges.
+// A command with its operands: cabinets are vertices, spans are edges. A new span lies in a duct (0B) or in none (02).
 #[derive(Clone, Copy)]
 pub enum Order {
     AddCabinet,
-    AddSpan(Vertex, Vertex, Lay),
+    AddSpan(Vertex, Vertex, Option<Duct>),
     DistrictName(Vertex),
     RingName(Vertex),
     SharedMesh(Vertex, Vertex),
@@ -33,134 +26,146 @@ pub enum Order {
     ExchangeShare,
 }
 
-// What stands at a place of the journal: an unknown byte, a command whose operands are cut off by the journal's end, or a command with the
-// number of its operands' bytes.
-#[derive(Clone, Copy)]
-pub enum Taken {
-    Unknown,
-    CutOff,
-    Command(Order, usize),
+// Why no command can be read at a place: the byte is no command's, or the operands are cut off by the journal's end.
+#[derive(Clone, Copy, PartialEq, Eq)]
+pub enum Unread {
+    BadByte,
+    CutOperands,
 }
 
-// The number in two bytes, high byte first.
-fn operand(journal: &[u8], from: usize) -> u32
-    requires { from + 1 < length journal.now }
-    ensures { (result ≡ number (get_or journal.now from 0) (get_or journal.now (from + 1) 0)) × (result < 65536) }
-{
-    (journal[from] as u32) * 256 + (journal[from + 1] as u32)
-}
+impl From<Unread> for Refusal {
+    ghost from_gives = { λ unread refusal. refusal ≡ refused_as unread };
 
-// The command of 03, 04, 08, 09, 0A or 0E.
-fn one_operand(byte: u8, x: u32) -> Order
-    requires { OneOperand byte }
-    ensures { MadeOfOne byte x (meaning result) }
-{
-    match byte {
-        3 => Order::DistrictName(Vertex(x)),
-        4 => Order::RingName(Vertex(x)),
-        8 => Order::IsSole(Edge(x)),
-        9 => Order::MarkExchange(Vertex(x)),
-        10 => Order::HoldsExchange(Vertex(x)),
-        _ => Order::SpanLength(Edge(x)),
-    }
-}
-
-// The command of 02, 05, 06, 07 or 0C.
-fn two_operands(byte: u8, x: u32, y: u32) -> Order
-    requires { TwoOperands byte }
-    ensures { MadeOfTwo byte x y (meaning result) }
-{
-    match byte {
-        2 => Order::AddSpan(Vertex(x), Vertex(y), Lay::NoDuct),
-        5 => Order::SharedMesh(Vertex(x), Vertex(y)),
-        6 => Order::SoleSpans(Vertex(x), Vertex(y)),
-        7 => Order::CutCabinets(Vertex(x), Vertex(y)),
-        _ => Order::RoutesBetween(Vertex(x), Vertex(y)),
-    }
-}
-
-// The command of 0B or 0D.
-fn three_operands(byte: u8, x: u32, y: u32, z: u32) -> Order
-    requires { ThreeOperands byte × (y < 65536) × (z < 65536) }
-    ensures { MadeOfThree byte x y z (meaning result) }
-{
-    match byte {
-        11 => Order::AddSpan(Vertex(x), Vertex(y), Lay::InDuct(Duct(z as u16))),
-        _ => {
-            let measure = Measure {
-                day: y as u16,
-                metres: z as u16,
-            };
-            Order::RecordLength(Edge(x), measure)
+    fn from(unread: Unread) -> Refusal {
+        match unread {
+            Unread::BadByte => Refusal::BadByte,
+            Unread::CutOperands => Refusal::CutOperands,
         }
     }
 }
 
-// The command of 03, 04, 08, 09, 0A or 0E whose operand stands from a place on.
-fn take_one(journal: &[u8], byte: u8, from: usize) -> Taken
-    requires { OneOperand byte × (from ≤ length journal.now) }
-    ensures { reading_of result ≡ read_command byte (drop from journal.now) }
-{
-    if journal.len() - from < 2 {
-        return Taken::CutOff;
-    }
-    let x = operand(journal, from);
-    Taken::Command(one_operand(byte, x), 2)
+// What is read of a command, and the number of its operands' bytes.
+#[derive(Clone, Copy)]
+pub struct Taken<T> {
+    pub command: T,
+    pub width: usize,
 }
 
-// The command of 02, 05, 06, 07 or 0C whose operands stand from a place on.
-fn take_two(journal: &[u8], byte: u8, from: usize) -> Taken
-    requires { TwoOperands byte × (from ≤ length journal.now) }
-    ensures { reading_of result ≡ read_command byte (drop from journal.now) }
+// The number in two bytes, high byte first.
+#[tactic(auto, unfolding(commands::specs::Bytes::number))]
+fn operand(journal: &[u8], from: usize) -> u16
+    requires { from + 1 < length journal.now }
+    ensures { result ≡ number (get_or journal.now from 0) (get_or journal.now (from + 1) 0) }
 {
-    if journal.len() - from < 4 {
-        return Taken::CutOff;
-    }
-    let x = operand(journal, from);
-    let y = operand(journal, from + 2);
-    Taken::Command(two_operands(byte, x, y), 4)
+    u16::from_be_bytes([journal[from], journal[from + 1]])
 }
 
-// The command of 0B or 0D whose operands stand from a place on.
-fn take_three(journal: &[u8], byte: u8, from: usize) -> Taken
-    requires { ThreeOperands byte × (from ≤ length journal.now) }
-    ensures { reading_of result ≡ read_command byte (drop from journal.now) }
+// The N operands that stand from a place on.
+fn operands<const N: usize>(journal: &[u8], from: usize) -> Result<[u16; N], Unread>
+    requires { (from ≤ length journal.now) × (N ≤ 3) }
+    ensures { MatchResult result (λ x. OperandsAre N x (drop from journal.now)) (λ e. TooShort N e (drop from journal.now)) }
 {
-    if journal.len() - from < 6 {
-        return Taken::CutOff;
+    if journal.len() - from < 2 * N {
+        return Err(Unread::CutOperands);
     }
-    let x = operand(journal, from);
-    let y = operand(journal, from + 2);
-    let z = operand(journal, from + 4);
-    Taken::Command(three_operands(byte, x, y, z), 6)
+    let mut values = [0; N];
+    for k in 0..N {
+        values[k] = operand(journal, from + 2 * k);
+    }
+    Ok(values)
+}
+
+// The command of 03, 04, 08, 09, 0A or 0E.
+#[tactic(auto, unfolding(commands::specs::Command::forms, commands::specs::Command::form, crate::specs::Inside::Reads::made, crate::specs::Inside::Reads::meaning, crate::specs::Inside::Reads::span_command))]
+fn one_operand(byte: u8, operands: [u16; 1]) -> Order
+    requires { OneOperand byte }
+    ensures { Makes byte 1 operands (meaning result) }
+{
+    let [x] = operands;
+    match byte {
+        3 => Order::DistrictName(Vertex(x.into())),
+        4 => Order::RingName(Vertex(x.into())),
+        8 => Order::IsSole(Edge(x.into())),
+        9 => Order::MarkExchange(Vertex(x.into())),
+        10 => Order::HoldsExchange(Vertex(x.into())),
+        _ => Order::SpanLength(Edge(x.into())),
+    }
+}
+
+// The command of 02, 05, 06, 07 or 0C.
+#[tactic(auto, unfolding(commands::specs::Command::forms, commands::specs::Command::form, crate::specs::Inside::Reads::made, crate::specs::Inside::Reads::meaning, crate::specs::Inside::Reads::span_command))]
+fn two_operands(byte: u8, operands: [u16; 2]) -> Order
+    requires { TwoOperands byte }
+    ensures { Makes byte 2 operands (meaning result) }
+{
+    let [x, y] = operands;
+    let (a, b) = (Vertex(x.into()), Vertex(y.into()));
+    match byte {
+        2 => Order::AddSpan(a, b, None),
+        5 => Order::SharedMesh(a, b),
+        6 => Order::SoleSpans(a, b),
+        7 => Order::CutCabinets(a, b),
+        _ => Order::RoutesBetween(a, b),
+    }
+}
+
+// The command of 0B or 0D.
+#[tactic(auto, unfolding(commands::specs::Command::forms, commands::specs::Command::form, crate::specs::Inside::Reads::made, crate::specs::Inside::Reads::meaning, crate::specs::Inside::Reads::span_command))]
+fn three_operands(byte: u8, operands: [u16; 3]) -> Order
+    requires { ThreeOperands byte }
+    ensures { Makes byte 3 operands (meaning result) }
+{
+    let [x, y, z] = operands;
+    match byte {
+        11 => Order::AddSpan(Vertex(x.into()), Vertex(y.into()), Some(Duct(z))),
+        _ => Order::RecordLength(Edge(x.into()), Measure { day: y, metres: z }),
+    }
 }
 
 // What stands at a place of the journal.
-pub(crate) fn take_at(journal: &[u8], at: usize) -> Taken
+#[tactic(auto, using(crate::proofs::ReadSteps::read_unknown), unfolding(commands::specs::Command::forms, commands::specs::Command::form, commands::specs::Command::read_command, commands::specs::Command::read_form, crate::specs::Inside::Reads::reading_of, crate::specs::Inside::Reads::meaning))]
+pub(crate) fn take_at(journal: &[u8], at: usize) -> Result<Taken<Order>, Unread>
     requires { at < length journal.now }
     ensures { reading_of result ≡ read_command (get_or journal.now at 0) (drop (at + 1) journal.now) }
 {
     let byte = journal[at];
     match byte {
-        1 => Taken::Command(Order::AddCabinet, 0),
-        2 | 5..=7 | 12 => take_two(journal, byte, at + 1),
-        3..=4 | 8..=10 | 14 => take_one(journal, byte, at + 1),
-        11 | 13 => take_three(journal, byte, at + 1),
-        15 => Taken::Command(Order::ExchangeShare, 0),
-        _ => Taken::Unknown,
+        1 => Ok(Taken {
+            command: Order::AddCabinet,
+            width: 0,
+        }),
+        2 | 5..=7 | 12 => {
+            let read = operands(journal, at + 1)?;
+            Ok(Taken {
+                command: two_operands(byte, read),
+                width: 4,
+            })
+        }
+        3..=4 | 8..=10 | 14 => {
+            let read = operands(journal, at + 1)?;
+            Ok(Taken {
+                command: one_operand(byte, read),
+                width: 2,
+            })
+        }
+        11 | 13 => {
+            let read = operands(journal, at + 1)?;
+            Ok(Taken {
+                command: three_operands(byte, read),
+                width: 6,
+            })
+        }
+        15 => Ok(Taken {
+            command: Order::ExchangeShare,
+            width: 0,
+        }),
+        _ => Err(Unread::BadByte),
     }
 }
 
-// What stands at a place of the journal where the operands are not looked at: as above, but of a command its byte and the number of its
-// operands' bytes.
-#[derive(Clone, Copy)]
-pub enum Passed {
-    Unknown,
-    CutOff,
-    Command(u8, usize),
-}
-
-// Entry k of a table of sixteen entries in one number: four bits each, entry 0 in the lowest.
+// Entry k of a table of sixteen entries in one number: four bits each, entry 0 in the lowest. The forecast reads such tables for every command;
+// an array of sixteen bytes would be laid out in memory anew for each, and took twice as long.
+#[tactic(auto, unfolding(crate::specs::Inside::Reads::entry_of))]
 pub fn entry_of(table: u64, k: u8) -> u8
     requires { k ≤ 15 }
     ensures { result ≡ entry_of table k }
@@ -176,30 +181,39 @@ const NONE: u8 = 15;
 const WIDTHS: u64 = 0x0264_6222_4442_240F;
 
 // What a byte is, by its entry in the table; if a command's, its operands stand from a place on.
-fn pass_over(journal: &[u8], byte: u8, from: usize, entry: u8) -> Passed
+#[tactic(auto, using(crate::proofs::ReadSteps::passed_unknown), unfolding(crate::specs::Inside::Reads::entry_width, crate::specs::Inside::Reads::passing_of))]
+fn pass_over(journal: &[u8], byte: u8, from: usize, entry: u8) -> Result<Taken<u8>, Unread>
     requires { (form_width (form byte) ≡ entry_width entry) × (from ≤ length journal.now) }
     ensures { passing_of result ≡ pass_over byte (read_command byte (drop from journal.now)) }
 {
     if entry == NONE {
-        return Passed::Unknown;
+        return Err(Unread::BadByte);
     }
     let width = entry as usize;
     if journal.len() - from < width {
-        return Passed::CutOff;
+        return Err(Unread::CutOperands);
     }
-    Passed::Command(byte, width)
+    Ok(Taken {
+        command: byte,
+        width,
+    })
 }
 
-// What stands at a place of the journal, the operands passed over. The commands that come in long rows have arms of their own.
-pub(crate) fn pass_at(journal: &[u8], at: usize) -> Passed
+// What stands at a place of the journal, the operands passed over: of a command its byte. The commands that come in long rows have arms of
+// their own.
+#[tactic(auto, using(crate::proofs::ReadSteps::read_unknown, crate::proofs::ReadSteps::widths_are), unfolding(commands::specs::Command::forms, commands::specs::Command::form, commands::specs::Command::read_command, commands::specs::Command::read_form, crate::specs::Inside::Reads::form_width, crate::specs::Inside::Reads::entry_width, crate::specs::Inside::Reads::passing_of, crate::specs::Inside::Reads::pass_over))]
+pub(crate) fn pass_at(journal: &[u8], at: usize) -> Result<Taken<u8>, Unread>
     requires { at < length journal.now }
     ensures { passing_of result ≡ pass_over (get_or journal.now at 0) (read_command (get_or journal.now at 0) (drop (at + 1) journal.now)) }
 {
     let byte = journal[at];
     match byte {
-        1 => Passed::Command(byte, 0),
+        1 => Ok(Taken {
+            command: byte,
+            width: 0,
+        }),
         2 => pass_over(journal, byte, at + 1, 4),
         3..=15 => pass_over(journal, byte, at + 1, entry_of(WIDTHS, byte)),
-        _ => Passed::Unknown,
+        _ => Err(Unread::BadByte),
     }
 }

@@ -1,20 +1,21 @@
 -- What reading a command gives: the paper's value for each case of the code's answer.
-use Rattle.std.specs.Prelude.{cond, ◌⊎◌, ◌≡◌, ℕ, ◌*◌, ◌/◌, ◌%◌, ◌^◌, eqb}
+use Rattle.std.specs.Prelude.{cond, List, ◌⊎◌, ◌≡◌, ℕ, ◌*◌, ◌/◌, ◌%◌, ◌^◌, ◌<◌, ◌≤◌, eqb, length, get_or}
 use Rattle.std.proofs.Math.Option.{Option, none, some}
-use Rattle.commands.specs.Command.{Command, add_cabinet, add_span, district_name, ring_name, shared_mesh, sole_spans, cut_cabinets, is_sole, mark_exchange, holds_exchange, add_duct_span, routes_between, record_length, span_length, exchange_share, Form, unknown, takes, form, Reading, unknown_byte, cut_off, command}
-use Rattle.reading.specs.declared.read.Lay.{Lay}
-use Rattle.reading.specs.declared.read.Lay.TheVariants as L
+use Rattle.commands.specs.Command.{Command, add_cabinet, add_span, district_name, ring_name, shared_mesh, sole_spans, cut_cabinets, is_sole, mark_exchange, holds_exchange, add_duct_span, routes_between, record_length, span_length, exchange_share, Form, unknown, takes, form, operand, Reading, unknown_byte, cut_off, command}
+use Rattle.std.specs.Prelude as P
+use Rattle.numbers.specs.declared.Duct.{Duct}
+use Rattle.refusals.specs.declared.Refusal.{Refusal}
+use Rattle.refusals.specs.declared.Refusal.TheVariants as R
 use Rattle.reading.specs.declared.read.Order.{Order}
 use Rattle.reading.specs.declared.read.Order.TheVariants as O
 use Rattle.reading.specs.declared.read.Taken.{Taken}
-use Rattle.reading.specs.declared.read.Taken.TheVariants as K
-use Rattle.reading.specs.declared.read.Passed.{Passed}
-use Rattle.reading.specs.declared.read.Passed.TheVariants as P
+use Rattle.reading.specs.declared.read.Unread.{Unread}
+use Rattle.reading.specs.declared.read.Unread.TheVariants as U
 
 -- The command that adds a span which lies so: 02 in no duct, 0B in a duct.
-unfoldable pub span_command : ℕ → ℕ → Lay → Command
-span_command a b L.NoDuct = add_span a b
-span_command a b (L.InDuct d) = add_duct_span a b d.0
+unfoldable pub span_command : ℕ → ℕ → P.Option Duct → Command
+span_command a b P.None = add_span a b
+span_command a b (P.Some d) = add_duct_span a b d.0
 
 -- The command that an order is.
 unfoldable pub meaning : Order → Command
@@ -33,11 +34,25 @@ meaning (O.RecordLength s measure) = record_length s.0 measure.day measure.metre
 meaning (O.SpanLength s) = span_length s.0
 meaning O.ExchangeShare = exchange_share
 
+-- The refusal where nothing can be read.
+abbrev pub refused_as : Unread → Refusal
+refused_as U.BadByte = R.BadByte
+refused_as U.CutOperands = R.CutOperands
+
 -- What was read: an unknown byte is refusal 4, cut-off operands are refusal 5.
-unfoldable pub reading_of : Taken → Reading
-reading_of K.Unknown = unknown_byte
-reading_of K.CutOff = cut_off
-reading_of (K.Command o width) = command (meaning o) width
+unfoldable pub reading_of : P.Result (Taken Order) Unread → Reading
+reading_of (P.Err U.BadByte) = unknown_byte
+reading_of (P.Err U.CutOperands) = cut_off
+reading_of (P.Ok taken) = command (meaning taken.command) taken.width
+
+-- N operands that begin the bytes, and the answer where the bytes are too few for them.
+pub record OperandsAre (n : ℕ) (x bytes : List ℕ) : Type 0 where
+  pub there : 2 * n ≤ length bytes
+  pub each : (k : ℕ) → k < n → get_or x k 0 ≡ operand bytes k
+
+pub record TooShort (n : ℕ) (e : Unread) (bytes : List ℕ) : Type 0 where
+  pub cut_operands : e ≡ U.CutOperands
+  pub short : length bytes < 2 * n
 
 -- The bytes of the commands with one operand, of those with two, and of those with three.
 abbrev pub OneOperand : ℕ → Type 0
@@ -54,15 +69,9 @@ unfoldable pub made : Form → ℕ → (ℕ → ℕ) → Option Command
 made unknown n x = none
 made (takes k make) n x = cond (eqb k n) (some (make x)) none
 
--- The byte makes this command of one operand, of two, and of three.
-abbrev pub MadeOfOne : ℕ → ℕ → Command → Type 0
-MadeOfOne byte a c = (x : ℕ → ℕ) → x 0 ≡ a → made (form byte) 1 x ≡ some c
-
-abbrev pub MadeOfTwo : ℕ → ℕ → ℕ → Command → Type 0
-MadeOfTwo byte a b c = (x : ℕ → ℕ) → x 0 ≡ a → x 1 ≡ b → made (form byte) 2 x ≡ some c
-
-abbrev pub MadeOfThree : ℕ → ℕ → ℕ → ℕ → Command → Type 0
-MadeOfThree byte a b d c = (x : ℕ → ℕ) → x 0 ≡ a → x 1 ≡ b → x 2 ≡ d → made (form byte) 3 x ≡ some c
+-- The byte makes this command of these operands.
+abbrev pub Makes : ℕ → ℕ → List ℕ → Command → Type 0
+Makes byte n operands c = (x : ℕ → ℕ) → ((k : ℕ) → k < n → x k ≡ get_or operands k 0) → made (form byte) n x ≡ some c
 
 -- The number of the operands' bytes of a form, if it is a command's.
 unfoldable pub form_width : Form → Option ℕ
@@ -92,7 +101,7 @@ pass_over byte unknown_byte = no_command
 pass_over byte cut_off = cut_short
 pass_over byte (command c width) = whole byte width
 
-unfoldable pub passing_of : Passed → Passing
-passing_of P.Unknown = no_command
-passing_of P.CutOff = cut_short
-passing_of (P.Command byte width) = whole byte width
+unfoldable pub passing_of : P.Result (Taken ℕ) Unread → Passing
+passing_of (P.Err U.BadByte) = no_command
+passing_of (P.Err U.CutOperands) = cut_short
+passing_of (P.Ok taken) = whole taken.command taken.width
