@@ -45,10 +45,10 @@ use Rattle.step.specs.Promise.{notice_at, notice_count, growth_notices, item_at,
 use Rattle.step.specs.Inside.Asked.{asks_group, duct_of}
 
 -- a cabinet more
-pub cabinet_carried : (shape : Shape) (old new : List ℕ) → VertexAdded shape old new
+pub cabinet_carried : {shape : Shape} {old new : List ℕ} → VertexAdded shape old new
     → Carried shape add_cabinet old new (R.Cabinet (record { 0 = shape.vertices }))
 unfolding after after_addition after_recording marks_after surveys_after addition addition_of recording recording_of facts reply_answer shape_after answer answer_to
-cabinet_carried shape old new a =
+cabinet_carried {shape} {old} a =
     record {
       holds = a.holds;
       agrees = agree_of_equal a.state_is;

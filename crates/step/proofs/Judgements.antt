@@ -1,20 +1,23 @@
--- The refusals that the code tests for are those of the table of causes, and where there is none, what the tests say holds.
-use mathlib.Core.Bool.{Bool, true, false, not, cond, ◌&&◌}
+-- The tests of the code are those of the table of causes, and what is known of a command that passes them.
+use mathlib.Core.Bool.{Bool, true, false, not, ◌&&◌}
 use mathlib.Core.List.{List, [], ◌∷◌}
-use mathlib.Core.Logic.{◌⊎◌, inl, inr}
-use mathlib.Core.Path.{◌≡◌, refl, sym, ◌∙◌}
+use mathlib.Core.Path.{◌≡◌, refl}
 use Prim.Native.Nat.{ℕ, ◌<◌}
-use native.Mathlib.Omega.{arith}
 use lib.Dec.{eqb, leb, ltb}
+use Rattle.std.specs.Prelude.{Ok, Err}
+use Rattle.std.proofs.Math.Option as Maybe
 use Rattle.graph.specs.Lists.{all_in}
 use Rattle.graph.specs.Network.{edge_between, edge_in_duct}
 use Rattle.graph.specs.Groups.{component, bridge_block}
-use Rattle.graph.proofs.Truth.{true_or_false, eqb_eq, eqb_same, eq-eqb, ne_eqb, ltb_lt, not_both}
+use Rattle.graph.proofs.Truth.{eqb_same, ltb_lt, not_both}
 use Rattle.commands.specs.Facts.{asks, facts, operands_of, demands_of, addition_of, addition}
-use Rattle.commands.specs.Refusal.{refusal_number, unknown_cabinet, unknown_span, equal_cabinets, full, two_districts, already_exchange, no_duct, no_shared_ring, Refusal, Line, first_that_applies, cabinet_known, span_known, cabinets_known, spans_known, met, cause, meets, full_for, is_full, lines, refusal_of}
-use Rattle.commands.specs.Entry.{number_of}
-use Rattle.commands.proofs.Cases.{leb_gt}
+use Rattle.commands.specs.Refusal as Table
+use Rattle.commands.specs.Refusal.{refusal_number, unknown_cabinet, unknown_span, equal_cabinets, full, two_districts, already_exchange, no_duct, no_shared_ring, Line, first_that_applies, cabinet_known, span_known, cabinets_known, spans_known, met, cause, meets, full_for, is_full, lines, refusal_of}
+use Rattle.commands.proofs.Cases.{impossible, leb_gt}
 use Rattle.numbers.specs.declared.Shape.{Shape}
+use Rattle.refusals.specs.declared.Refusal.{Refusal}
+use Rattle.refusals.specs.declared.Refusal.TheVariants as R
+use Rattle.refusals.specs.Causes.{cause_of}
 use Rattle.forest.specs.Promise.{state_of, network_in, vertices_held, edges_held}
 use Rattle.reading.specs.declared.read.Lay.{Lay}
 use Rattle.reading.specs.declared.read.Lay.TheVariants as L
@@ -22,54 +25,64 @@ use Rattle.reading.specs.declared.read.Order.{Order}
 use Rattle.reading.specs.declared.read.Order.TheVariants as O
 use Rattle.reading.specs.Inside.Reads.{span_command, meaning}
 use Rattle.step.specs.Promise.{capacities_of}
-use Rattle.step.specs.Inside.Judged.{first_of, cabinet_refusal, span_refusal, pair_refusal, different_refusal, exchange_refusal, duct_refusal, new_cabinet_refusal, new_span_refusal, district_refusal, ring_refusal, judgement}
+use Rattle.step.specs.Inside.Judged as J
+use Rattle.step.specs.Inside.Judged.{Judgement, demand, and_then, judgement, Passed}
 
--- the number of the first line that applies; lines that never apply are passed over by computing
-abbrev table : List Line → ℕ
-table ls = number_of (first_that_applies ls)
+-- The cause of what a test gives, if it refuses.
+abbrev pub cause_met : Judgement → Maybe.Option Table.Refusal
+cause_met (Ok passed) = Maybe.none
+cause_met (Err refusal) = Maybe.some (cause_of refusal)
 
-abbrev line : Bool → Refusal → Line
+abbrev line : Bool → Table.Refusal → Line
 line applies refusal = record { applies = applies; refusal = refusal }
 
-full_line : (isfull : Bool) → cond isfull 9 0 ≡ table (line isfull full ∷ [])
-unfolding number_of first_that_applies refusal_number
-full_line true = refl
-full_line false = refl
-
-cabinet_line : (a : Bool) → cond a 0 6 ≡ table (line (not (a && true)) unknown_cabinet ∷ [])
-unfolding number_of first_that_applies refusal_number
+-- The first line that applies gives what the tests give; lines that never apply are passed over by computing.
+cabinet_line : (a : Bool) → cause_met (demand a R.UnknownCabinet) ≡ first_that_applies (line (not (a && true)) unknown_cabinet ∷ [])
+unfolding first_that_applies
 cabinet_line true = refl
 cabinet_line false = refl
 
-span_line : (s : Bool) → cond s 0 7 ≡ table (line (not (s && true)) unknown_span ∷ [])
-unfolding number_of first_that_applies refusal_number
+span_line : (s : Bool) → cause_met (demand s R.UnknownSpan) ≡ first_that_applies (line (not (s && true)) unknown_span ∷ [])
+unfolding first_that_applies
 span_line true = refl
 span_line false = refl
 
-different_lines : (a b same : Bool) → first_of (first_of (cond a 0 6) (cond b 0 6)) (cond same 8 0)
-    ≡ table (line (not (a && (b && true))) unknown_cabinet ∷ line (not (not same && true)) equal_cabinets ∷ [])
-unfolding first_of number_of first_that_applies refusal_number
+-- the two known cabinets, and then
+abbrev both : Bool → Bool → Judgement
+both a b = and_then (demand a R.UnknownCabinet) (demand b R.UnknownCabinet)
+
+different_lines : (a b same : Bool) → cause_met (and_then (both a b) (demand (not same) R.EqualCabinets))
+    ≡ first_that_applies (line (not (a && (b && true))) unknown_cabinet ∷ line (not (not same && true)) equal_cabinets ∷ [])
+unfolding first_that_applies
 different_lines false b same = refl
 different_lines true false same = refl
 different_lines true true false = refl
 different_lines true true true = refl
 
-exchange_lines : (a marked : Bool) → first_of (cond a 0 6) (cond marked 12 0)
-    ≡ table (line (not (a && true)) unknown_cabinet ∷ line (not (not marked && true)) already_exchange ∷ [])
-unfolding first_of number_of first_that_applies refusal_number
+exchange_lines : (a marked : Bool) → cause_met (and_then (demand a R.UnknownCabinet) (demand (not marked) R.AlreadyExchange))
+    ≡ first_that_applies (line (not (a && true)) unknown_cabinet ∷ line (not (not marked && true)) already_exchange ∷ [])
+unfolding first_that_applies
 exchange_lines false marked = refl
 exchange_lines true false = refl
 exchange_lines true true = refl
 
+full_line : (isfull : Bool) → cause_met (demand (not isfull) R.Full) ≡ first_that_applies (line isfull full ∷ [])
+unfolding first_that_applies
+full_line true = refl
+full_line false = refl
+
 new_span_lines : (a b same nought isfull : Bool)
-    → first_of (first_of (first_of (cond a 0 6) (cond b 0 6)) (cond same 8 0)) (first_of (cond nought 13 0) (cond isfull 9 0))
-    ≡ table
+    → cause_met
+    (and_then
+    (and_then (both a b) (demand (not same) R.EqualCabinets))
+    (and_then (demand (not nought) R.NoDuct) (demand (not isfull) R.Full)))
+    ≡ first_that_applies
     (line (not (a && (b && true))) unknown_cabinet
     ∷ line (not (not same && true)) equal_cabinets
     ∷ line (not (not nought && true)) no_duct
     ∷ line isfull full
     ∷ [])
-unfolding first_of number_of first_that_applies refusal_number
+unfolding first_that_applies
 new_span_lines false b same nought isfull = refl
 new_span_lines true false same nought isfull = refl
 new_span_lines true true true nought isfull = refl
@@ -77,32 +90,32 @@ new_span_lines true true false true isfull = refl
 new_span_lines true true false false true = refl
 new_span_lines true true false false false = refl
 
-district_lines : (a b together : Bool) → first_of (first_of (cond a 0 6) (cond b 0 6)) (cond together 0 10)
-    ≡ table (line (not (a && (b && true))) unknown_cabinet ∷ line (not (together && true)) two_districts ∷ [])
-unfolding first_of number_of first_that_applies refusal_number
+district_lines : (a b together : Bool) → cause_met (and_then (both a b) (demand together R.TwoDistricts))
+    ≡ first_that_applies (line (not (a && (b && true))) unknown_cabinet ∷ line (not (together && true)) two_districts ∷ [])
+unfolding first_that_applies
 district_lines false b together = refl
 district_lines true false together = refl
 district_lines true true true = refl
 district_lines true true false = refl
 
 ring_lines : (a b same together : Bool)
-    → first_of (first_of (first_of (cond a 0 6) (cond b 0 6)) (cond same 8 0)) (cond together 0 14)
-    ≡ table
+    → cause_met (and_then (and_then (both a b) (demand (not same) R.EqualCabinets)) (demand together R.NoSharedRing))
+    ≡ first_that_applies
     (line (not (a && (b && true))) unknown_cabinet
     ∷ line (not (not same && true)) equal_cabinets
     ∷ line (not (together && true)) no_shared_ring
     ∷ [])
-unfolding first_of number_of first_that_applies refusal_number
+unfolding first_that_applies
 ring_lines false b same together = refl
 ring_lines true false same together = refl
 ring_lines true true true together = refl
 ring_lines true true false true = refl
 ring_lines true true false false = refl
 
--- the refusal of each command is the table's
+-- What the tests of each command give is what the table gives.
 pub judged : (shape : Shape) (t : List ℕ) (order : Order)
-    → judgement shape t order ≡ number_of (refusal_of (capacities_of shape.limits) (state_of shape t) (meaning order))
-unfolding judgement cabinet_refusal span_refusal pair_refusal different_refusal exchange_refusal duct_refusal new_cabinet_refusal new_span_refusal district_refusal ring_refusal span_command meaning capacities_of refusal_of first_that_applies lines cabinets_known spans_known meets is_full full_for addition addition_of facts asks operands_of demands_of edge_between edge_in_duct all_in cabinet_known span_known met cause refusal_number number_of
+    → cause_met (judgement shape t order) ≡ refusal_of (capacities_of shape.limits) (state_of shape t) (meaning order)
+unfolding judgement span_command meaning capacities_of refusal_of first_that_applies lines cabinets_known spans_known meets is_full full_for addition addition_of facts asks operands_of demands_of edge_between edge_in_duct all_in cabinet_known span_known met cause refusal_number
 judged shape t O.AddCabinet = rw (vertices_held shape t) (full_line (leb shape.limits.vertices shape.vertices))
 judged shape t (O.AddSpan a b L.NoDuct) =
     rw (vertices_held shape t, edges_held shape t)
@@ -135,90 +148,64 @@ judged shape t (O.RecordLength s measure) = rw (edges_held shape t) (span_line (
 judged shape t (O.SpanLength s) = rw (edges_held shape t) (span_line (ltb s.0 shape.edges))
 judged shape t O.ExchangeShare = refl
 
--- a test that refuses or passes has passed where it gives 0
-test_passed : (b : Bool) {number : ℕ} → (number ≡ 0 → ⊥) → cond b 0 number ≡ 0 → b ≡ true
-test_passed true n e = refl
-test_passed false n e = absurd (n e)
+-- a demand that is met, and two tests that both pass
+is_met_lem : {is_met : Bool} (refusal : Refusal) → demand is_met refusal ≡ Ok tt → is_met ≡ true
+is_met_lem {is_met = true} refusal e = refl
+is_met_lem {is_met = false} refusal e = impossible (cc e)
 
-test_failed : (b : Bool) {number : ℕ} → (number ≡ 0 → ⊥) → cond b number 0 ≡ 0 → b ≡ false
-test_failed true n e = absurd (n e)
-test_failed false n e = refl
+both_pass : {first later : Judgement} → and_then first later ≡ Ok tt → (first ≡ Ok tt) × (later ≡ Ok tt)
+both_pass {first = Ok tt} e = (refl, e)
+both_pass {first = Err refusal} e = impossible (cc e)
 
--- the first of two refusals, where there is one
-pub first_refuses : {number first : ℕ} (later : ℕ) → number ≡ first → (number ≡ 0 → ⊥) → number ≡ first_of first later
-unfolding first_of
-first_refuses {number} {first} later e n = rw (ne_eqb first 0 (λ d. n (e ∙ d))) e
+is_false : (b : Bool) → not b ≡ true → b ≡ false
+is_false true e = impossible (cc e)
+is_false false e = refl
 
--- and the other, where there is none
-pub later_refuses : {number other first later : ℕ} → other ≡ first → other ≡ 0 → number ≡ later → number ≡ first_of first later
-unfolding first_of
-later_refuses {first = first} e z d = rw (eq-eqb first 0 (sym e ∙ z)) d
-
--- neither of two refusals
-neither_refuses : (first later : ℕ) → first_of first later ≡ 0 → (first ≡ 0) × (later ≡ 0)
-unfolding first_of
-neither_refuses first later e = go (true_or_false (eqb first 0))
-  where
-    go : (eqb first 0 ≡ true) ⊎ (eqb first 0 ≡ false) → (first ≡ 0) × (later ≡ 0)
-    go (inl d) = (eqb_eq first 0 d, rw d at e)
-    go (inr d) =
-        let nought : first ≡ 0 = rw d at e in
-        absurd (not_both (eqb_same 0) (rw nought at d))
-
--- What no refusal says of the operands.
+-- What the tests of the operands say of them.
 module _ (shape : Shape) where
-  pub cabinet_passes : (a : ℕ) → cabinet_refusal shape a ≡ 0 → a < shape.vertices
-  unfolding cabinet_refusal
-  cabinet_passes a e = ltb_lt a shape.vertices (test_passed (ltb a shape.vertices) (λ d. absurd (omega arith)) e)
+  cabinet_passes : {a : ℕ} → J.cabinet_known shape a ≡ Ok tt → a < shape.vertices
+  cabinet_passes {a} e = ltb_lt a shape.vertices (is_met_lem _ e)
 
-  pub exchange_passes : (t : List ℕ) (a : ℕ) → exchange_refusal shape t a ≡ 0 → (a < shape.vertices) × ((state_of shape t).marked a ≡ false)
-  unfolding exchange_refusal
-  exchange_passes t a e =
-      let both = neither_refuses (cabinet_refusal shape a) (cond ((state_of shape t).marked a) 12 0) e in
-      (cabinet_passes a both.0, test_failed ((state_of shape t).marked a) (λ d. absurd (omega arith)) both.1)
+  span_passes : {s : ℕ} → J.span_known shape s ≡ Ok tt → s < shape.edges
+  span_passes {s} e = ltb_lt s shape.edges (is_met_lem _ e)
 
-  pub span_passes : (s : ℕ) → span_refusal shape s ≡ 0 → s < shape.edges
-  unfolding span_refusal
-  span_passes s e = ltb_lt s shape.edges (test_passed (ltb s shape.edges) (λ d. absurd (omega arith)) e)
+  pair_passes : {a b : ℕ} → J.cabinets_known shape a b ≡ Ok tt → (a < shape.vertices) × (b < shape.vertices)
+  pair_passes e = let passed = both_pass e in (cabinet_passes passed.0, cabinet_passes passed.1)
 
-  pub new_cabinet_passes : new_cabinet_refusal shape ≡ 0 → shape.vertices < shape.limits.vertices
-  unfolding new_cabinet_refusal
-  new_cabinet_passes e =
-      leb_gt shape.limits.vertices shape.vertices
-      (test_failed (leb shape.limits.vertices shape.vertices) (λ d. absurd (omega arith)) e)
+  different_passes : {a b : ℕ} → J.differ shape a b ≡ Ok tt → (a < shape.vertices) × (b < shape.vertices) × (a ≡ b → ⊥)
+  different_passes {a} {b} e =
+      let passed = both_pass e in
+      let known = pair_passes passed.0 in
+      let apart = is_false (eqb a b) (is_met_lem _ passed.1) in
+      (known.0, known.1, λ same. not_both (eqb_same b) (rw same at apart))
 
-  module _ (a b : ℕ) where
-    pub pair_passes : pair_refusal shape a b ≡ 0 → (a < shape.vertices) × (b < shape.vertices)
-    unfolding pair_refusal
-    pair_passes e =
-        let both = neither_refuses (cabinet_refusal shape a) (cabinet_refusal shape b) e in
-        (cabinet_passes a both.0, cabinet_passes b both.1)
-
-    pub different_passes : different_refusal shape a b ≡ 0 → (pair_refusal shape a b ≡ 0) × (a ≡ b → ⊥)
-    unfolding different_refusal
-    different_passes e =
-        let both = neither_refuses (pair_refusal shape a b) (cond (eqb a b) 8 0) e in
-        let apart = test_failed (eqb a b) (λ d. absurd (omega arith)) both.1 in
-        (both.0, λ same. not_both (eqb_same b) (rw same at apart))
-
-    pub new_span_passes : (lay : Lay) → new_span_refusal shape a b lay ≡ 0 → (different_refusal shape a b ≡ 0) × (shape.edges < shape.limits.edges)
-    unfolding new_span_refusal
-    new_span_passes lay e =
-        let isfull = leb shape.limits.edges shape.edges in
-        let both = neither_refuses (different_refusal shape a b) (first_of (duct_refusal lay) (cond isfull 9 0)) e in
-        let later = neither_refuses (duct_refusal lay) (cond isfull 9 0) both.1 in
-        (both.0, leb_gt shape.limits.edges shape.edges (test_failed isfull (λ d. absurd (omega arith)) later.1))
-
-    pub district_passes : (t : List ℕ) → district_refusal shape t a b ≡ 0
-        → (pair_refusal shape a b ≡ 0) × (component (network_in shape t) a b ≡ true)
-    unfolding district_refusal
-    district_passes t e =
-        let both = neither_refuses (pair_refusal shape a b) (cond (component (network_in shape t) a b) 0 10) e in
-        (both.0, test_passed (component (network_in shape t) a b) (λ d. absurd (omega arith)) both.1)
-
-    pub ring_passes : (t : List ℕ) → ring_refusal shape t a b ≡ 0
-        → (different_refusal shape a b ≡ 0) × (bridge_block (network_in shape t) a b ≡ true)
-    unfolding ring_refusal
-    ring_passes t e =
-        let both = neither_refuses (different_refusal shape a b) (cond (bridge_block (network_in shape t) a b) 0 14) e in
-        (both.0, test_passed (bridge_block (network_in shape t) a b) (λ d. absurd (omega arith)) both.1)
+-- And so of each command's.
+pub judgement_passes : (shape : Shape) (t : List ℕ) (order : Order) → judgement shape t order ≡ Ok tt → Passed shape t order
+unfolding judgement Passed
+judgement_passes shape t O.AddCabinet e = leb_gt _ _ (is_false _ (is_met_lem _ e))
+judgement_passes shape t (O.AddSpan a b lay) e =
+    let passed = both_pass e in
+    let ends = different_passes shape passed.0 in
+    (leb_gt _ _ (is_false _ (is_met_lem _ (both_pass passed.1).1)), ends.0, ends.1, ends.2)
+judgement_passes shape t (O.DistrictName a) e = cabinet_passes shape e
+judgement_passes shape t (O.RingName a) e = cabinet_passes shape e
+judgement_passes shape t (O.SharedMesh a b) e = different_passes shape e
+judgement_passes shape t (O.SoleSpans a b) e =
+    let passed = both_pass e in
+    let known = pair_passes shape passed.0 in
+    (known.0, known.1, is_met_lem _ passed.1)
+judgement_passes shape t (O.CutCabinets a b) e =
+    let passed = both_pass e in
+    let known = pair_passes shape passed.0 in
+    (known.0, known.1, is_met_lem _ passed.1)
+judgement_passes shape t (O.IsSole s) e = span_passes shape e
+judgement_passes shape t (O.MarkExchange a) e =
+    let passed = both_pass e in
+    (cabinet_passes shape passed.0, is_false _ (is_met_lem _ passed.1))
+judgement_passes shape t (O.HoldsExchange a) e = cabinet_passes shape e
+judgement_passes shape t (O.RoutesBetween a b) e =
+    let passed = both_pass e in
+    ((different_passes shape passed.0).1, is_met_lem _ passed.1)
+judgement_passes shape t (O.RecordLength s measure) e = span_passes shape e
+judgement_passes shape t (O.SpanLength s) e = span_passes shape e
+judgement_passes shape t O.ExchangeShare e = tt

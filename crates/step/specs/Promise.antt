@@ -1,6 +1,6 @@
 -- What a step promises: the paper's answer for each reply, and what becomes of a command.
-use Rattle.std.specs.Prelude.{List, ◌++◌, ◌≡◌, ℕ, ◌+◌, ◌*◌, ◌<◌}
-use Rattle.std.proofs.Math.Option.{Option, none, some}
+use Rattle.std.specs.Prelude.{Result, Ok, Err, List, ◌++◌, ◌≡◌, ℕ, ◌+◌, ◌*◌, ◌<◌}
+use Rattle.std.proofs.Math.Option as Maybe
 use Rattle.graph.specs.Below.{tabulate}
 use Rattle.naming.specs.Lookup as Paper
 use Rattle.naming.specs.State.{Agree}
@@ -8,10 +8,13 @@ use Rattle.commands.specs.Field.{Kind, district, ring, mesh}
 use Rattle.commands.specs.Command.{Command}
 use Rattle.commands.specs.Answer.{Notice, change_notice, Plain, district_is, ring_is, mesh_shared, no_mesh_shared, sole_spans_are, cut_cabinets_are, sole_is, exchange_marked, exchange_held, routes_are, length_recorded, length_is, no_length, share_is, Answer, cabinet_added, span_added, plain}
 use Rattle.commands.specs.Facts.{after, answer}
-use Rattle.commands.specs.Refusal.{Refusal, refusal_number, Capacities, refusal_of}
+use Rattle.commands.specs.Refusal as Table
+use Rattle.commands.specs.Refusal.{Capacities, refusal_of}
 use Rattle.commands.specs.Register.{register_routes}
 use Rattle.numbers.specs.declared.Limits.{Limits}
 use Rattle.numbers.specs.declared.Shape.{Shape}
+use Rattle.refusals.specs.declared.Refusal.{Refusal}
+use Rattle.refusals.specs.Causes.{cause_of}
 use Rattle.forest.specs.declared.Group.{Group}
 use Rattle.forest.specs.declared.Growth.{Growth}
 use Rattle.forest.specs.declared.Length.{Length}
@@ -30,8 +33,6 @@ use Rattle.step.specs.declared.Finding.{Finding}
 use Rattle.step.specs.declared.Finding.TheVariants as F
 use Rattle.step.specs.declared.Reply.{Reply}
 use Rattle.step.specs.declared.Reply.TheVariants as R
-use Rattle.step.specs.declared.Stepped.{Stepped}
-use Rattle.step.specs.declared.Stepped.TheVariants as S
 
 -- The capacities in the paper's words.
 unfoldable pub capacities_of : Limits → Capacities
@@ -138,11 +139,6 @@ ReplyFits (R.Cabinet a) = Unit
 ReplyFits (R.Span s growth) = notice_count growth < 65536
 ReplyFits (R.Found finding) = Unit
 
--- A refused command: its number; the table is as before beyond its words.
-pub record StepRefused (limits : Limits) (old new : List ℕ) (result : Stepped) (r : Refusal) : Type 0 where
-  pub number : result ≡ S.Refused (refusal_number r)
-  pub same_beyond : SameBeyond limits old new
-
 -- A command that is carried out: the table holds a state that agrees with the one after it, and the reply is its answer.
 pub record Carried (shape : Shape) (c : Command) (old new : List ℕ) (reply : Reply) : Type 0 where
   pub holds : Holds (shape_after shape reply) new
@@ -151,16 +147,21 @@ pub record Carried (shape : Shape) (c : Command) (old new : List ℕ) (reply : R
   pub fits : ReplyFits reply
   pub same_beyond : SameBeyond shape.limits old new
 
--- The step is done, with the reply of a command that is carried out.
-pub record StepDone (shape : Shape) (c : Command) (old new : List ℕ) (result : Stepped) : Type 0 where
-  pub reply : Reply
-  pub done : result ≡ S.Done reply
+-- What a step gives, where the table of causes says this of the command. It is refused for the table's cause; the table is as before beyond its
+-- words.
+pub record StepRefused (limits : Limits) (old new : List ℕ) (refusal : Refusal) (cause : Maybe.Option Table.Refusal) : Type 0 where
+  pub refused : cause ≡ Maybe.some (cause_of refusal)
+  pub same_beyond : SameBeyond limits old new
+
+-- Or it is not refused, and is carried out with this reply.
+pub record StepDone (shape : Shape) (c : Command) (old new : List ℕ) (reply : Reply) (cause : Maybe.Option Table.Refusal) : Type 0 where
+  pub not_refused : cause ≡ Maybe.none
   pub carried : Carried shape c old new reply
 
--- A step meets the table of causes: the command is refused for the first cause, or carried out.
-abbrev pub StepMeets : Shape → Command → List ℕ → List ℕ → Stepped → Option Refusal → Type 0
-StepMeets shape c old new result (some r) = StepRefused shape.limits old new result r
-StepMeets shape c old new result none = StepDone shape c old new result
+abbrev pub StepMeets : Shape → Command → List ℕ → List ℕ → Result Reply Refusal → Maybe.Option Table.Refusal → Type 0
+StepMeets shape c old new (Err refusal) cause = StepRefused shape.limits old new refusal cause
+StepMeets shape c old new (Ok reply) cause = StepDone shape c old new reply cause
 
-abbrev pub StepPromise : Shape → Command → List ℕ → List ℕ → Stepped → Type 0
+-- A step meets the table of causes.
+abbrev pub StepPromise : Shape → Command → List ℕ → List ℕ → Result Reply Refusal → Type 0
 StepPromise shape c old new result = StepMeets shape c old new result (refusal_of (capacities_of shape.limits) (state_of shape old) c)

@@ -4,7 +4,7 @@ ghost use Rattle.graph.specs.Groups.{component, bridge_block};
 ghost use Rattle.commands.specs.Command.{add_cabinet, shared_mesh, sole_spans, cut_cabinets, is_sole, mark_exchange, holds_exchange, routes_between, record_length, span_length, exchange_share};
 ghost use Rattle.forest.specs.Promise.{Holds, state_of, network_in};
 ghost use Rattle.reading.specs.Inside.Reads.{span_command, meaning};
-ghost use Rattle.step.specs.Inside.Judged.{judgement};
+ghost use Rattle.step.specs.Inside.Judged.{Passed};
 ghost use Rattle.step.specs.Promise.{Carried};
 ghost use Rattle.step.specs.Inside.Asked.{asks_group, duct_of};
 
@@ -28,6 +28,7 @@ fn add_cabinet(t: &mut [u32], shape: Shape) -> Reply
 }
 
 // The duct that a new span lies in; 0 where none is told.
+#[tactic(auto, unfolding(crate::specs::Inside::Asked::duct_of))]
 fn duct_of(lay: Lay) -> Duct
     ensures { result.0 ≡ duct_of lay }
 {
@@ -146,8 +147,9 @@ fn exchange_share(t: &[u32], shape: Shape) -> Reply
 }
 
 // A command that meets no refusal.
+#[tactic(auto, unfolding(crate::specs::Inside::Judged::Passed, crate::specs::Inside::Asked::asks_group, reading::specs::Inside::Reads::meaning))]
 pub(crate) fn carry_out(t: &mut [u32], shape: Shape, order: Order) -> Reply
-    requires { Holds shape t.old × (judgement shape t.old order ≡ 0) }
+    requires { Holds shape t.old × Passed shape t.old order }
     ensures { Carried shape (meaning order) t.old t.new result }
 {
     match order {

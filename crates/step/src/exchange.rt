@@ -20,11 +20,9 @@ fn with_exchange(t: &[u32], shape: Shape) -> u32
     ensures { result ≡ with_exchange (state_of shape t.now) }
 {
     let mut found: u32 = 0;
-    let mut i: u32 = 0;
-    while i < shape.vertices {
+    for i in 0..shape.vertices {
         let held = ring_holds_exchange(t, shape, Vertex(i));
         found += held as u32;
-        i += 1;
     }
     found
 }

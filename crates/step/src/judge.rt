@@ -1,153 +1,129 @@
-// The refusal that a command meets, room apart, by its number; 0 if it meets none. Each function tests lines of the table in their order.
+// The refusal that a command meets, room apart. Each function tests lines of the table of causes in their order.
 ghost use Rattle.std.specs.Prelude.{◌≡◌};
 ghost use Rattle.forest.specs.Promise.{Holds};
-ghost use Rattle.step.specs.Inside.Judged.{cabinet_refusal, span_refusal, pair_refusal, different_refusal, exchange_refusal, duct_refusal, new_cabinet_refusal, new_span_refusal, district_refusal, ring_refusal, judgement};
+ghost use Rattle.step.specs.Inside.Judged.{demand, cabinet_known, span_known, cabinets_known, differ, no_exchange, some_duct, room_for_cabinet, new_span, share_district, share_ring, judgement};
 
 use forest::{is_marked, same_bridge_block, same_component};
-use numbers::{Edge, Shape, Vertex};
+use numbers::{Duct, Edge, Shape, Vertex};
 use reading::read::{Lay, Order};
+use refusals::Refusal;
+
+// What is demanded is met, or refused so.
+fn demand(is_met: bool, refusal: Refusal) -> Result<(), Refusal>
+    ensures { result ≡ demand is_met refusal }
+{
+    if is_met { Ok(()) } else { Err(refusal) }
+}
 
 // 6: the cabinet is not known.
-fn cabinet_refusal(shape: Shape, a: Vertex) -> u32
-    ensures { result ≡ cabinet_refusal shape a.0 }
+fn cabinet_known(shape: Shape, a: Vertex) -> Result<(), Refusal>
+    ensures { result ≡ cabinet_known shape a.0 }
 {
-    if a.0 < shape.vertices { 0 } else { 6 }
+    demand(a.0 < shape.vertices, Refusal::UnknownCabinet)
 }
 
 // 7: the span is not known.
-fn span_refusal(shape: Shape, s: Edge) -> u32
-    ensures { result ≡ span_refusal shape s.0 }
+fn span_known(shape: Shape, s: Edge) -> Result<(), Refusal>
+    ensures { result ≡ span_known shape s.0 }
 {
-    if s.0 < shape.edges { 0 } else { 7 }
+    demand(s.0 < shape.edges, Refusal::UnknownSpan)
 }
 
 // 6: one of the two cabinets is not known.
-fn pair_refusal(shape: Shape, a: Vertex, b: Vertex) -> u32
-    ensures { result ≡ pair_refusal shape a.0 b.0 }
+fn cabinets_known(shape: Shape, a: Vertex, b: Vertex) -> Result<(), Refusal>
+    ensures { result ≡ cabinets_known shape a.0 b.0 }
 {
-    let first = cabinet_refusal(shape, a);
-    if first != 0 {
-        return first;
-    }
-    cabinet_refusal(shape, b)
+    cabinet_known(shape, a)?;
+    cabinet_known(shape, b)
 }
 
 // 6, then 8: the two cabinets are one.
-fn different_refusal(shape: Shape, a: Vertex, b: Vertex) -> u32
-    ensures { result ≡ different_refusal shape a.0 b.0 }
+fn differ(shape: Shape, a: Vertex, b: Vertex) -> Result<(), Refusal>
+    ensures { result ≡ differ shape a.0 b.0 }
 {
-    let unknown = pair_refusal(shape, a, b);
-    if unknown != 0 {
-        return unknown;
-    }
-    if a.0 == b.0 { 8 } else { 0 }
+    cabinets_known(shape, a, b)?;
+    demand(a != b, Refusal::EqualCabinets)
 }
 
 // 6, then 12: the cabinet is an exchange already.
-fn exchange_refusal(t: &[u32], shape: Shape, a: Vertex) -> u32
+fn no_exchange(t: &[u32], shape: Shape, a: Vertex) -> Result<(), Refusal>
     requires { Holds shape t.now }
-    ensures { result ≡ exchange_refusal shape t.now a.0 }
+    ensures { result ≡ no_exchange shape t.now a.0 }
 {
-    let unknown = cabinet_refusal(shape, a);
-    if unknown != 0 {
-        return unknown;
-    }
-    if is_marked(t, shape, a) { 12 } else { 0 }
+    cabinet_known(shape, a)?;
+    demand(!is_marked(t, shape, a), Refusal::AlreadyExchange)
 }
 
 // 13: the duct is 0.
-fn duct_refusal(lay: Lay) -> u32
-    ensures { result ≡ duct_refusal lay }
+fn some_duct(lay: Lay) -> Result<(), Refusal>
+    ensures { result ≡ some_duct lay }
 {
     match lay {
-        Lay::NoDuct => 0,
-        Lay::InDuct(d) => { if d.0 == 0 { 13 } else { 0 } }
+        Lay::NoDuct => Ok(()),
+        Lay::InDuct(d) => demand(d != Duct(0), Refusal::NoDuct),
     }
 }
 
 // 9: there are as many cabinets as there may be.
-fn new_cabinet_refusal(shape: Shape) -> u32
-    ensures { result ≡ new_cabinet_refusal shape }
+fn room_for_cabinet(shape: Shape) -> Result<(), Refusal>
+    ensures { result ≡ room_for_cabinet shape }
 {
-    let limits = shape.limits;
-    if (limits.vertices as u32) <= shape.vertices {
-        9
-    } else {
-        0
-    }
+    demand(
+        shape.vertices < shape.limits.vertices as u32,
+        Refusal::Full,
+    )
 }
 
 // 6, then 8, then 13, then 9: there are as many spans as there may be.
-fn new_span_refusal(shape: Shape, a: Vertex, b: Vertex, lay: Lay) -> u32
-    ensures { result ≡ new_span_refusal shape a.0 b.0 lay }
+fn new_span(shape: Shape, a: Vertex, b: Vertex, lay: Lay) -> Result<(), Refusal>
+    ensures { result ≡ new_span shape a.0 b.0 lay }
 {
-    let limits = shape.limits;
-    let ends = different_refusal(shape, a, b);
-    if ends != 0 {
-        return ends;
-    }
-    let duct = duct_refusal(lay);
-    if duct != 0 {
-        return duct;
-    }
-    if (limits.edges as u32) <= shape.edges {
-        9
-    } else {
-        0
-    }
+    differ(shape, a, b)?;
+    some_duct(lay)?;
+    demand(
+        shape.edges < shape.limits.edges as u32,
+        Refusal::Full,
+    )
 }
 
 // 6, then 10: the two cabinets are in two districts.
-fn district_refusal(t: &[u32], shape: Shape, a: Vertex, b: Vertex) -> u32
+fn share_district(t: &[u32], shape: Shape, a: Vertex, b: Vertex) -> Result<(), Refusal>
     requires { Holds shape t.now }
-    ensures { result ≡ district_refusal shape t.now a.0 b.0 }
+    ensures { result ≡ share_district shape t.now a.0 b.0 }
 {
-    let unknown = pair_refusal(shape, a, b);
-    if unknown != 0 {
-        return unknown;
-    }
-    if same_component(t, shape, a, b) {
-        0
-    } else {
-        10
-    }
+    cabinets_known(shape, a, b)?;
+    demand(same_component(t, shape, a, b), Refusal::TwoDistricts)
 }
 
 // 6, then 8, then 14: the two cabinets share no ring.
-fn ring_refusal(t: &[u32], shape: Shape, a: Vertex, b: Vertex) -> u32
+fn share_ring(t: &[u32], shape: Shape, a: Vertex, b: Vertex) -> Result<(), Refusal>
     requires { Holds shape t.now }
-    ensures { result ≡ ring_refusal shape t.now a.0 b.0 }
+    ensures { result ≡ share_ring shape t.now a.0 b.0 }
 {
-    let ends = different_refusal(shape, a, b);
-    if ends != 0 {
-        return ends;
-    }
-    if same_bridge_block(t, shape, a, b) {
-        0
-    } else {
-        14
-    }
+    differ(shape, a, b)?;
+    demand(same_bridge_block(t, shape, a, b), Refusal::NoSharedRing)
 }
 
 // The refusal of a command.
-pub(crate) fn judge(t: &[u32], shape: Shape, order: Order) -> u32
+#[tactic(auto, unfolding(crate::specs::Inside::Judged::judgement))]
+pub(crate) fn judge(t: &[u32], shape: Shape, order: Order) -> Result<(), Refusal>
     requires { Holds shape t.now }
     ensures { result ≡ judgement shape t.now order }
 {
     match order {
-        Order::AddCabinet => new_cabinet_refusal(shape),
-        Order::AddSpan(a, b, lay) => new_span_refusal(shape, a, b, lay),
-        Order::DistrictName(a) => cabinet_refusal(shape, a),
-        Order::RingName(a) => cabinet_refusal(shape, a),
-        Order::SharedMesh(a, b) => different_refusal(shape, a, b),
-        Order::SoleSpans(a, b) => district_refusal(t, shape, a, b),
-        Order::CutCabinets(a, b) => district_refusal(t, shape, a, b),
-        Order::IsSole(s) => span_refusal(shape, s),
-        Order::MarkExchange(a) => exchange_refusal(t, shape, a),
-        Order::HoldsExchange(a) => cabinet_refusal(shape, a),
-        Order::RoutesBetween(a, b) => ring_refusal(t, shape, a, b),
-        Order::RecordLength(s, _measure) => span_refusal(shape, s),
-        Order::SpanLength(s) => span_refusal(shape, s),
-        Order::ExchangeShare => 0,
+        Order::AddCabinet => room_for_cabinet(shape),
+        Order::AddSpan(a, b, lay) => new_span(shape, a, b, lay),
+        Order::DistrictName(a) => cabinet_known(shape, a),
+        Order::RingName(a) => cabinet_known(shape, a),
+        Order::SharedMesh(a, b) => differ(shape, a, b),
+        Order::SoleSpans(a, b) => share_district(t, shape, a, b),
+        Order::CutCabinets(a, b) => share_district(t, shape, a, b),
+        Order::IsSole(s) => span_known(shape, s),
+        Order::MarkExchange(a) => no_exchange(t, shape, a),
+        Order::HoldsExchange(a) => cabinet_known(shape, a),
+        Order::RoutesBetween(a, b) => share_ring(t, shape, a, b),
+        Order::RecordLength(s, _measure) => span_known(shape, s),
+        Order::SpanLength(s) => span_known(shape, s),
+        Order::ExchangeShare => Ok(()),
     }
 }

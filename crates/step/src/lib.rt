@@ -16,6 +16,7 @@ use crate::judge::judge;
 use forest::{Group, Growth, Length, Shared, VertexGroups};
 use numbers::{Edge, Shape, Vertex};
 use reading::read::Order;
+use refusals::Refusal;
 use routes::Lengths;
 
 // Which list the table has written down.
@@ -51,76 +52,70 @@ pub enum Reply {
     Found(Finding),
 }
 
-// What a command gives: the number of the refusal that it meets, or what is to be answered.
-#[derive(Clone, Copy)]
-pub enum Stepped {
-    Refused(u32),
-    Done(Reply),
-}
-
-// How many bytes the answer with a finding has.
-fn finding_size(finding: Finding) -> usize
-    ensures { result ≡ finding_size finding }
-{
-    match finding {
-        Finding::Group(_groups, _group) => 5,
-        Finding::Mesh(_shared) => 4,
-        Finding::List(_list, count) => 3 + 2 * (count as usize),
-        Finding::Sole(_sole) => 2,
-        Finding::Marked => 1,
-        Finding::Held(_held) => 2,
-        Finding::Routes(lengths) => 5 + 2 * ((lengths.first as usize) + (lengths.second as usize)),
-        Finding::Recorded => 1,
-        Finding::Measured(_length) => 4,
-        Finding::Share(_share) => 3,
+impl Finding {
+    // How many bytes the answer with it has.
+    #[tactic(auto, unfolding(crate::specs::Promise::finding_size))]
+    fn size(self) -> usize
+        ensures { result ≡ finding_size self }
+    {
+        match self {
+            Finding::Group(_, _) => 5,
+            Finding::Mesh(_) => 4,
+            Finding::List(_, count) => 3 + 2 * (count as usize),
+            Finding::Sole(_) => 2,
+            Finding::Marked => 1,
+            Finding::Held(_) => 2,
+            Finding::Routes(lengths) => 5 + 2 * ((lengths.first as usize) + (lengths.second as usize)),
+            Finding::Recorded => 1,
+            Finding::Measured(_) => 4,
+            Finding::Share(_) => 3,
+        }
     }
 }
 
-// How many bytes the answer has.
-pub fn size_of(reply: Reply) -> usize
-    ensures { result ≡ reply_size reply }
-{
-    match reply {
-        Reply::Cabinet(_cabinet) => 3,
-        Reply::Span(_span, growth) => {
-            7 + 5
-                * ((growth.components as usize)
-                    + (growth.bridge_blocks as usize)
-                    + (growth.blocks as usize))
+impl Reply {
+    // How many bytes the answer has.
+    #[tactic(auto, unfolding(crate::specs::Promise::reply_size))]
+    pub fn size(self) -> usize
+        ensures { result ≡ reply_size self }
+    {
+        match self {
+            Reply::Cabinet(_) => 3,
+            Reply::Span(_, growth) => {
+                7 + 5
+                    * ((growth.components as usize)
+                        + (growth.bridge_blocks as usize)
+                        + (growth.blocks as usize))
+            }
+            Reply::Found(finding) => finding.size(),
         }
-        Reply::Found(finding) => finding_size(finding),
     }
 }
 
 // The network's size after the command that is answered so.
+#[tactic(auto, unfolding(crate::specs::Promise::shape_after))]
 pub fn shape_after(shape: Shape, reply: Reply) -> Shape
     requires { (shape.vertices ≤ 4096) × (shape.edges ≤ 8192) }
     ensures { result ≡ shape_after shape reply }
 {
-    let limits = shape.limits;
     match reply {
-        Reply::Cabinet(_cabinet) => Shape {
-            limits: limits,
+        Reply::Cabinet(_) => Shape {
             vertices: shape.vertices + 1,
-            edges: shape.edges,
+            ..shape
         },
-        Reply::Span(_span, _growth) => Shape {
-            limits: limits,
-            vertices: shape.vertices,
+        Reply::Span(_, _) => Shape {
             edges: shape.edges + 1,
+            ..shape
         },
-        Reply::Found(_finding) => shape,
+        Reply::Found(_) => shape,
     }
 }
 
 // One command.
-pub fn step(t: &mut [u32], shape: Shape, order: Order) -> Stepped
+pub fn step(t: &mut [u32], shape: Shape, order: Order) -> Result<Reply, Refusal>
     requires { Holds shape t.old }
     ensures { StepPromise shape (meaning order) t.old t.new result }
 {
-    let refusal = judge(t, shape, order);
-    if refusal != 0 {
-        return Stepped::Refused(refusal);
-    }
-    Stepped::Done(carry_out(t, shape, order))
+    judge(t, shape, order)?;
+    Ok(carry_out(t, shape, order))
 }

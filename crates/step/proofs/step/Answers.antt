@@ -1,18 +1,17 @@
 -- `step` refuses a command for the first cause that is there, or carries it out.
 use mathlib.Core.Path.{sym, ◌∙◌}
+use Rattle.std.proofs.lemmas.Result.{err_from_is_err_and}
+use Rattle.step.proofs.Judgements.{judgement_passes}
 use Rattle.step.proofs.Steps.{refused_step, done_step}
 use Rattle.step.proofs.step.Goals as goal
 
-pub returns-then-refusal-ne0 : goal.returns-then-refusal-ne0
-returns-then-refusal-ne0 c = refused_step c.args.shape c.args.order c.args.t.now c.judge-refusal.result c.judge-refusal.ensures c.if-refusal-ne0.true
+pub returns-in_err-judge : goal.returns-in_err-judge
+returns-in_err-judge c =
+    let p = err_from_is_err_and c.from_residual.result c.from_residual.ensures.1 in
+    rw (p.1, p.2) (refused_step _ _ _ (sym c.in_err-judge.was ∙ c.judge.ensures))
+
+pub carry_out-requires : goal.carry_out-requires
+carry_out-requires c = (c.requires, judgement_passes _ _ _ (sym c.judge.ensures ∙ c.in_ok-judge.was))
 
 pub returns : goal.returns
-returns c =
-    done_step
-    c.args.shape
-    c.args.order
-    c.args.t.now
-    c.carry_out.new.t
-    c.carry_out.result
-    (sym c.judge-refusal.ensures ∙ c.if-refusal-ne0.false)
-    c.carry_out.ensures
+returns c = done_step _ _ _ (sym c.judge.ensures ∙ c.in_ok-judge.was) c.carry_out.ensures

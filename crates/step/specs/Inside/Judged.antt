@@ -1,62 +1,93 @@
--- The refusals that the code tests for, by their numbers: 0 is none.
-use Rattle.std.specs.Prelude.{cond, List, ℕ, eqb, leb, ltb}
+-- The tests of the code: each passes, or refuses for its cause.
+use Rattle.std.specs.Prelude.{Bool, true, false, not, cond, Result, Ok, Err, List, ◌≡◌, ℕ, ◌<◌, eqb, leb, ltb}
 use Rattle.graph.specs.Groups.{component, bridge_block}
 use Rattle.numbers.specs.declared.Shape.{Shape}
+use Rattle.refusals.specs.declared.Refusal.{Refusal}
+use Rattle.refusals.specs.declared.Refusal.TheVariants as R
 use Rattle.forest.specs.Promise.{state_of, network_in}
 use Rattle.reading.specs.declared.read.Lay.{Lay}
 use Rattle.reading.specs.declared.read.Lay.TheVariants as L
 use Rattle.reading.specs.declared.read.Order.{Order}
 use Rattle.reading.specs.declared.read.Order.TheVariants as O
 
--- The first of two refusals.
-unfoldable pub first_of : ℕ → ℕ → ℕ
-first_of number later = cond (eqb number 0) later number
+-- What a test gives.
+abbrev pub Judgement : Type 0
+Judgement = Result Unit Refusal
 
-unfoldable pub cabinet_refusal : Shape → ℕ → ℕ
-cabinet_refusal shape a = cond (ltb a shape.vertices) 0 6
+-- What is demanded is met, or refused so.
+abbrev pub demand : Bool → Refusal → Judgement
+demand is_met refusal = cond is_met (Ok tt) (Err refusal)
 
-unfoldable pub span_refusal : Shape → ℕ → ℕ
-span_refusal shape s = cond (ltb s shape.edges) 0 7
+-- One test and then another: the first refusal of the two.
+abbrev pub and_then : Judgement → Judgement → Judgement
+and_then (Ok passed) later = later
+and_then (Err refusal) later = Err refusal
 
-unfoldable pub pair_refusal : Shape → ℕ → ℕ → ℕ
-pair_refusal shape a b = first_of (cabinet_refusal shape a) (cabinet_refusal shape b)
+abbrev pub cabinet_known : Shape → ℕ → Judgement
+cabinet_known shape a = demand (ltb a shape.vertices) R.UnknownCabinet
 
-unfoldable pub different_refusal : Shape → ℕ → ℕ → ℕ
-different_refusal shape a b = first_of (pair_refusal shape a b) (cond (eqb a b) 8 0)
+abbrev pub span_known : Shape → ℕ → Judgement
+span_known shape s = demand (ltb s shape.edges) R.UnknownSpan
 
-unfoldable pub exchange_refusal : Shape → List ℕ → ℕ → ℕ
-exchange_refusal shape t a = first_of (cabinet_refusal shape a) (cond ((state_of shape t).marked a) 12 0)
+abbrev pub cabinets_known : Shape → ℕ → ℕ → Judgement
+cabinets_known shape a b = and_then (cabinet_known shape a) (cabinet_known shape b)
 
-unfoldable pub duct_refusal : Lay → ℕ
-duct_refusal L.NoDuct = 0
-duct_refusal (L.InDuct d) = cond (eqb d.0 0) 13 0
+abbrev pub differ : Shape → ℕ → ℕ → Judgement
+differ shape a b = and_then (cabinets_known shape a b) (demand (not (eqb a b)) R.EqualCabinets)
 
-unfoldable pub new_cabinet_refusal : Shape → ℕ
-new_cabinet_refusal shape = cond (leb shape.limits.vertices shape.vertices) 9 0
+abbrev pub no_exchange : Shape → List ℕ → ℕ → Judgement
+no_exchange shape t a = and_then (cabinet_known shape a) (demand (not ((state_of shape t).marked a)) R.AlreadyExchange)
 
-unfoldable pub new_span_refusal : Shape → ℕ → ℕ → Lay → ℕ
-new_span_refusal shape a b lay =
-    first_of (different_refusal shape a b) (first_of (duct_refusal lay) (cond (leb shape.limits.edges shape.edges) 9 0))
+abbrev pub some_duct : Lay → Judgement
+some_duct L.NoDuct = Ok tt
+some_duct (L.InDuct d) = demand (not (eqb d.0 0)) R.NoDuct
 
-unfoldable pub district_refusal : Shape → List ℕ → ℕ → ℕ → ℕ
-district_refusal shape t a b = first_of (pair_refusal shape a b) (cond (component (network_in shape t) a b) 0 10)
+abbrev pub room_for_cabinet : Shape → Judgement
+room_for_cabinet shape = demand (not (leb shape.limits.vertices shape.vertices)) R.Full
 
-unfoldable pub ring_refusal : Shape → List ℕ → ℕ → ℕ → ℕ
-ring_refusal shape t a b = first_of (different_refusal shape a b) (cond (bridge_block (network_in shape t) a b) 0 14)
+abbrev pub new_span : Shape → ℕ → ℕ → Lay → Judgement
+new_span shape a b lay =
+    and_then (differ shape a b) (and_then (some_duct lay) (demand (not (leb shape.limits.edges shape.edges)) R.Full))
 
--- The refusal of each command.
-unfoldable pub judgement : Shape → List ℕ → Order → ℕ
-judgement shape t O.AddCabinet = new_cabinet_refusal shape
-judgement shape t (O.AddSpan a b lay) = new_span_refusal shape a.0 b.0 lay
-judgement shape t (O.DistrictName a) = cabinet_refusal shape a.0
-judgement shape t (O.RingName a) = cabinet_refusal shape a.0
-judgement shape t (O.SharedMesh a b) = different_refusal shape a.0 b.0
-judgement shape t (O.SoleSpans a b) = district_refusal shape t a.0 b.0
-judgement shape t (O.CutCabinets a b) = district_refusal shape t a.0 b.0
-judgement shape t (O.IsSole s) = span_refusal shape s.0
-judgement shape t (O.MarkExchange a) = exchange_refusal shape t a.0
-judgement shape t (O.HoldsExchange a) = cabinet_refusal shape a.0
-judgement shape t (O.RoutesBetween a b) = ring_refusal shape t a.0 b.0
-judgement shape t (O.RecordLength s measure) = span_refusal shape s.0
-judgement shape t (O.SpanLength s) = span_refusal shape s.0
-judgement shape t O.ExchangeShare = 0
+abbrev pub share_district : Shape → List ℕ → ℕ → ℕ → Judgement
+share_district shape t a b = and_then (cabinets_known shape a b) (demand (component (network_in shape t) a b) R.TwoDistricts)
+
+abbrev pub share_ring : Shape → List ℕ → ℕ → ℕ → Judgement
+share_ring shape t a b = and_then (differ shape a b) (demand (bridge_block (network_in shape t) a b) R.NoSharedRing)
+
+-- The tests of each command, in the order of the table of causes.
+unfoldable pub judgement : Shape → List ℕ → Order → Judgement
+judgement shape t O.AddCabinet = room_for_cabinet shape
+judgement shape t (O.AddSpan a b lay) = new_span shape a.0 b.0 lay
+judgement shape t (O.DistrictName a) = cabinet_known shape a.0
+judgement shape t (O.RingName a) = cabinet_known shape a.0
+judgement shape t (O.SharedMesh a b) = differ shape a.0 b.0
+judgement shape t (O.SoleSpans a b) = share_district shape t a.0 b.0
+judgement shape t (O.CutCabinets a b) = share_district shape t a.0 b.0
+judgement shape t (O.IsSole s) = span_known shape s.0
+judgement shape t (O.MarkExchange a) = no_exchange shape t a.0
+judgement shape t (O.HoldsExchange a) = cabinet_known shape a.0
+judgement shape t (O.RoutesBetween a b) = share_ring shape t a.0 b.0
+judgement shape t (O.RecordLength s measure) = span_known shape s.0
+judgement shape t (O.SpanLength s) = span_known shape s.0
+judgement shape t O.ExchangeShare = Ok tt
+
+-- What is known of a command that passes them.
+unfoldable pub Passed : Shape → List ℕ → Order → Type 0
+Passed shape t O.AddCabinet = shape.vertices < shape.limits.vertices
+Passed shape t (O.AddSpan a b lay) =
+    (shape.edges < shape.limits.edges) × (a.0 < shape.vertices) × (b.0 < shape.vertices) × (a.0 ≡ b.0 → ⊥)
+Passed shape t (O.DistrictName a) = a.0 < shape.vertices
+Passed shape t (O.RingName a) = a.0 < shape.vertices
+Passed shape t (O.SharedMesh a b) = (a.0 < shape.vertices) × (b.0 < shape.vertices) × (a.0 ≡ b.0 → ⊥)
+Passed shape t (O.SoleSpans a b) =
+    (a.0 < shape.vertices) × (b.0 < shape.vertices) × (component (network_in shape t) a.0 b.0 ≡ true)
+Passed shape t (O.CutCabinets a b) =
+    (a.0 < shape.vertices) × (b.0 < shape.vertices) × (component (network_in shape t) a.0 b.0 ≡ true)
+Passed shape t (O.IsSole s) = s.0 < shape.edges
+Passed shape t (O.MarkExchange a) = (a.0 < shape.vertices) × ((state_of shape t).marked a.0 ≡ false)
+Passed shape t (O.HoldsExchange a) = a.0 < shape.vertices
+Passed shape t (O.RoutesBetween a b) = (b.0 < shape.vertices) × (bridge_block (network_in shape t) a.0 b.0 ≡ true)
+Passed shape t (O.RecordLength s measure) = s.0 < shape.edges
+Passed shape t (O.SpanLength s) = s.0 < shape.edges
+Passed shape t O.ExchangeShare = Unit

@@ -3,4 +3,4 @@ use Rattle.step.proofs.Carries.{cabinet_carried}
 use Rattle.step.proofs.carry.add_cabinet.Goals as goal
 
 pub returns : goal.returns
-returns c = cabinet_carried c.args.shape c.args.t.now c.add_vertex.new.t c.add_vertex.ensures
+returns c = cabinet_carried c.add_vertex.ensures

@@ -8,5 +8,3 @@ use Rattle.step.proofs.exchange.with_exchange.Given as goal
 abbrev pub invariant-loop-i : goal.invariant-loop-i
 invariant-loop-i l = (l.found ≡ count l.i (ring_holds_exchange (state_of l.shape l.t))) × (l.i ≤ l.shape.vertices)
 
-abbrev pub decreases-loop-i : goal.decreases-loop-i
-decreases-loop-i l = l.shape.vertices - l.i
