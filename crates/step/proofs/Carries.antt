@@ -102,15 +102,15 @@ unfolding group_told group_of
 group_told_lem shape groups a t group name_is size_is = rw (vertices_held shape t, name_is, size_is)
 
 -- 03 and 04: the cabinet's district, and its ring
-pub group_carried : (shape : Shape) (groups : VertexGroups) (a : ℕ) (t : List ℕ) (group : Group) → Holds shape t
+pub group_carried : {shape : Shape} (groups : VertexGroups) (a : ℕ) {t : List ℕ} {group : Group} → Holds shape t
     → group.name.0 ≡ name_of (vertex_names groups (book_in shape t)) a
     → group.size ≡ size shape.vertices (vertex_groups groups (network_in shape t)) a
     → Carried shape (asks_group groups a) t t (R.Found (F.Group groups group))
 unfolding asks_group addition addition_of recording recording_of facts asks component_of bridge_block_of finding_answer group_answer answer answer_to
-group_carried shape G.Components a t group holds name_is size_is =
+group_carried {shape} G.Components a {t} {group} holds name_is size_is =
     question_carried shape (district_name a) refl refl t (F.Group G.Components group) holds
     (ap (λ g. plain (district_is g)) (group_told_lem shape G.Components a t group name_is size_is))
-group_carried shape G.BridgeBlocks a t group holds name_is size_is =
+group_carried {shape} G.BridgeBlocks a {t} {group} holds name_is size_is =
     question_carried shape (ring_name a) refl refl t (F.Group G.BridgeBlocks group) holds
     (ap (λ g. plain (ring_is g)) (group_told_lem shape G.BridgeBlocks a t group name_is size_is))
 
@@ -120,54 +120,54 @@ mesh_answer_lem b none = refl
 mesh_answer_lem b (some s) = refl
 
 -- 05: the name of the mesh that two cabinets share
-pub shared_carried : (shape : Shape) (a b : ℕ) (t : List ℕ) (shared : Shared) → Holds shape t
+pub shared_carried : {shape : Shape} {a b : ℕ} {t : List ℕ} {shared : Shared} → Holds shape t
     → shared ≡ shared_name (book_in shape t).blocks (shared_block (network_in shape t) a b)
     → Carried shape (shared_mesh a b) t t (R.Found (F.Mesh shared))
 unfolding addition addition_of recording recording_of facts asks finding_answer answer answer_to
-shared_carried shape a b t shared holds e =
+shared_carried {shape} {a} {b} {t} {shared} holds e =
     question_carried shape (shared_mesh a b) refl refl t (F.Mesh shared) holds
     (ap (λ (x : Shared). plain (shared_answer x)) e ∙ ap plain (mesh_answer_lem (book_in shape t) (shared_block (network_in shape t) a b)))
 
 -- 06: the sole spans between two cabinets
-pub sole_spans_carried : (shape : Shape) (a b : ℕ) (old new : List ℕ) (count : ℕ)
+pub sole_spans_carried : {shape : Shape} {a b : ℕ} {old new : List ℕ} {count : ℕ}
     → ListWritten shape old new (item_at M.Spans shape new) count (bridges_between (network_in shape old) a b)
     → Carried shape (sole_spans a b) old new (R.Found (F.List M.Spans count))
 unfolding addition addition_of recording recording_of facts asks list_answer answer answer_to
-sole_spans_carried shape a b old new count w = list_carried shape (sole_spans a b) refl refl old new M.Spans count _ w refl
+sole_spans_carried {shape} {a} {b} {old} {new} {count} w = list_carried shape (sole_spans a b) refl refl old new M.Spans count _ w refl
 
 -- 07: the cut cabinets between them
-pub cut_cabinets_carried : (shape : Shape) (a b : ℕ) (old new : List ℕ) (count : ℕ)
+pub cut_cabinets_carried : {shape : Shape} {a b : ℕ} {old new : List ℕ} {count : ℕ}
     → ListWritten shape old new (item_at M.Cabinets shape new) count (cuts_between (network_in shape old) a b)
     → Carried shape (cut_cabinets a b) old new (R.Found (F.List M.Cabinets count))
 unfolding addition addition_of recording recording_of facts asks list_answer answer answer_to
-cut_cabinets_carried shape a b old new count w = list_carried shape (cut_cabinets a b) refl refl old new M.Cabinets count _ w refl
+cut_cabinets_carried {shape} {a} {b} {old} {new} {count} w = list_carried shape (cut_cabinets a b) refl refl old new M.Cabinets count _ w refl
 
 -- 08: whether the span is sole
-pub sole_carried : (shape : Shape) (s : ℕ) (t : List ℕ) (sole : Bool) → Holds shape t → sole ≡ bridge (network_in shape t) s
+pub sole_carried : {shape : Shape} {s : ℕ} {t : List ℕ} {sole : Bool} → Holds shape t → sole ≡ bridge (network_in shape t) s
     → Carried shape (is_sole s) t t (R.Found (F.Sole sole))
 unfolding addition addition_of recording recording_of facts asks finding_answer answer answer_to
-sole_carried shape s t sole holds e =
+sole_carried {shape} {s} {t} {sole} holds e =
     question_carried shape (is_sole s) refl refl t (F.Sole sole) holds (ap (λ x. plain (sole_is x)) e)
 
 -- 09: the cabinet is marked
-pub mark_carried : (shape : Shape) (a : ℕ) (old new : List ℕ) → VertexMarked shape a old new
+pub mark_carried : {shape : Shape} {a : ℕ} {old new : List ℕ} → VertexMarked shape a old new
     → Carried shape (mark_exchange a) old new (R.Found F.Marked)
 unfolding after after_addition feed addition addition_of recording recording_of facts finding_answer reply_answer shape_after answer answer_to
-mark_carried shape a old new m =
+mark_carried m =
     record { holds = m.holds; agrees = agree_of_equal m.state_is; answer_is = refl; fits = tt; same_beyond = m.same_beyond }
 
 -- 0A: whether the cabinet's ring holds an exchange
-pub held_carried : (shape : Shape) (a : ℕ) (t : List ℕ) (held : Bool) → Holds shape t → held ≡ ring_holds_exchange (state_of shape t) a
+pub held_carried : {shape : Shape} {a : ℕ} {t : List ℕ} {held : Bool} → Holds shape t → held ≡ ring_holds_exchange (state_of shape t) a
     → Carried shape (holds_exchange a) t t (R.Found (F.Held held))
 unfolding addition addition_of recording recording_of facts asks finding_answer answer answer_to
-held_carried shape a t held holds e =
+held_carried {shape} {a} {t} {held} holds e =
     question_carried shape (holds_exchange a) refl refl t (F.Held held) holds (ap (λ x. plain (exchange_held x)) e)
 
 -- 0C: the two routes
-pub routes_carried : (shape : Shape) (a b : ℕ) (old new : List ℕ) (lengths : Lengths) → RoutesFound shape a b old new lengths
+pub routes_carried : {shape : Shape} {a b : ℕ} {old new : List ℕ} {lengths : Lengths} → RoutesFound shape a b old new lengths
     → Carried shape (routes_between a b) old new (R.Found (F.Routes lengths))
 unfolding addition addition_of recording recording_of facts routes_answer register_routes finding_answer reply_answer shape_after answer answer_to
-routes_carried shape a b old new lengths found =
+routes_carried {shape} {a} {b} {old} found =
     record {
       holds = found.holds;
       agrees = agree_of_equal (found.state_is ∙ sym (leaves shape (routes_between a b) refl refl (state_of shape old)));
@@ -177,11 +177,11 @@ routes_carried shape a b old new lengths found =
     }
 
 -- 0D: the length is recorded
-pub survey_carried : (shape : Shape) (s day metres : ℕ) (old new : List ℕ)
+pub survey_carried : {shape : Shape} {s day metres : ℕ} {old new : List ℕ}
     → SurveyEntered shape (record { measured = s; day = day; metres = metres }) old new
     → Carried shape (record_length s day metres) old new (R.Found F.Recorded)
 unfolding after after_addition feed addition addition_of recording recording_of facts finding_answer reply_answer shape_after answer answer_to
-survey_carried shape s day metres old new entered =
+survey_carried entered =
     record { holds = entered.holds; agrees = entered.agrees; answer_is = refl; fits = tt; same_beyond = entered.same_beyond }
 
 -- the length that a survey gives is answered as the paper says
@@ -191,19 +191,19 @@ length_answer_lem none = refl
 length_answer_lem (some r) = refl
 
 -- 0E: the length of the span
-pub length_carried : (shape : Shape) (s : ℕ) (t : List ℕ) (length : Length) → Holds shape t
+pub length_carried : {shape : Shape} {s : ℕ} {t : List ℕ} {length : Length} → Holds shape t
     → length ≡ length_given (holding (state_of shape t).surveys s)
     → Carried shape (span_length s) t t (R.Found (F.Measured length))
 unfolding addition addition_of recording recording_of facts asks finding_answer answer answer_to
-length_carried shape s t length holds e =
+length_carried {shape} {s} {t} {length} holds e =
     question_carried shape (span_length s) refl refl t (F.Measured length) holds
     (ap (λ (x : Length). plain (length_told x)) e ∙ ap plain (length_answer_lem (holding (state_of shape t).surveys s)))
 
 -- 0F: the share of the cabinets whose ring holds one
-pub share_carried : (shape : Shape) (t : List ℕ) (share : ℕ) → Holds shape t → share ≡ share_with_exchange (state_of shape t)
+pub share_carried : {shape : Shape} {t : List ℕ} {share : ℕ} → Holds shape t → share ≡ share_with_exchange (state_of shape t)
     → Carried shape exchange_share t t (R.Found (F.Share share))
 unfolding addition addition_of recording recording_of facts asks finding_answer answer answer_to
-share_carried shape t share holds e =
+share_carried {shape} {t} {share} holds e =
     question_carried shape exchange_share refl refl t (F.Share share) holds (ap (λ x. plain (share_is x)) e)
 
 -- changes that the table has written down, as notices of a kind, are the paper's changes of that kind
@@ -257,9 +257,9 @@ module _ (shape : Shape) (a b d : ℕ) (old new : List ℕ) (growth : Growth) (a
       }
 
 -- 02 and 0B: a span with no duct told, or in a duct
-pub span_carried : (shape : Shape) (a b : ℕ) (lay : Lay) (old new : List ℕ) (growth : Growth) → EdgeAdded shape a b (duct_of lay) old new growth
+pub span_carried : {shape : Shape} {a b : ℕ} (lay : Lay) {old new : List ℕ} {growth : Growth} → EdgeAdded shape a b (duct_of lay) old new growth
     → Holds shape old → Carried shape (span_command a b lay) old new (R.Span (record { 0 = shape.edges }) growth)
 unfolding facts edge_between edge_in_duct span_command duct_of
-span_carried shape a b L.NoDuct old new growth added holds = span_done shape a b 0 old new growth added holds (add_span a b) refl
-span_carried shape a b (L.InDuct d) old new growth added holds =
+span_carried {shape} {a} {b} L.NoDuct {old} {new} {growth} added holds = span_done shape a b 0 old new growth added holds (add_span a b) refl
+span_carried {shape} {a} {b} (L.InDuct d) {old} {new} {growth} added holds =
     span_done shape a b d.0 old new growth added holds (add_duct_span a b d.0) refl

@@ -68,10 +68,7 @@ fn some_duct(lay: Lay) -> Result<(), Refusal>
 fn room_for_cabinet(shape: Shape) -> Result<(), Refusal>
     ensures { result ≡ room_for_cabinet shape }
 {
-    demand(
-        shape.vertices < shape.limits.vertices as u32,
-        Refusal::Full,
-    )
+    demand(shape.vertices < shape.limits.vertices as u32, Refusal::Full)
 }
 
 // 6, then 8, then 13, then 9: there are as many spans as there may be.
@@ -80,10 +77,7 @@ fn new_span(shape: Shape, a: Vertex, b: Vertex, lay: Lay) -> Result<(), Refusal>
 {
     differ(shape, a, b)?;
     some_duct(lay)?;
-    demand(
-        shape.edges < shape.limits.edges as u32,
-        Refusal::Full,
-    )
+    demand(shape.edges < shape.limits.edges as u32, Refusal::Full)
 }
 
 // 6, then 10: the two cabinets are in two districts.

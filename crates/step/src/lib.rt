@@ -65,7 +65,8 @@ impl Finding {
             Finding::Sole(_) => 2,
             Finding::Marked => 1,
             Finding::Held(_) => 2,
-            Finding::Routes(lengths) => 5 + 2 * ((lengths.first as usize) + (lengths.second as usize)),
+            Finding::Routes(lengths) => 5
+                + 2 * ((lengths.first as usize) + (lengths.second as usize)),
             Finding::Recorded => 1,
             Finding::Measured(_) => 4,
             Finding::Share(_) => 3,

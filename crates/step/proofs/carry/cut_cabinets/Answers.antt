@@ -5,12 +5,4 @@ use Rattle.step.proofs.carry.cut_cabinets.Goals as goal
 
 pub returns : goal.returns
 unfolding item_at
-returns c =
-    cut_cabinets_carried
-    c.args.shape
-    c.args.a.0
-    c.args.b.0
-    c.args.t.now
-    c.cuts_between-count.new.t
-    c.cuts_between-count.result
-    c.cuts_between-count.ensures
+returns c = cut_cabinets_carried c.cuts_between-count.ensures

@@ -3,4 +3,4 @@ use Rattle.step.proofs.Carries.{share_carried}
 use Rattle.step.proofs.carry.exchange_share.Goals as goal
 
 pub returns : goal.returns
-returns c = share_carried c.args.shape c.args.t.now c.share_with_exchange-share.result c.requires c.share_with_exchange-share.ensures
+returns c = share_carried c.requires c.share_with_exchange-share.ensures

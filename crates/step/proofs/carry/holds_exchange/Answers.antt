@@ -3,4 +3,4 @@ use Rattle.step.proofs.Carries.{held_carried}
 use Rattle.step.proofs.carry.holds_exchange.Goals as goal
 
 pub returns : goal.returns
-returns c = held_carried c.args.shape c.args.a.0 c.args.t.now c.ring_holds_exchange-held.result c.requires.0 c.ring_holds_exchange-held.ensures
+returns c = held_carried c.requires.0 c.ring_holds_exchange-held.ensures

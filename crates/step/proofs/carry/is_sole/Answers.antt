@@ -3,4 +3,4 @@ use Rattle.step.proofs.Carries.{sole_carried}
 use Rattle.step.proofs.carry.is_sole.Goals as goal
 
 pub returns : goal.returns
-returns c = sole_carried c.args.shape c.args.s.0 c.args.t.now c.is_bridge-sole.result c.requires.0 c.is_bridge-sole.ensures
+returns c = sole_carried c.requires.0 c.is_bridge-sole.ensures

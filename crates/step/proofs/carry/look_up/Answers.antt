@@ -3,13 +3,4 @@ use Rattle.step.proofs.Carries.{group_carried}
 use Rattle.step.proofs.carry.look_up.Goals as goal
 
 pub returns : goal.returns
-returns c =
-    group_carried
-    c.args.shape
-    c.args.groups
-    c.args.a.0
-    c.args.t.now
-    c.group_of-group.result
-    c.requires.0
-    c.group_of-group.ensures.0
-    c.group_of-group.ensures.1
+returns c = group_carried _ _ c.requires.0 c.group_of-group.ensures.0 c.group_of-group.ensures.1

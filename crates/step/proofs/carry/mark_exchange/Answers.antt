@@ -3,4 +3,4 @@ use Rattle.step.proofs.Carries.{mark_carried}
 use Rattle.step.proofs.carry.mark_exchange.Goals as goal
 
 pub returns : goal.returns
-returns c = mark_carried c.args.shape c.args.a.0 c.args.t.now c.mark.new.t c.mark.ensures
+returns c = mark_carried c.mark.ensures

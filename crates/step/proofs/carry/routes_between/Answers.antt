@@ -3,12 +3,4 @@ use Rattle.step.proofs.Carries.{routes_carried}
 use Rattle.step.proofs.carry.routes_between.Goals as goal
 
 pub returns : goal.returns
-returns c =
-    routes_carried
-    c.args.shape
-    c.args.a.0
-    c.args.b.0
-    c.args.t.now
-    c.find-lengths.new.t
-    c.find-lengths.result
-    c.find-lengths.ensures
+returns c = routes_carried c.find-lengths.ensures

@@ -3,4 +3,4 @@ use Rattle.step.proofs.Carries.{shared_carried}
 use Rattle.step.proofs.carry.shared_mesh.Goals as goal
 
 pub returns : goal.returns
-returns c = shared_carried c.args.shape c.args.a.0 c.args.b.0 c.args.t.now c.shared_block-shared.result c.requires.0 c.shared_block-shared.ensures
+returns c = shared_carried c.requires.0 c.shared_block-shared.ensures

@@ -5,12 +5,4 @@ use Rattle.step.proofs.carry.sole_spans.Goals as goal
 
 pub returns : goal.returns
 unfolding item_at
-returns c =
-    sole_spans_carried
-    c.args.shape
-    c.args.a.0
-    c.args.b.0
-    c.args.t.now
-    c.bridges_between-count.new.t
-    c.bridges_between-count.result
-    c.bridges_between-count.ensures
+returns c = sole_spans_carried c.bridges_between-count.ensures

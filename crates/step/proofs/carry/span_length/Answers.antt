@@ -3,4 +3,4 @@ use Rattle.step.proofs.Carries.{length_carried}
 use Rattle.step.proofs.carry.span_length.Goals as goal
 
 pub returns : goal.returns
-returns c = length_carried c.args.shape c.args.s.0 c.args.t.now c.length_of-length.result c.requires.0 c.length_of-length.ensures
+returns c = length_carried c.requires.0 c.length_of-length.ensures
