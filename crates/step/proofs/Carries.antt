@@ -23,8 +23,8 @@ use Rattle.commands.specs.Answer.{change_notice, changes, notices, plain, distri
 use Rattle.commands.specs.Exchange.{ring_holds_exchange, share_with_exchange}
 use Rattle.commands.specs.Facts.{Demand, adds_span, asks, mesh_answer, routes_answer, length_answer, facts, addition_of, addition, recording_of, recording, after, span_answer, answer_to, answer}
 use Rattle.commands.specs.Register.{register_routes}
-use Rattle.reading.specs.declared.read.Lay.{Lay}
-use Rattle.reading.specs.declared.read.Lay.TheVariants as L
+use Rattle.std.specs.Prelude as P
+use Rattle.numbers.specs.declared.Duct.{Duct}
 use Rattle.reading.specs.Inside.Reads.{span_command}
 use Rattle.forest.specs.declared.Group.{Group}
 use Rattle.forest.specs.declared.Growth.{Growth}
@@ -257,9 +257,9 @@ module _ (shape : Shape) (a b d : ℕ) (old new : List ℕ) (growth : Growth) (a
       }
 
 -- 02 and 0B: a span with no duct told, or in a duct
-pub span_carried : {shape : Shape} {a b : ℕ} (lay : Lay) {old new : List ℕ} {growth : Growth} → EdgeAdded shape a b (duct_of lay) old new growth
-    → Holds shape old → Carried shape (span_command a b lay) old new (R.Span (record { 0 = shape.edges }) growth)
+pub span_carried : {shape : Shape} {a b : ℕ} (duct : P.Option Duct) {old new : List ℕ} {growth : Growth} → EdgeAdded shape a b (duct_of duct) old new growth
+    → Holds shape old → Carried shape (span_command a b duct) old new (R.Span (record { 0 = shape.edges }) growth)
 unfolding facts edge_between edge_in_duct span_command duct_of
-span_carried {shape} {a} {b} L.NoDuct {old} {new} {growth} added holds = span_done shape a b 0 old new growth added holds (add_span a b) refl
-span_carried {shape} {a} {b} (L.InDuct d) {old} {new} {growth} added holds =
+span_carried {shape} {a} {b} P.None {old} {new} {growth} added holds = span_done shape a b 0 old new growth added holds (add_span a b) refl
+span_carried {shape} {a} {b} (P.Some d) {old} {new} {growth} added holds =
     span_done shape a b d.0 old new growth added holds (add_duct_span a b d.0) refl

@@ -4,7 +4,7 @@ use mathlib.Core.List.{List, [], ◌∷◌}
 use mathlib.Core.Path.{◌≡◌, refl}
 use Prim.Native.Nat.{ℕ, ◌<◌}
 use lib.Dec.{eqb, leb, ltb}
-use Rattle.std.specs.Prelude.{Ok, Err}
+use Rattle.std.specs.Prelude.{Some, None, Ok, Err}
 use Rattle.std.proofs.Math.Option as Maybe
 use Rattle.graph.specs.Lists.{all_in}
 use Rattle.graph.specs.Network.{edge_between, edge_in_duct}
@@ -19,7 +19,6 @@ use Rattle.refusals.specs.declared.Refusal.{Refusal}
 use Rattle.refusals.specs.declared.Refusal.TheVariants as R
 use Rattle.refusals.specs.Causes.{cause_of}
 use Rattle.forest.specs.Promise.{state_of, network_in, vertices_held, edges_held}
-use Rattle.reading.specs.declared.read.Lay.TheVariants as L
 use Rattle.reading.specs.declared.read.Order.{Order}
 use Rattle.reading.specs.declared.read.Order.TheVariants as O
 use Rattle.reading.specs.Inside.Reads.{span_command, meaning}
@@ -116,10 +115,10 @@ pub judged : (shape : Shape) (t : List ℕ) (order : Order)
     → cause_met (judgement shape t order) ≡ refusal_of (capacities_of shape.limits) (state_of shape t) (meaning order)
 unfolding judgement span_command meaning capacities_of refusal_of first_that_applies lines cabinets_known spans_known meets is_full full_for addition addition_of facts asks operands_of demands_of edge_between edge_in_duct all_in cabinet_known span_known met cause refusal_number
 judged shape t O.AddCabinet = rw (vertices_held shape t) (full_line (leb shape.limits.vertices shape.vertices))
-judged shape t (O.AddSpan a b L.NoDuct) =
+judged shape t (O.AddSpan a b None) =
     rw (vertices_held shape t, edges_held shape t)
     (new_span_lines (ltb a.0 shape.vertices) (ltb b.0 shape.vertices) (eqb a.0 b.0) false (leb shape.limits.edges shape.edges))
-judged shape t (O.AddSpan a b (L.InDuct d)) =
+judged shape t (O.AddSpan a b (Some d)) =
     rw (vertices_held shape t, edges_held shape t)
     (new_span_lines (ltb a.0 shape.vertices) (ltb b.0 shape.vertices) (eqb a.0 b.0) (eqb d.0 0) (leb shape.limits.edges shape.edges))
 judged shape t (O.DistrictName a) = rw (vertices_held shape t) (cabinet_line (ltb a.0 shape.vertices))
@@ -182,7 +181,7 @@ module _ (shape : Shape) where
 pub judgement_passes : (shape : Shape) (t : List ℕ) (order : Order) → judgement shape t order ≡ Ok tt → Passed shape t order
 unfolding judgement Passed
 judgement_passes shape t O.AddCabinet e = leb_gt _ _ (is_false _ (is_met_lem _ e))
-judgement_passes shape t (O.AddSpan a b lay) e =
+judgement_passes shape t (O.AddSpan a b duct) e =
     let passed = both_pass e in
     let ends = different_passes shape passed.0 in
     (leb_gt _ _ (is_false _ (is_met_lem _ (both_pass passed.1).1)), ends.0, ends.1, ends.2)

@@ -6,7 +6,7 @@ ghost use Rattle.forest.specs.Promise.{Holds, state_of, network_in};
 ghost use Rattle.reading.specs.Inside.Reads.{span_command, meaning};
 ghost use Rattle.step.specs.Inside.Judged.{Passed};
 ghost use Rattle.step.specs.Promise.{Carried};
-ghost use Rattle.step.specs.Inside.Asked.{asks_group, duct_of};
+ghost use Rattle.step.specs.Inside.Asked.{asks_group};
 
 use crate::exchange::{ring_holds_exchange, share_with_exchange};
 use crate::{Finding, Listed, Reply};
@@ -15,7 +15,7 @@ use forest::{
     is_bridge, length_of, mark, shared_block,
 };
 use numbers::{Duct, Edge, Measure, Shape, Vertex};
-use reading::read::{Lay, Order};
+use reading::read::Order;
 use routes::find;
 
 // 01: add a cabinet.
@@ -27,23 +27,12 @@ fn add_cabinet(t: &mut [u32], shape: Shape) -> Reply
     Reply::Cabinet(Vertex(shape.vertices))
 }
 
-// The duct that a new span lies in; 0 where none is told.
-#[tactic(auto, unfolding(crate::specs::Inside::Asked::duct_of))]
-fn duct_of(lay: Lay) -> Duct
-    ensures { result.0 ≡ duct_of lay }
-{
-    match lay {
-        Lay::NoDuct => Duct(0),
-        Lay::InDuct(d) => d,
-    }
-}
-
 // 02 and 0B: add a span.
-fn add_span(t: &mut [u32], shape: Shape, a: Vertex, b: Vertex, lay: Lay) -> Reply
+fn add_span(t: &mut [u32], shape: Shape, a: Vertex, b: Vertex, duct: Option<Duct>) -> Reply
     requires { Holds shape t.old × (shape.edges < shape.limits.edges) × (a.0 < shape.vertices) × (b.0 < shape.vertices) × (a.0 ≡ b.0 → ⊥) }
-    ensures { Carried shape (span_command a.0 b.0 lay) t.old t.new result }
+    ensures { Carried shape (span_command a.0 b.0 duct) t.old t.new result }
 {
-    let growth = add_edge(t, shape, a, b, duct_of(lay));
+    let growth = add_edge(t, shape, a, b, duct.unwrap_or(Duct(0)));
     Reply::Span(Edge(shape.edges), growth)
 }
 
@@ -154,7 +143,7 @@ pub(crate) fn carry_out(t: &mut [u32], shape: Shape, order: Order) -> Reply
 {
     match order {
         Order::AddCabinet => add_cabinet(t, shape),
-        Order::AddSpan(a, b, lay) => add_span(t, shape, a, b, lay),
+        Order::AddSpan(a, b, duct) => add_span(t, shape, a, b, duct),
         Order::DistrictName(a) => look_up(t, shape, VertexGroups::Components, a),
         Order::RingName(a) => look_up(t, shape, VertexGroups::BridgeBlocks, a),
         Order::SharedMesh(a, b) => shared_mesh(t, shape, a, b),

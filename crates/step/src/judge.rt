@@ -5,7 +5,7 @@ ghost use Rattle.step.specs.Inside.Judged.{demand, cabinet_known, span_known, ca
 
 use forest::{is_marked, same_bridge_block, same_component};
 use numbers::{Duct, Edge, Shape, Vertex};
-use reading::read::{Lay, Order};
+use reading::read::Order;
 use refusals::Refusal;
 
 // What is demanded is met, or refused so.
@@ -55,13 +55,10 @@ fn no_exchange(t: &[u32], shape: Shape, a: Vertex) -> Result<(), Refusal>
 }
 
 // 13: the duct is 0.
-fn some_duct(lay: Lay) -> Result<(), Refusal>
-    ensures { result ≡ some_duct lay }
+fn some_duct(duct: Option<Duct>) -> Result<(), Refusal>
+    ensures { result ≡ some_duct duct }
 {
-    match lay {
-        Lay::NoDuct => Ok(()),
-        Lay::InDuct(d) => demand(d != Duct(0), Refusal::NoDuct),
-    }
+    demand(duct != Some(Duct(0)), Refusal::NoDuct)
 }
 
 // 9: there are as many cabinets as there may be.
@@ -72,11 +69,11 @@ fn room_for_cabinet(shape: Shape) -> Result<(), Refusal>
 }
 
 // 6, then 8, then 13, then 9: there are as many spans as there may be.
-fn new_span(shape: Shape, a: Vertex, b: Vertex, lay: Lay) -> Result<(), Refusal>
-    ensures { result ≡ new_span shape a.0 b.0 lay }
+fn new_span(shape: Shape, a: Vertex, b: Vertex, duct: Option<Duct>) -> Result<(), Refusal>
+    ensures { result ≡ new_span shape a.0 b.0 duct }
 {
     differ(shape, a, b)?;
-    some_duct(lay)?;
+    some_duct(duct)?;
     demand(shape.edges < shape.limits.edges as u32, Refusal::Full)
 }
 
@@ -106,7 +103,7 @@ pub(crate) fn judge(t: &[u32], shape: Shape, order: Order) -> Result<(), Refusal
 {
     match order {
         Order::AddCabinet => room_for_cabinet(shape),
-        Order::AddSpan(a, b, lay) => new_span(shape, a, b, lay),
+        Order::AddSpan(a, b, duct) => new_span(shape, a, b, duct),
         Order::DistrictName(a) => cabinet_known(shape, a),
         Order::RingName(a) => cabinet_known(shape, a),
         Order::SharedMesh(a, b) => differ(shape, a, b),

@@ -1,8 +1,7 @@
 -- The questions for a cabinet's groups, and the duct of a new span.
-use Rattle.std.specs.Prelude.{ℕ}
+use Rattle.std.specs.Prelude.{Option, None, Some, ℕ}
 use Rattle.commands.specs.Command.{Command, district_name, ring_name}
-use Rattle.reading.specs.declared.read.Lay.{Lay}
-use Rattle.reading.specs.declared.read.Lay.TheVariants as L
+use Rattle.numbers.specs.declared.Duct.{Duct}
 use Rattle.forest.specs.declared.VertexGroups.{VertexGroups}
 use Rattle.forest.specs.declared.VertexGroups.TheVariants as G
 
@@ -12,6 +11,6 @@ asks_group G.Components a = district_name a
 asks_group G.BridgeBlocks a = ring_name a
 
 -- The duct that a new span lies in; 0 where none is told.
-unfoldable pub duct_of : Lay → ℕ
-duct_of L.NoDuct = 0
-duct_of (L.InDuct d) = d.0
+unfoldable pub duct_of : Option Duct → ℕ
+duct_of None = 0
+duct_of (Some d) = d.0

@@ -1,12 +1,11 @@
 -- The tests of the code: each passes, or refuses for its cause.
-use Rattle.std.specs.Prelude.{Bool, true, false, not, cond, Result, Ok, Err, List, ◌≡◌, ℕ, ◌<◌, eqb, leb, ltb}
+use Rattle.std.specs.Prelude.{Bool, true, false, not, cond, Option, None, Some, Result, Ok, Err, List, ◌≡◌, ℕ, ◌<◌, eqb, leb, ltb}
 use Rattle.graph.specs.Groups.{component, bridge_block}
+use Rattle.numbers.specs.declared.Duct.{Duct}
 use Rattle.numbers.specs.declared.Shape.{Shape}
 use Rattle.refusals.specs.declared.Refusal.{Refusal}
 use Rattle.refusals.specs.declared.Refusal.TheVariants as R
 use Rattle.forest.specs.Promise.{state_of, network_in}
-use Rattle.reading.specs.declared.read.Lay.{Lay}
-use Rattle.reading.specs.declared.read.Lay.TheVariants as L
 use Rattle.reading.specs.declared.read.Order.{Order}
 use Rattle.reading.specs.declared.read.Order.TheVariants as O
 
@@ -38,16 +37,16 @@ differ shape a b = and_then (cabinets_known shape a b) (demand (not (eqb a b)) R
 abbrev pub no_exchange : Shape → List ℕ → ℕ → Judgement
 no_exchange shape t a = and_then (cabinet_known shape a) (demand (not ((state_of shape t).marked a)) R.AlreadyExchange)
 
-abbrev pub some_duct : Lay → Judgement
-some_duct L.NoDuct = Ok tt
-some_duct (L.InDuct d) = demand (not (eqb d.0 0)) R.NoDuct
+abbrev pub some_duct : Option Duct → Judgement
+some_duct None = Ok tt
+some_duct (Some d) = demand (not (eqb d.0 0)) R.NoDuct
 
 abbrev pub room_for_cabinet : Shape → Judgement
 room_for_cabinet shape = demand (not (leb shape.limits.vertices shape.vertices)) R.Full
 
-abbrev pub new_span : Shape → ℕ → ℕ → Lay → Judgement
-new_span shape a b lay =
-    and_then (differ shape a b) (and_then (some_duct lay) (demand (not (leb shape.limits.edges shape.edges)) R.Full))
+abbrev pub new_span : Shape → ℕ → ℕ → Option Duct → Judgement
+new_span shape a b duct =
+    and_then (differ shape a b) (and_then (some_duct duct) (demand (not (leb shape.limits.edges shape.edges)) R.Full))
 
 abbrev pub share_district : Shape → List ℕ → ℕ → ℕ → Judgement
 share_district shape t a b = and_then (cabinets_known shape a b) (demand (component (network_in shape t) a b) R.TwoDistricts)
@@ -58,7 +57,7 @@ share_ring shape t a b = and_then (differ shape a b) (demand (bridge_block (netw
 -- The tests of each command, in the order of the table of causes.
 unfoldable pub judgement : Shape → List ℕ → Order → Judgement
 judgement shape t O.AddCabinet = room_for_cabinet shape
-judgement shape t (O.AddSpan a b lay) = new_span shape a.0 b.0 lay
+judgement shape t (O.AddSpan a b duct) = new_span shape a.0 b.0 duct
 judgement shape t (O.DistrictName a) = cabinet_known shape a.0
 judgement shape t (O.RingName a) = cabinet_known shape a.0
 judgement shape t (O.SharedMesh a b) = differ shape a.0 b.0
@@ -75,7 +74,7 @@ judgement shape t O.ExchangeShare = Ok tt
 -- What is known of a command that passes them.
 unfoldable pub Passed : Shape → List ℕ → Order → Type 0
 Passed shape t O.AddCabinet = shape.vertices < shape.limits.vertices
-Passed shape t (O.AddSpan a b lay) =
+Passed shape t (O.AddSpan a b duct) =
     (shape.edges < shape.limits.edges) × (a.0 < shape.vertices) × (b.0 < shape.vertices) × (a.0 ≡ b.0 → ⊥)
 Passed shape t (O.DistrictName a) = a.0 < shape.vertices
 Passed shape t (O.RingName a) = a.0 < shape.vertices

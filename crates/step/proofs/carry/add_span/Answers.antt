@@ -1,6 +1,18 @@
 -- `carry::add_span` adds a span.
+use mathlib.Core.Path.{◌≡◌, refl, ◌∙◌, ap}
+use Rattle.std.specs.Prelude.{Option, None, Some, unwrap_or}
+use Rattle.numbers.specs.declared.Duct.{Duct}
+use Rattle.step.specs.Inside.Asked.{duct_of}
 use Rattle.step.proofs.Carries.{span_carried}
 use Rattle.step.proofs.carry.add_span.Goals as goal
 
+-- the duct that is told, or 0, is the one that the span lies in
+duct_told : (duct : Option Duct) (nought : Duct) → nought.0 ≡ 0 → (unwrap_or duct nought).0 ≡ duct_of duct
+unfolding duct_of
+duct_told None nought e = e
+duct_told (Some d) nought e = refl
+
 pub returns : goal.returns
-returns c = span_carried _ (rw (← c.duct_of.ensures) c.add_edge-growth.ensures) c.requires.0
+returns c =
+    let lies : c.unwrap_or.result.0 ≡ duct_of c.args.duct = ap (λ (d : Duct). d.0) c.unwrap_or.ensures ∙ duct_told c.args.duct _ refl in
+    span_carried _ (rw lies at c.add_edge-growth.ensures) c.requires.0
