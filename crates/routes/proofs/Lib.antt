@@ -2,6 +2,7 @@
 pub mod Frames
 pub mod ListsWords
 pub mod ListsSteps
+pub mod UseBits
 pub mod SearchesAllowed
 pub mod SearchesStored
 pub mod SearchesLook

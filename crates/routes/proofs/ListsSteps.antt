@@ -14,7 +14,8 @@ use Rattle.ways.specs.Used.{unused, is_used, mate_used}
 use Rattle.numbers.specs.declared.Shape.{Shape}
 use Rattle.forest.specs.Promise.{Holds, network_in, vertices_held, edges_held, vertices_fit, edges_fit, few_edges, proper_held, scratch_words, vertex_scratch, edge_scratch, VertexScratchStored, EdgeScratchStored}
 use Rattle.routes.specs.Inside.Frame.{head_column, Only, column_only, edges_only, ColumnCleared}
-use Rattle.routes.specs.Inside.Lists.{last_at, entries_of, Linked, use_of, Listed, lists_only, EdgeEntered, ListsBuilt}
+use Rattle.routes.specs.declared.uses.Use.TheVariants as U
+use Rattle.routes.specs.Inside.Lists.{last_at, entries_of, Linked, bits_of, use_of, Listed, lists_only, EdgeEntered, ListsBuilt}
 use Rattle.routes.proofs.Frames.{only_refl, only_trans, only_wider, only_vertex, only_edge, stored_there, same-network}
 use Rattle.routes.proofs.ListsWords.{last_small}
 
@@ -177,7 +178,7 @@ module _ {shape : Shape} {i : ℕ} {t₀ t t' : List ℕ} (w : BuiltBelow shape 
       })
 
 -- no edge or mate is used where none is
-nothing_used : (g : Network) (s : ℕ) → use_of g unused s ≡ 0
+nothing_used : (g : Network) (s : ℕ) → use_of g unused s ≡ U.Free
 unfolding use_of is_used unused mate_used
 nothing_used g s = rw (false_of_not (mate_used g unused s) none)
   where
@@ -200,5 +201,5 @@ all_built {shape} {i} {old} {t} {new} cleared w e =
     listed =
         record {
           linked = subst (λ k. Linked shape (network_in shape t) k new) (e ∙ sym (edges_held shape t)) w.linked;
-          uses = λ s h. w.free s (omega (arith, edges_held shape t)) ∙ sym (nothing_used (network_in shape t) s);
+          uses = λ s h. w.free s (omega (arith, edges_held shape t)) ∙ ap bits_of (sym (nothing_used (network_in shape t) s));
         }

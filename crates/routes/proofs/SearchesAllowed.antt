@@ -1,4 +1,4 @@
--- The two bits of an edge tell which steps may be taken along it.
+-- The use of an edge tells which steps may be taken along it.
 use mathlib.Core.Bool.{Bool, true, false, not, cond, ◌&&◌, ◌||◌}
 use mathlib.Core.Logic.{◌⊎◌, inl, inr}
 use mathlib.Core.Path.{◌≡◌, refl, sym}
@@ -13,8 +13,17 @@ use Rattle.ways.specs.Used.{Used, is_used, mate_used, one_more, along_used, Usab
 use Rattle.ways.proofs.UsedSteps.{used_from_lem, not_used}
 use Rattle.routes.specs.declared.search.Allowance.{Allowance}
 use Rattle.routes.specs.declared.search.Allowance.TheVariants as A
-use Rattle.routes.specs.Inside.Lists.{along_code, use_of}
+use Rattle.routes.specs.declared.uses.Use.{Use}
+use Rattle.routes.specs.declared.uses.Use.TheVariants as U
+use Rattle.routes.specs.Inside.Lists.{used_along, use_of}
 use Rattle.routes.specs.Inside.Searches.{may_step, allowed_by}
+
+-- whether an edge of this use is used, and none of its mates
+unfoldable is_free : Use → Bool
+is_free U.Free = true
+is_free U.MateUsed = false
+is_free U.FromLeft = false
+is_free U.FromRight = false
 
 -- one of an edge's two ends is the right one exactly if it is not the left one
 right_or_left : (e : Edge) (x : ℕ) → eqb e.left e.right ≡ false → touches e x ≡ true → eqb e.right x ≡ not (eqb e.left x)
@@ -34,26 +43,24 @@ left_or_other e x d = go (eqb e.left x)
     go true = sym d
     go false = sym (eqb_same e.left)
 
--- 2 is the code of the left side, and 3 that of the right
-from_left : (a : Bool) → eqb 2 (along_code a) ≡ a
-unfolding along_code
-from_left true = refl
-from_left false = refl
-
-from_right : (a : Bool) → eqb 3 (along_code a) ≡ not a
-unfolding along_code
-from_right true = refl
-from_right false = refl
+-- one way more may go along an edge of which no mate is used, and along one that is used from its other end
+one_or_back : (used : Use) (left : Bool) → may_step A.OneMore used left ≡ (is_free used || may_step A.AlongUsed used (not left))
+unfolding may_step is_free
+one_or_back U.Free left = refl
+one_or_back U.MateUsed left = refl
+one_or_back U.FromLeft left = refl
+one_or_back U.FromRight true = refl
+one_or_back U.FromRight false = refl
 
 module _ (g : Network) (proper : Proper g) (u : Used) (usable : Usable g u) (s : ℕ) (known : s < edge_count g) where
-  -- the bits of an edge that is used from its left end, and of one that is used from its right
-  left_bits : u s ≡ suc (edge g s).left → use_of g u s ≡ 2
-  unfolding use_of along_code
-  left_bits e = rw (used_from_lem u s (edge g s).left e, e, eqb_same (suc (edge g s).left))
+  -- the use of an edge that is used from its left end, and of one that is used from its right
+  left_use : u s ≡ suc (edge g s).left → use_of g u s ≡ U.FromLeft
+  unfolding use_of used_along
+  left_use e = rw (used_from_lem u s (edge g s).left e, e, eqb_same (suc (edge g s).left))
 
-  right_bits : u s ≡ suc (edge g s).right → use_of g u s ≡ 3
-  unfolding use_of along_code
-  right_bits e =
+  right_use : u s ≡ suc (edge g s).right → use_of g u s ≡ U.FromRight
+  unfolding use_of used_along
+  right_use e =
       rw (
         used_from_lem u s (edge g s).right e,
         e,
@@ -62,68 +69,68 @@ module _ (g : Network) (proper : Proper g) (u : Used) (usable : Usable g u) (s :
         proper.no_loop s known,
       )
 
-  -- those of an edge that is not used tell of no direction
-  unused_bits : (x : ℕ) (a : Bool) → is_used u s ≡ false → eqb (use_of g u s) (along_code a) ≡ eqb (u s) (suc x)
-  unfolding use_of along_code
-  unused_bits x a k = rw (k, not_used u s k, eqb-zero-suc x) (go (mate_used g u s) a)
+  -- no way along used edges goes along one that is not used
+  unused_barred : (x : ℕ) (a : Bool) → is_used u s ≡ false → may_step A.AlongUsed (use_of g u s) a ≡ eqb (u s) (suc x)
+  unfolding use_of may_step
+  unused_barred x a k = rw (k, not_used u s k, eqb-zero-suc x) (go (mate_used g u s))
     where
-      go : (m a : Bool) → eqb (cond m 1 0) (cond a 2 3) ≡ false
-      go true true = refl
-      go true false = refl
-      go false true = refl
-      go false false = refl
+      go : (m : Bool) → may_step A.AlongUsed (cond m U.MateUsed U.Free) a ≡ false
+      go true = refl
+      go false = refl
 
-  -- the bits are those of a vertex's side exactly if the edge is used from the vertex
-  along_bits : (x : ℕ) → touches (edge g s) x ≡ true → eqb (use_of g u s) (along_code (eqb (edge g s).left x)) ≡ eqb (u s) (suc x)
-  along_bits x t = go (true_or_false (is_used u s))
+  -- along another it may go exactly if the edge is used from where the step begins
+  along_allowed : (x : ℕ) → touches (edge g s) x ≡ true → may_step A.AlongUsed (use_of g u s) (eqb (edge g s).left x) ≡ eqb (u s) (suc x)
+  unfolding may_step
+  along_allowed x t = go (true_or_false (is_used u s))
     where
       from : (u s ≡ suc (edge g s).left) ⊎ (u s ≡ suc (edge g s).right)
-          → eqb (use_of g u s) (along_code (eqb (edge g s).left x)) ≡ eqb (u s) (suc x)
-      from (inl e) = rw (left_bits e, e, eqb-suc-suc (edge g s).left x) (from_left (eqb (edge g s).left x))
+          → may_step A.AlongUsed (use_of g u s) (eqb (edge g s).left x) ≡ eqb (u s) (suc x)
+      from (inl e) = rw (left_use e, e, eqb-suc-suc (edge g s).left x)
       from (inr e) =
-          rw (right_bits e, e, eqb-suc-suc (edge g s).right x, right_or_left (edge g s) x (proper.no_loop s known) t)
-          (from_right (eqb (edge g s).left x))
+          rw (right_use e, e, eqb-suc-suc (edge g s).right x, right_or_left (edge g s) x (proper.no_loop s known) t)
 
       go : (is_used u s ≡ true) ⊎ (is_used u s ≡ false)
-          → eqb (use_of g u s) (along_code (eqb (edge g s).left x)) ≡ eqb (u s) (suc x)
+          → may_step A.AlongUsed (use_of g u s) (eqb (edge g s).left x) ≡ eqb (u s) (suc x)
       go (inl k) = from (usable.from_an_end s k)
-      go (inr k) = unused_bits x (eqb (edge g s).left x) k
+      go (inr k) = unused_barred x (eqb (edge g s).left x) k
 
   -- an edge that is used is a mate of itself
   own_mate_used : is_used u s ≡ true → mate_used g u s ≡ true
   unfolding mate_used
   own_mate_used k = any_below_lem (edge_count g) (λ t. mates g s t && is_used u t) s known (and_both (mates_refl g s) k)
 
-  -- the bits of one that is not used are 0 exactly if no mate is
-  unused_free : is_used u s ≡ false → eqb (use_of g u s) 0 ≡ not (mate_used g u s)
-  unfolding use_of
+  -- one that is not used is free exactly if no mate is
+  unused_free : is_used u s ≡ false → is_free (use_of g u s) ≡ not (mate_used g u s)
+  unfolding use_of is_free
   unused_free k = rw k (go (mate_used g u s))
     where
-      go : (m : Bool) → eqb (cond m 1 0) 0 ≡ not m
+      go : (m : Bool) → is_free (cond m U.MateUsed U.Free) ≡ not m
       go true = refl
       go false = refl
 
-  -- and so are any
-  free_bits : eqb (use_of g u s) 0 ≡ not (mate_used g u s)
-  free_bits = go (true_or_false (is_used u s))
+  -- and so is any
+  free_exactly : is_free (use_of g u s) ≡ not (mate_used g u s)
+  unfolding is_free
+  free_exactly = go (true_or_false (is_used u s))
     where
       from : is_used u s ≡ true → (u s ≡ suc (edge g s).left) ⊎ (u s ≡ suc (edge g s).right)
-          → eqb (use_of g u s) 0 ≡ not (mate_used g u s)
-      from k (inl e) = rw (left_bits e, own_mate_used k)
-      from k (inr e) = rw (right_bits e, own_mate_used k)
+          → is_free (use_of g u s) ≡ not (mate_used g u s)
+      from k (inl e) = rw (left_use e, own_mate_used k)
+      from k (inr e) = rw (right_use e, own_mate_used k)
 
-      go : (is_used u s ≡ true) ⊎ (is_used u s ≡ false) → eqb (use_of g u s) 0 ≡ not (mate_used g u s)
+      go : (is_used u s ≡ true) ⊎ (is_used u s ≡ false) → is_free (use_of g u s) ≡ not (mate_used g u s)
       go (inl k) = from k (usable.from_an_end s k)
       go (inr k) = unused_free k
 
-  -- so the bits tell whether a step from a vertex may be taken
+  -- so the use tells whether a step from a vertex may be taken
   pub may_step_allowed : (allowance : Allowance) (x : ℕ) → touches (edge g s) x ≡ true
       → may_step allowance (use_of g u s) (eqb (edge g s).left x) ≡ allowed_by g u allowance s x
-  unfolding may_step allowed_by one_more along_used
+  unfolding allowed_by one_more along_used
   may_step_allowed A.OneMore x t =
       rw (
-        free_bits,
+        one_or_back (use_of g u s) (eqb (edge g s).left x),
+        free_exactly,
         left_or_other (edge g s) x (proper.no_loop s known),
-        along_bits (other_end (edge g s) x) (other_end-touches (edge g s) x),
+        along_allowed (other_end (edge g s) x) (other_end-touches (edge g s) x),
       )
-  may_step_allowed A.AlongUsed x t = along_bits x t
+  may_step_allowed A.AlongUsed x t = along_allowed x t

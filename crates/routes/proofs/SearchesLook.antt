@@ -19,9 +19,11 @@ use Rattle.numbers.specs.declared.Shape.{Shape}
 use Rattle.forest.specs.Promise.{Holds, network_in, vertices_held, edges_held, proper_held, vertex_scratch, edge_scratch}
 use Rattle.routes.specs.declared.search.Allowance.{Allowance}
 use Rattle.routes.specs.Inside.Frame.{next_column, order_column, Only, search_only, Written}
-use Rattle.routes.specs.Inside.Lists.{Listed}
+use Rattle.routes.specs.declared.uses.Use.{Use}
+use Rattle.routes.specs.Inside.Lists.{bits_of, Listed}
 use Rattle.routes.specs.Inside.Searches.{may_step, allowed_by, next_word, NextIs, Searching, Looked, Reached}
 use Rattle.routes.proofs.Frames.{edges_are, only_refl, same-network, listed_only}
+use Rattle.routes.proofs.UseBits.{same_bits}
 use Rattle.routes.proofs.SearchesAllowed.{may_step_allowed}
 
 -- a search leaves the lists and uses as they are
@@ -166,17 +168,17 @@ module _ (shape : Shape) (t : List ℕ) (holds : Holds shape t) (y s x left righ
     other_reached = rw (← other_there) (word_reached w x other_known)
 
     -- and the edge's two bits whether the step from it may be taken
-    other_allowed : (allowance : Allowance) (used : ℕ) → used ≡ edge_scratch shape t s % 4
+    other_allowed : (allowance : Allowance) (used : Use) → bits_of used ≡ edge_scratch shape t s % 4
         → allowed_by g u allowance s (other_end (edge g s) y) ≡ may_step allowance used (eqb left x)
     other_allowed allowance used used_is =
         let k : s < edge_count g = omega (arith, known, edges_are shape g t w.network_is) in
         let left_is : (edge g s).left ≡ left = ap (λ h. (edge h s).left) (sym w.network_is) ∙ sym ends_are.0 in
         sym (may_step_allowed g (proper_is w holds) u w.usable s k allowance (other_end (edge g s) y) (other_end-touches (edge g s) y))
-        ∙ rw (← w.listed.uses s k, ← used_is, ← other_there, left_is)
+        ∙ rw (← other_there, left_is, same_bits (sym (w.listed.uses s k) ∙ sym used_is))
 
   module _ (allowance : Allowance) (found : ℕ) where
     -- an edge is seen along which the step from its other end may not be taken
-    pub look_barred : (used : ℕ) → may_step allowance used (eqb left x) ≡ false → used ≡ edge_scratch shape t s % 4
+    pub look_barred : (used : Use) → may_step allowance used (eqb left x) ≡ false → bits_of used ≡ edge_scratch shape t s % 4
         → Looked shape allowance y s found t t found
     look_barred used barred used_is =
         record {
@@ -199,9 +201,9 @@ module _ (shape : Shape) (t : List ℕ) (holds : Holds shape t) (y s x left righ
           }
 
       -- or is reached now
-      pub look-linked : {used : ℕ} {new : List ℕ} {found' : ℕ} → word ≡ 0 → may_step allowance used (eqb left x) ≡ true
-          → used ≡ edge_scratch shape t s % 4 → Reached shape x s found t new found' → Looked shape allowance y s found t new found'
-      look-linked {used} {new} {found'} e may used_is r =
+      pub look-linked : (used : Use) {new : List ℕ} {found' : ℕ} → word ≡ 0 → may_step allowance used (eqb left x) ≡ true
+          → bits_of used ≡ edge_scratch shape t s % 4 → Reached shape x s found t new found' → Looked shape allowance y s found t new found'
+      look-linked used {new} {found'} e may used_is r =
           record {
             only = r.only;
             goes = λ g u b f w ready.

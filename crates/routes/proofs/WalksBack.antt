@@ -20,7 +20,8 @@ use Rattle.ways.specs.TwoRoutes.{edges_of, none_back}
 use Rattle.ways.proofs.SearchOrder.{at_place_in}
 use Rattle.numbers.specs.declared.Shape.{Shape}
 use Rattle.forest.specs.Promise.{vertex_scratch, edge_scratch}
-use Rattle.routes.specs.Inside.Lists.{along_code, use_of, Listed}
+use Rattle.routes.specs.declared.uses.Use.TheVariants as U
+use Rattle.routes.specs.Inside.Lists.{bits_of, used_along, use_of, Listed}
 use Rattle.routes.specs.Inside.Walks.{TakesBack}
 
 -- none of the steps goes along a used edge exactly where no edge of the way is used
@@ -30,11 +31,11 @@ none_back_lem u [] = refl
 none_back_lem u (p ∷ ps) = rw (none_back_lem u ps)
 
 -- an edge is used exactly where its bits are 2 or more
-bits_used : (g : Network) (u : Used) (s : ℕ) → leb 2 (use_of g u s) ≡ is_used u s
-unfolding use_of along_code
+bits_used : (g : Network) (u : Used) (s : ℕ) → leb 2 (bits_of (use_of g u s)) ≡ is_used u s
+unfolding use_of used_along
 bits_used g u s = go (is_used u s) (eqb (u s) (suc (edge g s).left)) (mate_used g u s)
   where
-    go : (used left mate : Bool) → leb 2 (cond used (cond left 2 3) (cond mate 1 0)) ≡ used
+    go : (used left mate : Bool) → leb 2 (bits_of (cond used (cond left U.FromLeft U.FromRight) (cond mate U.MateUsed U.Free))) ≡ used
     go true true mate = refl
     go true false mate = refl
     go false left true = refl

@@ -14,6 +14,7 @@ use Rattle.ways.proofs.UsedSteps.{mates_touch}
 use Rattle.numbers.specs.declared.Shape.{Shape}
 use Rattle.forest.specs.Promise.{Holds, network_in, vertices_held, proper_held, vertex_scratch}
 use Rattle.routes.specs.Inside.Frame.{head_column}
+use Rattle.routes.specs.declared.uses.Use.{Use}
 use Rattle.routes.specs.Inside.Lists.{last_at, Linked, entry_behind}
 use Rattle.routes.specs.Inside.Walks.{UsesSet, is_other_mate}
 use Rattle.routes.proofs.Frames.{edges_are, held_rule, same-network}
@@ -27,11 +28,11 @@ unfolding is_other_mate
 other_mate_touches g rule s r x h m = mates_touch g rule s r x (and_right (not (eqb s r)) (mates g s r) m) h
 
 -- the other mates from an entry on have their bits, and the entry is none or that of an edge at vertex x
-pub record MatesFrom (shape : Shape) (g : Network) (x s used entry : ℕ) (old new : List ℕ) : Type 0 where
+pub record MatesFrom (shape : Shape) (g : Network) (x s : ℕ) (used : Use) (entry : ℕ) (old new : List ℕ) : Type 0 where
   pub at_end : (r : ℕ) → entry ≡ suc r → touches (edge g r) x ≡ true
   pub done : UsesSet shape (λ r. is_other_mate g s r && leb entry r) used old new
 
-module _ (shape : Shape) (g : Network) (x s used : ℕ) (old : List ℕ) (is : network_in shape old ≡ g)
+module _ (shape : Shape) (g : Network) (x s : ℕ) (used : Use) (old : List ℕ) (is : network_in shape old ≡ g)
     (at_end : touches (edge g s) x ≡ true) where
   -- no other mate lies between an entry and where it was looked for
   no_mate_above : (k r : ℕ) → last_at g x k ≤ r → r < k → is_other_mate g s r ≡ false

@@ -1,4 +1,4 @@
--- The two bits of each edge when a step is taken: those of its own edge, of that edge's other mates, and of every other edge.
+-- The use of each edge when a step is taken: that of its own edge, of that edge's other mates, and of every other edge.
 use mathlib.Core.Bool.{Bool, true, false, not, ◌&&◌}
 use mathlib.Core.Logic.{◌⊎◌, inl, inr, ⊎_elim}
 use mathlib.Core.Path.{◌≡◌, refl, sym, ◌∙◌, ap}
@@ -12,28 +12,35 @@ use Rattle.graph.proofs.Below.{any_below_lem, some_below, any_below-same}
 use Rattle.graph.proofs.Mates.{mates_refl, mates_sym, mates_trans, mates_swap}
 use Rattle.ways.specs.Used.{Used, is_used, mate_used, step_taken, Usable, StepFits}
 use Rattle.ways.proofs.UsedSteps.{used_from_lem, not_used, taken_off, taken_new, taken_again, UsedThen, newly, before, used_then, free_of_mates}
-use Rattle.routes.specs.Inside.Lists.{along_code, use_of}
+use Rattle.routes.specs.declared.uses.Use.{Use}
+use Rattle.routes.specs.declared.uses.Use.TheVariants as U
+use Rattle.routes.specs.Inside.Lists.{used_along, use_of}
 use Rattle.routes.specs.Inside.Walks.{taken_use, mates_use, is_other_mate}
 
--- the bits of an edge that is used are not 0
-code_some : (left : Bool) → eqb (along_code left) 0 ≡ false
-unfolding along_code
-code_some true = refl
-code_some false = refl
+-- an edge that was used is free when a step along it is taken, and so are its mates
+used_taken : (a left : Bool) → taken_use (used_along a) left ≡ U.Free
+unfolding used_along taken_use
+used_taken true left = refl
+used_taken false left = refl
+
+mates_freed : (a : Bool) → mates_use (used_along a) ≡ U.Free
+unfolding used_along mates_use
+mates_freed true = refl
+mates_freed false = refl
 
 module _ (g : Network) (u : Used) (s : ℕ) where
-  -- the bits of an edge that is used
-  where_used : is_used u s ≡ true → use_of g u s ≡ along_code (eqb (u s) (suc (edge g s).left))
+  -- the use of an edge that is used
+  where_used : is_used u s ≡ true → use_of g u s ≡ used_along (eqb (u s) (suc (edge g s).left))
   unfolding use_of
   where_used e = rw e
 
   -- of one that is not, but a mate of which is
-  where_mate_used : is_used u s ≡ false → mate_used g u s ≡ true → use_of g u s ≡ 1
+  where_mate_used : is_used u s ≡ false → mate_used g u s ≡ true → use_of g u s ≡ U.MateUsed
   unfolding use_of
   where_mate_used n m = rw (n, m)
 
   -- and of one of which no mate is
-  where_free : is_used u s ≡ false → mate_used g u s ≡ false → use_of g u s ≡ 0
+  where_free : is_used u s ≡ false → mate_used g u s ≡ false → use_of g u s ≡ U.Free
   unfolding use_of
   where_free n m = rw (n, m)
 
@@ -70,25 +77,25 @@ module _ (g : Network) (rule : MateRule g.rule) (u : Used) (x s : ℕ) (usable :
       let n = false_of_not (is_used u s) (λ k. free_of_mates g u s s f fits.known k (mates_refl g s)) in
       (n, taken_new u x s (not_used u s n))
 
-  -- the bits of the step's edge
+  -- the use of the step's edge
   pub own_use : use_of g next s ≡ taken_use (use_of g u s) (eqb (edge g s).left x)
   unfolding taken_use
   own_use = ⊎_elim was_used was_free fits.used_or_free
     where
       was_used : is_used u s ≡ true → use_of g next s ≡ taken_use (use_of g u s) (eqb (edge g s).left x)
       was_used k = where_free g next s (false_of_not (is_used next s) (none_then k s (mates_refl g s))) (no_mate_used g next s (none_then k))
-          ∙ rw (where_used g u s k, code_some (eqb (u s) (suc (edge g s).left)))
+          ∙ rw (where_used g u s k, used_taken (eqb (u s) (suc (edge g s).left)) (eqb (edge g s).left x))
 
       was_free : mate_used g u s ≡ false → use_of g next s ≡ taken_use (use_of g u s) (eqb (edge g s).left x)
       was_free f =
           let (n, new) = new_then f in
-          where_used g next s (used_from_lem next s x new) ∙ rw (new, where_free g u s n f) (ap along_code (same_end x (edge g s).left))
+          where_used g next s (used_from_lem next s x new) ∙ rw (new, where_free g u s n f) (ap used_along (same_end x (edge g s).left))
         where
           same_end : (a b : ℕ) → eqb (suc a) (suc b) ≡ eqb b a
           same_end a b = bool_ext (eqb (suc a) (suc b)) (eqb b a)
               (λ e. eq-eqb b a (omega (arith, eqb_eq (suc a) (suc b) e))) (λ e. eq-eqb (suc a) (suc b) (omega (arith, eqb_eq b a e)))
 
-  -- those of its other mates
+  -- that of its other mates
   pub mate_use : (r : ℕ) → is_other_mate g s r ≡ true → use_of g next r ≡ mates_use (use_of g u s)
   unfolding is_other_mate mates_use
   mate_use r o = ⊎_elim was_used was_free fits.used_or_free
@@ -99,7 +106,7 @@ module _ (g : Network) (rule : MateRule g.rule) (u : Used) (x s : ℕ) (usable :
       was_used : is_used u s ≡ true → use_of g next r ≡ mates_use (use_of g u s)
       was_used k = where_free g next r (false_of_not (is_used next r) (none_then k r m))
           (no_mate_used g next r (λ t l e. none_then k t (mates_trans g rule s r t m l) e))
-          ∙ rw (where_used g u s k, code_some (eqb (u s) (suc (edge g s).left)))
+          ∙ rw (where_used g u s k, mates_freed (eqb (u s) (suc (edge g s).left)))
 
       was_free : mate_used g u s ≡ false → use_of g next r ≡ mates_use (use_of g u s)
       was_free f =
@@ -112,7 +119,7 @@ module _ (g : Network) (rule : MateRule g.rule) (u : Used) (x s : ℕ) (usable :
           go (newly q _ _) = not_both (eq-eqb s r (sym q)) (false_of_not_true (eqb s r) (and_left (not (eqb s r)) (mates g s r) o))
           go (before l _) = free_of_mates g u s r f (usable.known r l) l m
 
-  -- and those of every other edge, which stay
+  -- and that of every other edge, which stays
   pub other_use : (r : ℕ) → mates g s r ≡ false → use_of g next r ≡ use_of g u r
   unfolding use_of is_used mate_used
   other_use r n = rw (

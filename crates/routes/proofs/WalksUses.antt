@@ -12,26 +12,28 @@ use Rattle.graph.proofs.Truth.{true_or_false, eqb_eq, eqb_ne, eq-eqb, ne_eqb}
 use Rattle.numbers.specs.declared.Shape.{Shape}
 use Rattle.forest.specs.Promise.{Holds, network_in, edge_scratch, edges_held, edges_fit, vertices_fit, EdgeScratchStored}
 use Rattle.routes.specs.Inside.Frame.{head_column, edges_only}
-use Rattle.routes.specs.Inside.Lists.{Linked}
+use Rattle.routes.specs.declared.uses.Use.{Use}
+use Rattle.routes.specs.Inside.Lists.{bits_of, Linked}
 use Rattle.routes.specs.Inside.Walks.{with_use, UsesSet, is_other_mate}
+use Rattle.routes.proofs.UseBits.{bits_small}
 use Rattle.routes.proofs.Frames.{only_refl, only_trans, only_edge}
 
 -- a word with other bits has the same entries
-use_entries : (word used : ℕ) → with_use word used / 4 ≡ word / 4
+use_entries : (word : ℕ) (used : Use) → with_use word used / 4 ≡ word / 4
 unfolding with_use
-use_entries word used = omega arith
+use_entries word used = omega (arith, bits_small used)
 
 -- and these bits
-use_bits : (word used : ℕ) → with_use word used % 4 ≡ used % 4
+use_bits : (word : ℕ) (used : Use) → with_use word used % 4 ≡ bits_of used
 unfolding with_use
-use_bits word used = omega arith
+use_bits word used = omega (arith, bits_small used)
 
 -- the same bits once more change nothing
-use_again : (word used : ℕ) → with_use (with_use word used) used ≡ with_use word used
+use_again : (word : ℕ) (used : Use) → with_use (with_use word used) used ≡ with_use word used
 unfolding with_use
-use_again word used = omega arith
+use_again word used = omega (arith, bits_small used)
 
-module _ {shape : Shape} {used : ℕ} where
+module _ {shape : Shape} {used : Use} where
   -- a store into the word of an edge sets its bits alone
   pub use_stored : {s value : ℕ} {old new : List ℕ} → EdgeScratchStored shape s value old new
       → value ≡ with_use (edge_scratch shape old s) used → UsesSet shape (λ e. eqb s e) used old new
@@ -70,10 +72,10 @@ module _ {shape : Shape} {used : ℕ} where
 
   -- the bits of each edge then
   pub uses_bits : (test : ℕ → Bool) {old new : List ℕ} → UsesSet shape test used old new → (r : ℕ) → r < shape.edges
-      → edge_scratch shape new r % 4 ≡ cond (test r) (used % 4) (edge_scratch shape old r % 4)
+      → edge_scratch shape new r % 4 ≡ cond (test r) (bits_of used) (edge_scratch shape old r % 4)
   uses_bits test {old} w r h = ap (λ n. n % 4) (w.words r h) ∙ go (test r) (edge_scratch shape old r)
     where
-      go : (a : Bool) (word : ℕ) → cond a (with_use word used) word % 4 ≡ cond a (used % 4) (word % 4)
+      go : (a : Bool) (word : ℕ) → cond a (with_use word used) word % 4 ≡ cond a (bits_of used) (word % 4)
       go true word = use_bits word used
       go false word = refl
 
@@ -97,14 +99,14 @@ module _ {shape : Shape} {used : ℕ} where
 
 module _ (g : Network) (s r : ℕ) where
   -- whether an edge r that is not s is another mate of edge s is whether it is a mate
-  pub other_mate : (s ≡ r → ⊥) → {told answer : Bool} → told ≡ mates g s r → told ≡ answer → is_other_mate g s r ≡ answer
+  pub other_mate : eqb s r ≡ false → {told answer : Bool} → told ≡ mates g s r → told ≡ answer → is_other_mate g s r ≡ answer
   unfolding is_other_mate
-  other_mate n m e = rw (ne_eqb s r n) (sym m ∙ e)
+  other_mate n m e = rw n (sym m ∙ e)
 
   -- edge s is none
-  pub not_other_mate : s ≡ r → is_other_mate g s r ≡ false
+  pub not_other_mate : eqb s r ≡ true → is_other_mate g s r ≡ false
   unfolding is_other_mate
-  not_other_mate q = rw (eq-eqb s r q)
+  not_other_mate q = rw q
 
   -- edge r alone, where it is another mate
   mate_alone : (e : ℕ) → (eqb r e && is_other_mate g s e) ≡ (eqb r e && is_other_mate g s r)
@@ -115,12 +117,12 @@ module _ (g : Network) (s r : ℕ) where
       go (inr n) = rw n
 
   -- the bits of such an edge are set
-  pub mate_set : {shape : Shape} {used : ℕ} {old new : List ℕ} → is_other_mate g s r ≡ true → UsesSet shape (λ e. eqb r e) used old new
+  pub mate_set : {shape : Shape} {used : Use} {old new : List ℕ} → is_other_mate g s r ≡ true → UsesSet shape (λ e. eqb r e) used old new
       → UsesSet shape (λ e. eqb r e && is_other_mate g s e) used old new
   mate_set o w = uses_same (λ e. eqb r e) (λ e. eqb r e && is_other_mate g s e) (λ e h. sym (mate_alone e ∙ rw o (and-true (eqb r e)))) w
 
   -- and nothing is done for another
-  pub mate_passed : {shape : Shape} (used : ℕ) {t : List ℕ} → Holds shape t → is_other_mate g s r ≡ false
+  pub mate_passed : {shape : Shape} (used : Use) {t : List ℕ} → Holds shape t → is_other_mate g s r ≡ false
       → UsesSet shape (λ e. eqb r e && is_other_mate g s e) used t t
   mate_passed used {t} holds n =
       uses_none (λ e. eqb r e && is_other_mate g s e) t holds (λ e h. mate_alone e ∙ rw n (and-false (eqb r e)))

@@ -55,35 +55,36 @@ module _ {shape : Shape} {column a : ℕ} {f : Found} where
           length_tabulate i (vertex_scratch shape t column),
         )
 
-    -- the edge of a vertex that is not the goal is that of its step
-    next_step : (old : List ℕ) (s : ℕ) → network_in shape old ≡ g → NextIs shape b f old → 1 < column → Only shape (column_only column) old t
-        → (x ≡ b → ⊥) → s ≡ vertex_scratch shape t next_column x - 1 → NextStep g f x s
-    unfolding column_only next_word
-    next_step old s is next above only n e = subst (NextStep g f x) (omega (arith, e, word, step)) on
-      where
-        some : step_of f.links x ≡ 0 → ⊥
-        some = eqb_ne (step_of f.links x) 0
-            (false_of_not_true (eqb (step_of f.links x) 0) (rw (ne_eqb x b n) at (sym (in_order_exactly orderly x) ∙ w.reached)))
+    module _ (old : List ℕ) (is : network_in shape old ≡ g) (next : NextIs shape b f old) (above : 1 < column)
+        (only : Only shape (column_only column) old t) (n : x ≡ b → ⊥) where
+      some_step : step_of f.links x ≡ 0 → ⊥
+      some_step = eqb_ne (step_of f.links x) 0
+          (false_of_not_true (eqb (step_of f.links x) 0) (rw (ne_eqb x b n) at (sym (in_order_exactly orderly x) ∙ w.reached)))
 
-        step : step_of f.links x ≡ suc (step_of f.links x - 1)
-        step = omega (arith, some)
+      step_on : NextStep g f x (step_of f.links x - 1)
+      step_on = way_goes_on orderly x (step_of f.links x - 1) (omega (arith, some_step))
 
-        on : NextStep g f x (step_of f.links x - 1)
-        on = way_goes_on orderly x (step_of f.links x - 1) step
+      -- the word of a vertex that is not the goal is that of its step
+      step_word : vertex_scratch shape t next_column x ≡ step_of f.links x
+      unfolding column_only next_word
+      step_word =
+          let inside = rw (← is, vertices_held shape old) at
+              (touched_known g (rw (← same-network only ∙ is) (proper_held shape t only.holds))
+              (step_of f.links x - 1) x step_on.known step_on.at_end) in
+          only.columns next_column x (omega arith) (ne_eqb next_column column (λ q. omega (arith, above)))
+          (omega (arith, inside, vertices_fit shape t only.holds))
+          ∙ next x inside ∙ rw (ne_eqb x b n)
 
-        inside : x < shape.vertices
-        inside = rw (← is, vertices_held shape old) at
-            (touched_known g (rw (← same-network only ∙ is) (proper_held shape t only.holds))
-            (step_of f.links x - 1) x on.known on.at_end)
+      -- there is one
+      pub step_stands : vertex_scratch shape t next_column x ≡ 0 → ⊥
+      step_stands e = some_step (sym step_word ∙ e)
 
-        word : vertex_scratch shape t next_column x ≡ step_of f.links x
-        word = only.columns next_column x (omega arith) (ne_eqb next_column column (λ q. omega (arith, above)))
-            (omega (arith, inside, vertices_fit shape t only.holds))
-            ∙ next x inside ∙ rw (ne_eqb x b n)
+      next_step : (s : ℕ) → suc s ≡ vertex_scratch shape t next_column x → NextStep g f x s
+      next_step s e = subst (NextStep g f x) (omega (arith, e, step_word)) step_on
 
     -- it is stored, and the way goes on from its other end
     pub write_goes_on : (old new : List ℕ) (s : ℕ) → network_in shape old ≡ g → NextIs shape b f old → 1 < column → column < scratch_words
-        → i < shape.vertices → Only shape (column_only column) old t → (x ≡ b → ⊥) → s ≡ vertex_scratch shape t next_column x - 1
+        → i < shape.vertices → Only shape (column_only column) old t → (x ≡ b → ⊥) → suc s ≡ vertex_scratch shape t next_column x
         → VertexScratchStored shape column i s t new → (y : ℕ) → y ≡ far_end (network_in shape new) s x
         → WrittenTo shape column a f new y (i + 1)
     unfolding edges_of tabulate far_end
@@ -99,7 +100,7 @@ module _ {shape : Shape} {column a : ℕ} {f : Found} where
         front = tabulate i (vertex_scratch shape t column)
 
         on : NextStep g f x s
-        on = next_step old s is next above only n e
+        on = next_step old is next above only n s e
 
         is_then : network_in shape new ≡ g
         is_then = same-network (only_vertex v) ∙ same-network only ∙ is

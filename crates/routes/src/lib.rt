@@ -10,6 +10,7 @@ ghost use Rattle.routes.specs.Inside.Passes.{PassWritten, PassTaken};
 
 pub mod lists;
 pub mod search;
+pub mod uses;
 pub mod walk;
 
 use crate::lists::build_lists;
@@ -93,6 +94,7 @@ pub fn find(t: &mut [u32], shape: Shape, a: Vertex, b: Vertex) -> Lengths
 }
 
 // Edge i of a route that is written down.
+#[tactic(auto, unfolding(crate::specs::Promise::edge_at))]
 pub fn edge_at(t: &[u32], shape: Shape, route: Route, i: u32) -> Edge
     ensures { result.0 ≡ edge_at shape t.now route i }
 {

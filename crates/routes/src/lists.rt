@@ -3,17 +3,17 @@
 ghost use Rattle.std.specs.Prelude.{cond, ◌≡◌, ◌<◌, min, eqb};
 ghost use Rattle.forest.specs.Promise.{Holds, network_in, vertex_scratch};
 ghost use Rattle.routes.specs.Inside.Frame.{head_column, ColumnCleared};
-ghost use Rattle.routes.specs.Inside.Lists.{EdgeEntered, ListsBuilt, far_end, entry_behind};
+ghost use Rattle.routes.specs.Inside.Lists.{EdgeEntered, ListsBuilt, entry_number, far_end, entry_behind};
 
 use crate::HEAD;
 use forest::{Ends, edge_scratch, ends_of, set_edge_scratch, set_vertex_scratch, vertex_scratch};
 use numbers::{Edge, Shape, Vertex};
 
-// The lesser of two numbers.
-pub(crate) fn lesser(a: u32, b: u32) -> u32
-    ensures { result ≡ min a b }
+// The edge of an entry's word.
+pub(crate) fn entry_of(word: u32) -> Option<Edge>
+    ensures { entry_number result ≡ word }
 {
-    if a <= b { a } else { b }
+    word.checked_sub(1).map(|s| Edge(s))
 }
 
 // Clears a column of the vertices.
@@ -21,10 +21,8 @@ pub(crate) fn clear_column(t: &mut [u32], shape: Shape, column: u8)
     requires { Holds shape t.old × (column < 4) }
     ensures { ColumnCleared shape column t.old t.new }
 {
-    let mut i: u32 = 0;
-    while i < shape.vertices {
+    for i in 0..shape.vertices {
         set_vertex_scratch(t, shape, column, Vertex(i), 0);
-        i += 1;
     }
 }
 
@@ -47,10 +45,8 @@ pub(crate) fn build_lists(t: &mut [u32], shape: Shape)
     ensures { ListsBuilt shape t.old t.new }
 {
     clear_column(t, shape, HEAD);
-    let mut i: u32 = 0;
-    while i < shape.edges {
+    for i in 0..shape.edges {
         enter_edge(t, shape, Edge(i));
-        i += 1;
     }
 }
 
@@ -58,7 +54,7 @@ pub(crate) fn build_lists(t: &mut [u32], shape: Shape)
 pub(crate) fn other_end(ends: Ends, x: Vertex) -> Vertex
     ensures { result.0 ≡ cond (eqb ends.left.0 x.0) ends.right.0 ends.left.0 }
 {
-    if ends.left.0 == x.0 {
+    if ends.left == x {
         ends.right
     } else {
         ends.left
@@ -66,6 +62,7 @@ pub(crate) fn other_end(ends: Ends, x: Vertex) -> Vertex
 }
 
 // The vertex to which a step from x along edge s leads; x where there is no such edge.
+#[tactic(auto, unfolding(crate::specs::Inside::Lists::far_end, graph::specs::Network::other_end), using(forest::specs::Promise::edges_held))]
 pub(crate) fn far_end(t: &[u32], shape: Shape, s: Edge, x: Vertex) -> Vertex
     requires { Holds shape t.now }
     ensures { result.0 ≡ far_end (network_in shape t.now) s.0 x.0 }
@@ -78,22 +75,23 @@ pub(crate) fn far_end(t: &[u32], shape: Shape, s: Edge, x: Vertex) -> Vertex
 }
 
 // The entry behind edge s in the list of vertex x; never more than s, so that following a list ends.
-pub(crate) fn entry_behind(t: &[u32], shape: Shape, x: Vertex, s: Edge) -> u32
+#[tactic(auto, unfolding(crate::specs::Inside::Lists::entry_behind))]
+pub(crate) fn entry_behind(t: &[u32], shape: Shape, x: Vertex, s: Edge) -> Option<Edge>
     requires { Holds shape t.now × (s.0 < shape.edges) }
-    ensures { result ≡ entry_behind shape t.now x.0 s.0 }
+    ensures { entry_number result ≡ entry_behind shape t.now x.0 s.0 }
 {
     let ends = ends_of(t, shape, s);
     let entries = edge_scratch(t, shape, s) / 4;
-    if ends.left.0 == x.0 {
-        lesser(entries / 16384, s.0)
+    if ends.left == x {
+        entry_of((entries / 16384).min(s.0))
     } else {
-        lesser(entries % 16384, s.0)
+        entry_of((entries % 16384).min(s.0))
     }
 }
 
 // The first entry of the list of vertex x; never more than there are edges.
-pub(crate) fn first_entry(t: &[u32], shape: Shape, x: Vertex) -> u32
-    ensures { result ≡ min (vertex_scratch shape t.now head_column x.0) shape.edges }
+pub(crate) fn first_entry(t: &[u32], shape: Shape, x: Vertex) -> Option<Edge>
+    ensures { entry_number result ≡ min (vertex_scratch shape t.now head_column x.0) shape.edges }
 {
-    lesser(vertex_scratch(t, shape, HEAD, x), shape.edges)
+    entry_of(vertex_scratch(t, shape, HEAD, x).min(shape.edges))
 }

@@ -1,46 +1,55 @@
 // The search for ways to a goal, breadth first from the goal backwards: each vertex that is reached keeps its step towards it.
 ghost use Rattle.std.specs.Prelude.{◌≡◌, ◌<◌};
 ghost use Rattle.forest.specs.Promise.{Holds};
-ghost use Rattle.routes.specs.Inside.Lists.{along_code};
 ghost use Rattle.routes.specs.Inside.Searches.{may_step, Reached, Looked, LookedAll, Turned, Begun, Searched};
 ghost use Rattle.routes.specs.declared.search.Allowance.TheVariants as Variants;
 
 use crate::lists::{clear_column, entry_behind, first_entry, other_end};
+use crate::uses::Use;
 use crate::{NEXT, ORDER};
 use forest::{edge_scratch, ends_of, set_vertex_scratch, vertex_scratch};
 use numbers::{Edge, Shape, Vertex};
 
-// Which steps a search may take: those of one way more, or those along used edges.
+// Which steps a search may take: those of one way more, or those along used edges. It is told by a value, and not by a closure, since the
+// definitions decide by it too, and the promises of a search then name it alone.
 #[derive(Clone, Copy)]
 pub enum Allowance {
     OneMore,
     AlongUsed,
 }
 
-// The two bits of an edge that is used from its left end, and of one that is used from its right.
-pub(crate) fn along_code(left: bool) -> u32
-    ensures { result ≡ along_code left }
-{
-    if left { 2 } else { 3 }
-}
-
-// Whether one way more may go along an edge with these two bits, from its left end or from its right.
-fn may_add(used: u32, left: bool) -> bool
+// Whether one way more may go along an edge of this use, from its left end or from its right.
+#[tactic(auto, unfolding(crate::specs::Inside::Searches::may_step))]
+fn may_add(used: Use, left: bool) -> bool
     ensures { result ≡ may_step Variants.OneMore used left }
 {
-    if used == 0 {
-        return true;
+    match used {
+        Use::Free => true,
+        Use::MateUsed => false,
+        Use::FromLeft => !left,
+        Use::FromRight => left,
     }
-    used == along_code(!left)
 }
 
-// Whether a step may be taken along an edge with these two bits.
-fn may_step(allowance: Allowance, used: u32, left: bool) -> bool
+// Whether a way along used edges may, as they are used.
+#[tactic(auto, unfolding(crate::specs::Inside::Searches::may_step))]
+fn may_follow(used: Use, left: bool) -> bool
+    ensures { result ≡ may_step Variants.AlongUsed used left }
+{
+    match used {
+        Use::Free | Use::MateUsed => false,
+        Use::FromLeft => left,
+        Use::FromRight => !left,
+    }
+}
+
+// Whether a step may be taken along an edge of this use.
+fn may_step(allowance: Allowance, used: Use, left: bool) -> bool
     ensures { result ≡ may_step allowance used left }
 {
     match allowance {
         Allowance::OneMore => may_add(used, left),
-        Allowance::AlongUsed => used == along_code(left),
+        Allowance::AlongUsed => may_follow(used, left),
     }
 }
 
@@ -64,8 +73,8 @@ fn look(t: &mut [u32], shape: Shape, allowance: Allowance, y: Vertex, s: Edge, f
 {
     let ends = ends_of(t, shape, s);
     let x = other_end(ends, y);
-    let used = edge_scratch(t, shape, s) % 4;
-    if !may_step(allowance, used, ends.left.0 == x.0) {
+    let used = Use::in_word(edge_scratch(t, shape, s));
+    if !may_step(allowance, used, ends.left == x) {
         return found;
     }
     if vertex_scratch(t, shape, NEXT, x) != 0 {
@@ -81,8 +90,7 @@ fn look_all(t: &mut [u32], shape: Shape, allowance: Allowance, y: Vertex, found:
 {
     let mut reached = found;
     let mut entry = first_entry(t, shape, y);
-    while entry != 0 {
-        let s = Edge(entry - 1);
+    while let Some(s) = entry {
         entry = entry_behind(t, shape, y, s);
         reached = look(t, shape, allowance, y, s, reached);
     }
@@ -118,12 +126,10 @@ pub(crate) fn search(t: &mut [u32], shape: Shape, allowance: Allowance, a: Verte
 {
     begin_search(t, shape, b);
     let mut found: u32 = 1;
-    let mut i: u32 = 0;
-    while i < shape.vertices {
+    for i in 0..shape.vertices {
         if vertex_scratch(t, shape, NEXT, a) != 0 {
             return;
         }
         found = turn(t, shape, allowance, i, found);
-        i += 1;
     }
 }

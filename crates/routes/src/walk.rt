@@ -1,43 +1,33 @@
 // Ways: written down from the steps that a search has left, and taken.
 ghost use Rattle.std.specs.Prelude.{◌≡◌, ◌&&◌, ◌-◌, ◌<◌, eqb};
 ghost use Rattle.forest.specs.Promise.{Holds, network_in};
-ghost use Rattle.routes.specs.Inside.Walks.{WayWritten, taken_use, mates_use, is_other_mate, UsesSet, MatesSet, StepDone, WayDone, TakesBack};
+ghost use Rattle.routes.specs.Inside.Walks.{WayWritten, is_other_mate, UsesSet, MatesSet, StepDone, WayDone, TakesBack};
 
 use crate::NEXT;
-use crate::lists::{entry_behind, far_end, first_entry};
-use crate::search::along_code;
+use crate::lists::{entry_behind, entry_of, far_end, first_entry};
+use crate::uses::Use;
 use forest::{
     are_mates, edge_scratch, ends_of, set_edge_scratch, set_vertex_scratch, vertex_scratch,
 };
 use numbers::{Edge, Shape, Vertex};
-
-// The edge of an entry.
-fn edge_of(entry: u32) -> Edge
-    ensures { result.0 ≡ entry - 1 }
-{
-    if entry == 0 {
-        return Edge(0);
-    }
-    Edge(entry - 1)
-}
 
 // Writes down the edges of the way from a to b in a column; gives their number.
 pub(crate) fn write_way(t: &mut [u32], shape: Shape, column: u8, a: Vertex, b: Vertex) -> u32
     requires { Holds shape t.old × (1 < column) × (column < 4) }
     ensures { WayWritten shape column a.0 b.0 t.old t.new result }
 {
-    let mut x = a.0;
-    let mut i: u32 = 0;
-    while i < shape.vertices {
-        if x == b.0 {
+    let mut x = a;
+    for i in 0..shape.vertices {
+        if x == b {
             return i;
         }
-        let s = edge_of(vertex_scratch(t, shape, NEXT, Vertex(x)));
+        let Some(s) = entry_of(vertex_scratch(t, shape, NEXT, x)) else {
+            return i;
+        };
         set_vertex_scratch(t, shape, column, Vertex(i), s.0);
-        x = far_end(t, shape, s, Vertex(x)).0;
-        i += 1;
+        x = far_end(t, shape, s, x);
     }
-    i
+    shape.vertices
 }
 
 // Whether the way whose edges are written down in a column goes along an edge that is used.
@@ -45,49 +35,30 @@ pub(crate) fn takes_back(t: &[u32], shape: Shape, column: u8, count: u32) -> boo
     requires { column < 4 }
     ensures { TakesBack shape column count t.now result }
 {
-    let mut i: u32 = 0;
-    while i < count {
+    for i in 0..count {
         let s = Edge(vertex_scratch(t, shape, column, Vertex(i)));
-        if edge_scratch(t, shape, s) % 4 >= 2 {
+        if Use::in_word(edge_scratch(t, shape, s)).is_own() {
             return true;
         }
-        i += 1;
     }
     false
 }
 
-// The two bits of an edge when a step along it is taken.
-fn taken_use(used: u32, left: bool) -> u32
-    ensures { result ≡ taken_use used left }
-{
-    if used == 0 {
-        return along_code(left);
-    }
-    0
-}
-
-// Those of its other mates then.
-fn mates_use(used: u32) -> u32
-    ensures { result ≡ mates_use used }
-{
-    if used == 0 { 1 } else { 0 }
-}
-
 // Stores the two bits of an edge.
-fn set_use(t: &mut [u32], shape: Shape, s: Edge, used: u32)
+fn set_use(t: &mut [u32], shape: Shape, s: Edge, used: Use)
     requires { Holds shape t.old × (s.0 < shape.edges) }
     ensures { UsesSet shape (λ e. eqb s.0 e) used t.old t.new }
 {
     let word = edge_scratch(t, shape, s);
-    set_edge_scratch(t, shape, s, word / 4 * 4 + used % 4);
+    set_edge_scratch(t, shape, s, word / 4 * 4 + u32::from(used));
 }
 
 // Stores the two bits of edge r where it is another mate of edge s.
-fn set_mate_use(t: &mut [u32], shape: Shape, s: Edge, r: Edge, used: u32)
+fn set_mate_use(t: &mut [u32], shape: Shape, s: Edge, r: Edge, used: Use)
     requires { Holds shape t.old × (s.0 < shape.edges) × (r.0 < shape.edges) }
     ensures { UsesSet shape (λ e. eqb r.0 e && is_other_mate (network_in shape t.old) s.0 e) used t.old t.new }
 {
-    if s.0 == r.0 {
+    if s == r {
         return;
     }
     if are_mates(t, shape, s, r) {
@@ -96,13 +67,12 @@ fn set_mate_use(t: &mut [u32], shape: Shape, s: Edge, r: Edge, used: u32)
 }
 
 // Stores the two bits of the other mates of edge s, all of which are at vertex x, an end of s.
-fn set_mates_use(t: &mut [u32], shape: Shape, x: Vertex, s: Edge, used: u32)
+fn set_mates_use(t: &mut [u32], shape: Shape, x: Vertex, s: Edge, used: Use)
     requires { Holds shape t.old × (s.0 < shape.edges) }
     ensures { MatesSet shape x.0 s.0 used t.old t.new }
 {
     let mut entry = first_entry(t, shape, x);
-    while entry != 0 {
-        let r = Edge(entry - 1);
+    while let Some(r) = entry {
         set_mate_use(t, shape, s, r, used);
         entry = entry_behind(t, shape, x, r);
     }
@@ -113,10 +83,10 @@ fn take_step(t: &mut [u32], shape: Shape, x: Vertex, s: Edge)
     requires { Holds shape t.old × (s.0 < shape.edges) }
     ensures { StepDone shape x.0 s.0 t.old t.new }
 {
-    let used = edge_scratch(t, shape, s) % 4;
+    let used = Use::in_word(edge_scratch(t, shape, s));
     let ends = ends_of(t, shape, s);
-    set_use(t, shape, s, taken_use(used, ends.left.0 == x.0));
-    set_mates_use(t, shape, x, s, mates_use(used));
+    set_use(t, shape, s, used.after_step(ends.left == x));
+    set_mates_use(t, shape, x, s, used.of_mates_after_step());
 }
 
 // Takes the way from a whose edges are written down in a column.
@@ -124,14 +94,12 @@ pub(crate) fn take_way(t: &mut [u32], shape: Shape, column: u8, a: Vertex, count
     requires { Holds shape t.old × (column < 4) }
     ensures { WayDone shape column a.0 count t.old t.new }
 {
-    let mut x = a.0;
-    let mut i: u32 = 0;
-    while i < count {
+    let mut x = a;
+    for i in 0..count {
         let s = Edge(vertex_scratch(t, shape, column, Vertex(i)));
         if s.0 < shape.edges {
-            take_step(t, shape, Vertex(x), s);
+            take_step(t, shape, x, s);
         }
-        x = far_end(t, shape, s, Vertex(x)).0;
-        i += 1;
+        x = far_end(t, shape, s, x);
     }
 }

@@ -1,10 +1,18 @@
 -- The lists of the edges at each vertex, as they stand in scratch words. An entry is 1 + an edge, or 0 at a list's end.
-use Rattle.std.specs.Prelude.{Bool, true, false, cond, List, ◌≡◌, ℕ, zero, suc, ◌+◌, ◌*◌, ◌/◌, ◌%◌, ◌<◌, min, eqb, ltb}
+use Rattle.std.specs.Prelude.{Option, None, Some, Bool, true, false, cond, List, ◌≡◌, ℕ, zero, suc, ◌+◌, ◌*◌, ◌/◌, ◌%◌, ◌<◌, min, eqb, ltb}
 use Rattle.graph.specs.Network.{Network, edge, edge_count, touches, other_end}
 use Rattle.ways.specs.Used.{Used, is_used, mate_used, unused}
 use Rattle.numbers.specs.declared.Shape.{Shape}
+use Rattle.numbers.specs.declared.Edge.{Edge}
+use Rattle.routes.specs.declared.uses.Use.{Use}
+use Rattle.routes.specs.declared.uses.Use.TheVariants as U
 use Rattle.forest.specs.Promise.{network_in, vertex_scratch, edge_scratch}
 use Rattle.routes.specs.Inside.Frame.{head_column, Free, Only}
+
+-- The number of an entry.
+abbrev pub entry_number : Option Edge → ℕ
+entry_number None = 0
+entry_number (Some s) = suc s.0
 
 -- The entry of the last edge below k at vertex x.
 unfoldable pub last_at : Network → ℕ → ℕ → ℕ
@@ -21,18 +29,24 @@ pub record Linked (shape : Shape) (g : Network) (k : ℕ) (t : List ℕ) : Type 
   pub heads : (x : ℕ) → x < shape.vertices → vertex_scratch shape t head_column x ≡ last_at g x k
   pub entries : (s : ℕ) → s < k → edge_scratch shape t s / 4 ≡ entries_of g s
 
--- The two bits for the use of an edge: 0 where no mate of it is used, 1 where a mate but not the edge is, 2 where it is used from its left
--- end, 3 where from its right.
-unfoldable pub along_code : Bool → ℕ
-along_code left = cond left 2 3
+-- The two bits for the use of an edge.
+abbrev pub bits_of : Use → ℕ
+bits_of U.Free = 0
+bits_of U.MateUsed = 1
+bits_of U.FromLeft = 2
+bits_of U.FromRight = 3
 
-unfoldable pub use_of : Network → Used → ℕ → ℕ
-use_of g u s = cond (is_used u s) (along_code (eqb (u s) (suc (edge g s).left))) (cond (mate_used g u s) 1 0)
+-- The use of an edge: no mate of it is used, or a mate but not the edge is, or it is used from its left end, or from its right.
+unfoldable pub used_along : Bool → Use
+used_along left = cond left U.FromLeft U.FromRight
+
+unfoldable pub use_of : Network → Used → ℕ → Use
+use_of g u s = cond (is_used u s) (used_along (eqb (u s) (suc (edge g s).left))) (cond (mate_used g u s) U.MateUsed U.Free)
 
 -- The lists of all edges stand in the scratch words, with the use of each edge.
 pub record Listed (shape : Shape) (g : Network) (u : Used) (t : List ℕ) : Type 0 where
   pub linked : Linked shape g (edge_count g) t
-  pub uses : (s : ℕ) → s < edge_count g → edge_scratch shape t s % 4 ≡ use_of g u s
+  pub uses : (s : ℕ) → s < edge_count g → edge_scratch shape t s % 4 ≡ bits_of (use_of g u s)
 
 -- The words of edges and the heads may change.
 unfoldable pub lists_only : Free

@@ -1,5 +1,5 @@
 -- The search in scratch words.
-use Rattle.std.specs.Prelude.{Bool, true, not, cond, ◌||◌, List, ◌≡◌, ℕ, suc, ◌<◌, eqb}
+use Rattle.std.specs.Prelude.{Bool, true, false, not, cond, List, ◌≡◌, ℕ, suc, ◌<◌, eqb}
 use Rattle.graph.specs.Lists.{is_in}
 use Rattle.graph.specs.Network.{Network, edge, edge_count, touches}
 use Rattle.ways.specs.Search.{Allowed, Found, look, look_below, turn, search, way_by, way, step_of, Orderly}
@@ -9,12 +9,21 @@ use Rattle.forest.specs.Promise.{network_in, vertex_scratch}
 use Rattle.routes.specs.declared.search.Allowance.{Allowance}
 use Rattle.routes.specs.declared.search.Allowance.TheVariants as A
 use Rattle.routes.specs.Inside.Frame.{next_column, order_column, Only, search_only, Written}
-use Rattle.routes.specs.Inside.Lists.{along_code, Listed}
+use Rattle.routes.specs.declared.uses.Use.{Use}
+use Rattle.routes.specs.declared.uses.Use.TheVariants as U
+use Rattle.routes.specs.Inside.Lists.{Listed}
 
--- A step may be taken along an edge with these two bits, from its left end or from its right.
-unfoldable pub may_step : Allowance → ℕ → Bool → Bool
-may_step A.OneMore used left = eqb used 0 || eqb used (along_code (not left))
-may_step A.AlongUsed used left = eqb used (along_code left)
+-- A step may be taken along an edge of this use, from its left end or from its right: one of one way more along an edge of which no mate is
+-- used, or back along a used one; one along used edges as they are used.
+unfoldable pub may_step : Allowance → Use → Bool → Bool
+may_step A.OneMore U.Free left = true
+may_step A.OneMore U.MateUsed left = false
+may_step A.OneMore U.FromLeft left = not left
+may_step A.OneMore U.FromRight left = left
+may_step A.AlongUsed U.Free left = false
+may_step A.AlongUsed U.MateUsed left = false
+may_step A.AlongUsed U.FromLeft left = left
+may_step A.AlongUsed U.FromRight left = not left
 
 -- The steps that a search may take, by what is used.
 unfoldable pub allowed_by : Network → Used → Allowance → Allowed

@@ -9,7 +9,9 @@ use Rattle.ways.specs.TwoRoutes.{edges_of, none_back}
 use Rattle.numbers.specs.declared.Shape.{Shape}
 use Rattle.forest.specs.Promise.{network_in, edge_scratch}
 use Rattle.routes.specs.Inside.Frame.{Only, edges_only, column_only, Written}
-use Rattle.routes.specs.Inside.Lists.{along_code, Linked, Listed}
+use Rattle.routes.specs.declared.uses.Use.{Use}
+use Rattle.routes.specs.declared.uses.Use.TheVariants as U
+use Rattle.routes.specs.Inside.Lists.{bits_of, used_along, Linked, Listed}
 use Rattle.routes.specs.Inside.Searches.{NextIs}
 
 -- The way from a to b is written down in a column, by the steps that a search has left.
@@ -18,19 +20,25 @@ pub record WayWritten (shape : Shape) (column a b : ℕ) (old new : List ℕ) (c
   pub written : (g : Network) (f : Found) → network_in shape old ≡ g → Orderly g b f → NextIs shape b f old → is_in a f.order ≡ true
       → length (way_by f.links a) < g.vertices → Written shape column count new (edges_of (way_by f.links a))
 
--- The two bits of an edge when a step along it is taken, from its left end or from its right, and then those of its other mates.
-unfoldable pub taken_use : ℕ → Bool → ℕ
-taken_use used left = cond (eqb used 0) (along_code left) 0
+-- The use of an edge when a step along it is taken, from its left end or from its right, and then that of its other mates.
+unfoldable pub taken_use : Use → Bool → Use
+taken_use U.Free left = used_along left
+taken_use U.MateUsed left = U.Free
+taken_use U.FromLeft left = U.Free
+taken_use U.FromRight left = U.Free
 
-unfoldable pub mates_use : ℕ → ℕ
-mates_use used = cond (eqb used 0) 1 0
+unfoldable pub mates_use : Use → Use
+mates_use U.Free = U.MateUsed
+mates_use U.MateUsed = U.Free
+mates_use U.FromLeft = U.Free
+mates_use U.FromRight = U.Free
 
 -- The word of an edge with other bits.
-unfoldable pub with_use : ℕ → ℕ → ℕ
-with_use word used = word / 4 * 4 + used % 4
+unfoldable pub with_use : ℕ → Use → ℕ
+with_use word used = word / 4 * 4 + bits_of used
 
 -- The words of the edges that pass the test get these bits.
-pub record UsesSet (shape : Shape) (test : ℕ → Bool) (used : ℕ) (old new : List ℕ) : Type 0 where
+pub record UsesSet (shape : Shape) (test : ℕ → Bool) (used : Use) (old new : List ℕ) : Type 0 where
   pub only : Only shape edges_only old new
   pub words : (r : ℕ) → r < shape.edges
       → edge_scratch shape new r ≡ cond (test r) (with_use (edge_scratch shape old r) used) (edge_scratch shape old r)
@@ -40,7 +48,7 @@ unfoldable pub is_other_mate : Network → ℕ → ℕ → Bool
 is_other_mate g s r = not (eqb s r) && mates g s r
 
 -- The other mates of edge s, of which vertex x is an end, get these bits.
-pub record MatesSet (shape : Shape) (x s used : ℕ) (old new : List ℕ) : Type 0 where
+pub record MatesSet (shape : Shape) (x s : ℕ) (used : Use) (old new : List ℕ) : Type 0 where
   pub only : Only shape edges_only old new
   pub mates-set : (g : Network) → network_in shape old ≡ g → Linked shape g (edge_count g) old → touches (edge g s) x ≡ true
       → UsesSet shape (is_other_mate g s) used old new

@@ -5,5 +5,3 @@ use Rattle.routes.proofs.lists.clear_column.Given as goal
 abbrev pub invariant-loop-i : goal.invariant-loop-i
 invariant-loop-i l = ClearedBelow l.shape l.column l.i l.initial.t l.t
 
-abbrev pub decreases-loop-i : goal.decreases-loop-i
-decreases-loop-i l = l.shape.vertices - l.i

@@ -1,6 +1,7 @@
 -- `search::look` sees an edge from a vertex.
-use mathlib.Core.Path.{sym, ◌∙◌}
-use native.Mathlib.Omega.{arith}
+use mathlib.Core.Path.{sym, ◌∙◌, ap}
+use Prim.Native.Nat.{◌%◌}
+use Rattle.routes.specs.Inside.Searches.{may_step}
 use Rattle.routes.proofs.SearchesLook.{other_known, look_reached, look_barred, look-linked}
 use Rattle.routes.proofs.search.look.Goals as goal
 
@@ -10,8 +11,8 @@ returns-then-not-may_step c =
     look_barred args.shape args.t.now c.requires.0 args.y.0 args.s.0 c.other_end-x.result.0
     c.ends_of-ends.result.left.0 c.ends_of-ends.result.right.0 c.requires.1 c.ends_of-ends.ensures
     c.other_end-x.ensures args.allowance args.found _
-    (sym c.may_step.ensures ∙ c.if-not-may_step.true)
-    (omega (arith, c.edge_scratch-used.ensures))
+    (sym (c.may_step.ensures ∙ ap (may_step args.allowance c.in_word-used.result) c.eq.ensures) ∙ c.if-not-may_step.true)
+    (c.in_word-used.ensures ∙ ap (λ word. word % 4) c.edge_scratch.ensures)
 
 pub returns-then-vertex_scratch-ne0 : goal.returns-then-vertex_scratch-ne0
 returns-then-vertex_scratch-ne0 c =
@@ -37,6 +38,6 @@ returns c =
     look-linked args.shape args.t.now c.requires.0 args.y.0 args.s.0 c.other_end-x.result.0
     c.ends_of-ends.result.left.0 c.ends_of-ends.result.right.0 c.requires.1 c.ends_of-ends.ensures
     c.other_end-x.ensures args.allowance args.found
-    c.vertex_scratch.result c.vertex_scratch.ensures c.if-vertex_scratch-ne0.false
-    (sym c.may_step.ensures ∙ c.if-not-may_step.false)
-    (omega (arith, c.edge_scratch-used.ensures)) c.reach.ensures
+    c.vertex_scratch.result c.vertex_scratch.ensures c.in_word-used.result c.if-vertex_scratch-ne0.false
+    (sym (c.may_step.ensures ∙ ap (may_step args.allowance c.in_word-used.result) c.eq.ensures) ∙ c.if-not-may_step.false)
+    (c.in_word-used.ensures ∙ ap (λ word. word % 4) c.edge_scratch.ensures) c.reach.ensures

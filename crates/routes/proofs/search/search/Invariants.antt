@@ -3,7 +3,5 @@ use Rattle.routes.proofs.SearchesTurns.{Turning}
 use Rattle.routes.proofs.search.search.Given as goal
 
 abbrev pub invariant-loop-i : goal.invariant-loop-i
-invariant-loop-i l = Turning l.shape l.allowance l.i l.initial.found l.initial.t l.t l.found × (l.i ≤ l.shape.vertices)
+invariant-loop-i l = Turning l.shape l.allowance l.i l.initial.found l.initial.t l.t l.found
 
-abbrev pub decreases-loop-i : goal.decreases-loop-i
-decreases-loop-i l = l.shape.vertices - l.i

@@ -1,6 +1,6 @@
 -- `walk::set_use` stores the two bits of an edge.
-use mathlib.Core.Path.{ap}
-use Prim.Native.Nat.{◌+◌, ◌*◌, ◌/◌, ◌%◌}
+use mathlib.Core.Path.{ap₂}
+use Prim.Native.Nat.{◌+◌, ◌*◌, ◌/◌}
 use native.Mathlib.Omega.{arith}
 use Rattle.forest.specs.Promise.{edges_fit}
 use Rattle.routes.specs.Inside.Walks.{with_use}
@@ -13,6 +13,4 @@ set_edge_scratch-requires c = (c.requires.0, omega (arith, c.requires.1, edges_f
 pub returns : goal.returns
 unfolding with_use
 returns c =
-    let used = c.args.used in
-    use_stored c.set_edge_scratch.ensures
-    (ap (λ word. word / 4 * 4 + used % 4) c.edge_scratch-word.ensures)
+    use_stored c.set_edge_scratch.ensures (ap₂ (λ word bits. word / 4 * 4 + bits) c.edge_scratch-word.ensures c.from.ensures)

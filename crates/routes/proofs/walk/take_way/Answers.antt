@@ -22,7 +22,7 @@ take_step-requires c = (c.loop-i.invariant.0.holds, omega (arith, c.if-s-shape.t
 pub far_end-x-requires : goal.far_end-x-requires
 far_end-x-requires c =
     let holds = c.loop-i.invariant.0.holds in
-    let went : Stepped c.args.shape c.loop-i.x c.vertex_scratch.result c.loop-i.t c.if-s-shape.t =
+    let went : Stepped c.args.shape c.loop-i.x.0 c.vertex_scratch.result c.loop-i.t c.if-s-shape.t =
     elim c.if-s-shape.branch [ then-s-shape w ↦ stepped_then w.take_step.ensures w.t-is | else-s-shape w ↦ stepped_not holds w.if-s-shape.false w.t-is ] in
     went.only.holds
 
@@ -30,18 +30,15 @@ pub loop-i-preserved : goal.loop-i-preserved
 loop-i-preserved c =
     let now = c.loop-i in
     let holds = now.invariant.0.holds in
-    let went : Stepped c.args.shape c.loop-i.x c.vertex_scratch.result c.loop-i.t c.if-s-shape.t =
+    let went : Stepped c.args.shape c.loop-i.x.0 c.vertex_scratch.result c.loop-i.t c.if-s-shape.t =
     elim c.if-s-shape.branch [ then-s-shape w ↦ stepped_then w.take_step.ensures w.t-is | else-s-shape w ↦ stepped_not holds w.if-s-shape.false w.t-is ] in (
       only_trans now.invariant.0 went.only,
       λ g u ps is listed usable fits short written.
           take_goes_on c.args.column c.args.count c.args.t.now written is short c.requires.1 now.invariant.0
-          (now.invariant.1 g u ps is listed usable fits short written) c.loop-i-test.true
+          (now.invariant.1 g u ps is listed usable fits short written) (omega arith)
           c.vertex_scratch.result c.vertex_scratch.ensures went.done
           c.far_end-x.result.0 c.far_end-x.ensures,
     )
-
-pub shape_of-t : goal.shape_of-t
-shape_of-t c = c.loop-i.invariant.0.same_beyond.as_long
 
 pub returns : goal.returns
 returns c =
@@ -51,5 +48,5 @@ returns c =
       only = now.invariant.0;
       taken = λ g u ps is listed usable fits short written.
           take_ends args.column args.count args.t.now written (now.invariant.1 g u ps is listed usable fits short written)
-          c.loop-i-test.false;
+          (omega arith);
     }

@@ -15,8 +15,6 @@ use Rattle.routes.proofs.walk.take_way.Given as goal
 abbrev pub invariant-loop-i : goal.invariant-loop-i
 invariant-loop-i l =
     Only l.shape edges_only l.initial.t l.t
-    × ((g : Network) (u : Used) (ps : List Step) → network_in l.shape l.initial.t ≡ g → Listed l.shape g u l.initial.t → Usable g u → WayFits g u l.initial.x ps
-    → length ps < g.vertices → Written l.shape l.column l.count l.initial.t (edges_of ps) → TakenTo l.shape g u l.initial.x ps l.t l.x l.i)
+    × ((g : Network) (u : Used) (ps : List Step) → network_in l.shape l.initial.t ≡ g → Listed l.shape g u l.initial.t → Usable g u → WayFits g u l.initial.x.0 ps
+    → length ps < g.vertices → Written l.shape l.column l.count l.initial.t (edges_of ps) → TakenTo l.shape g u l.initial.x.0 ps l.t l.x.0 l.i)
 
-abbrev pub decreases-loop-i : goal.decreases-loop-i
-decreases-loop-i l = l.count - l.i

@@ -1,22 +1,25 @@
 -- `walk::takes_back` tells whether a way that is written down goes along a used edge. The loop's invariant: none of the first i edges is
 -- used.
 use native.Mathlib.Omega.{arith}
+use borrow.Author.Tests.{true-leb, false-leb}
 use Rattle.routes.proofs.WalksBack.{none_goes_on, none_told, one_told}
 use Rattle.routes.proofs.walk.takes_back.Goals as goal
 
 pub loop-i-init : goal.loop-i-init
 loop-i-init c = record { low = λ k h. absurd (omega arith) }
 
-pub returns-then-edge_scratch-ge2 : goal.returns-then-edge_scratch-ge2
-returns-then-edge_scratch-ge2 c =
-    one_told (omega (arith, c.loop-i-test.true))
+pub returns-then-is_own : goal.returns-then-is_own
+returns-then-is_own c =
+    one_told (omega arith)
     c.vertex_scratch.result c.edge_scratch.result
-    c.vertex_scratch.ensures c.edge_scratch.ensures (omega (arith, c.if-edge_scratch-ge2.true))
+    c.vertex_scratch.ensures c.edge_scratch.ensures
+    (omega (arith, true-leb 2 _ c.if-is_own.ensures, c.in_word.ensures))
 
 pub loop-i-preserved : goal.loop-i-preserved
 loop-i-preserved c =
     none_goes_on c.loop-i.invariant c.vertex_scratch.result c.edge_scratch.result
-    c.vertex_scratch.ensures c.edge_scratch.ensures (omega (arith, c.if-edge_scratch-ge2.false))
+    c.vertex_scratch.ensures c.edge_scratch.ensures
+    (omega (arith, false-leb 2 _ c.if-is_own.ensures, c.in_word.ensures))
 
 pub returns : goal.returns
-returns c = none_told c.loop-i.invariant (omega (arith, c.loop-i-test.false))
+returns c = none_told c.loop-i.invariant (omega arith)

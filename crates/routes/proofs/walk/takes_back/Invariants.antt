@@ -5,5 +5,3 @@ use Rattle.routes.proofs.walk.takes_back.Given as goal
 abbrev pub invariant-loop-i : goal.invariant-loop-i
 invariant-loop-i l = NoneTo l.shape l.column l.t l.i
 
-abbrev pub decreases-loop-i : goal.decreases-loop-i
-decreases-loop-i l = l.count - l.i

@@ -13,9 +13,6 @@ use Rattle.routes.proofs.walk.write_way.Given as goal
 abbrev pub invariant-loop-i : goal.invariant-loop-i
 invariant-loop-i l =
     Only l.shape (column_only l.column) l.initial.t l.t
-    × (l.i ≤ l.shape.vertices)
-    × ((g : Network) (f : Found) → network_in l.shape l.initial.t ≡ g → Orderly g l.b.0 f → NextIs l.shape l.b.0 f l.initial.t → is_in l.initial.x f.order ≡ true
-    → WrittenTo l.shape l.column l.initial.x f l.t l.x l.i)
+    × ((g : Network) (f : Found) → network_in l.shape l.initial.t ≡ g → Orderly g l.b.0 f → NextIs l.shape l.b.0 f l.initial.t → is_in l.initial.x.0 f.order ≡ true
+    → WrittenTo l.shape l.column l.initial.x.0 f l.t l.x.0 l.i)
 
-abbrev pub decreases-loop-i : goal.decreases-loop-i
-decreases-loop-i l = l.shape.vertices - l.i
