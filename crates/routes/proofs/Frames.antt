@@ -14,8 +14,19 @@ use Rattle.naming.proofs.Listed.{tabulate_same}
 use Rattle.ways.specs.Used.{Used}
 use Rattle.numbers.specs.declared.Shape.{Shape}
 use Rattle.forest.specs.Promise.{Holds, network_in, table_rule_lem, vertices_held, edges_held, vertices_fit, edges_fit, proper_held, rule_held, same_beyond_refl, same_beyond_trans, scratch_words, vertex_scratch, VertexScratchStored, EdgeScratchStored}
-use Rattle.routes.specs.Inside.Frame.{head_column, Free, Only, edges_only, column_only, Written}
+use Rattle.routes.specs.declared.Route.{Route}
+use Rattle.routes.specs.declared.Route.TheVariants as R
+use Rattle.routes.specs.Inside.Frame.{column_of, head_column, Free, Only, edges_only, column_only, Written}
 use Rattle.routes.specs.Inside.Lists.{Linked, Listed}
+
+-- the columns of routes are scratch words, and not those of lists and steps
+pub column_known : (route : Route) → column_of route < scratch_words
+column_known R.First = omega arith
+column_known R.Second = omega arith
+
+pub column_above : (route : Route) → 1 < column_of route
+column_above R.First = omega arith
+column_above R.Second = omega arith
 
 -- nothing changes where nothing is done
 pub only_refl : (shape : Shape) (free : Free) (t : List ℕ) → Holds shape t → Only shape free t t

@@ -3,12 +3,12 @@ use mathlib.Core.Bool.{Bool, true, false, cond}
 use mathlib.Core.List.{List}
 use mathlib.Core.Logic.{◌⊎◌, inl, inr}
 use mathlib.Core.Path.{◌≡◌, refl, sym, ◌∙◌, ap, ap₂}
-use Prim.Native.Nat.{ℕ, suc, ◌%◌, ◌<◌}
+use Prim.Native.Nat.{ℕ, ◌%◌, ◌<◌}
 use native.Mathlib.Omega.{arith}
 use lib.Dec.{eqb}
 use Rattle.graph.specs.Network.{Network, MateRule, edge, edge_count, mates}
-use Rattle.graph.proofs.Truth.{true_or_false, eqb_eq, eqb_ne}
-use Rattle.ways.specs.Used.{Used, is_used, mate_used, step_taken, Usable, StepFits}
+use Rattle.graph.proofs.Truth.{true_or_false, eqb_eq}
+use Rattle.ways.specs.Used.{Used, step_taken, Usable, StepFits}
 use Rattle.numbers.specs.declared.Shape.{Shape}
 use Rattle.forest.specs.Promise.{network_in, edge_scratch}
 use Rattle.routes.specs.declared.uses.Use.{Use}

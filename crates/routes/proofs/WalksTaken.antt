@@ -12,7 +12,6 @@ use Rattle.graph.proofs.Below.{any_below_lem, some_below, any_below-same}
 use Rattle.graph.proofs.Mates.{mates_refl, mates_sym, mates_trans, mates_swap}
 use Rattle.ways.specs.Used.{Used, is_used, mate_used, step_taken, Usable, StepFits}
 use Rattle.ways.proofs.UsedSteps.{used_from_lem, not_used, taken_off, taken_new, taken_again, UsedThen, newly, before, used_then, free_of_mates}
-use Rattle.routes.specs.declared.uses.Use.{Use}
 use Rattle.routes.specs.declared.uses.Use.TheVariants as U
 use Rattle.routes.specs.Inside.Lists.{used_along, use_of}
 use Rattle.routes.specs.Inside.Walks.{taken_use, mates_use, is_other_mate}

@@ -8,7 +8,7 @@ use Prim.Native.Nat.{ℕ, ◌/◌, ◌%◌, ◌<◌}
 use native.Mathlib.Omega.{arith}
 use lib.Dec.{eqb}
 use Rattle.graph.specs.Network.{Network, edge_count, mates}
-use Rattle.graph.proofs.Truth.{true_or_false, eqb_eq, eqb_ne, eq-eqb, ne_eqb}
+use Rattle.graph.proofs.Truth.{true_or_false, eqb_eq, eqb_ne}
 use Rattle.numbers.specs.declared.Shape.{Shape}
 use Rattle.forest.specs.Promise.{Holds, network_in, edge_scratch, edges_held, edges_fit, vertices_fit, EdgeScratchStored}
 use Rattle.routes.specs.Inside.Frame.{head_column, edges_only}

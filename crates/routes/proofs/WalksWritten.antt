@@ -69,8 +69,8 @@ module _ {shape : Shape} {column a : ℕ} {f : Found} where
       unfolding column_only next_word
       step_word =
           let inside = rw (← is, vertices_held shape old) at
-              (touched_known g (rw (← same-network only ∙ is) (proper_held shape t only.holds))
-              (step_of f.links x - 1) x step_on.known step_on.at_end) in
+          (touched_known g (rw (← same-network only ∙ is) (proper_held shape t only.holds))
+          (step_of f.links x - 1) x step_on.known step_on.at_end) in
           only.columns next_column x (omega arith) (ne_eqb next_column column (λ q. omega (arith, above)))
           (omega (arith, inside, vertices_fit shape t only.holds))
           ∙ next x inside ∙ rw (ne_eqb x b n)

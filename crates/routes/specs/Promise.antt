@@ -7,12 +7,11 @@ use Rattle.forest.specs.Promise.{Holds, state_of, network_in, SameBeyond, vertex
 use Rattle.routes.specs.declared.Route.{Route}
 use Rattle.routes.specs.declared.Route.TheVariants as R
 use Rattle.routes.specs.declared.Lengths.{Lengths}
-use Rattle.routes.specs.Inside.Frame.{order_column, first_column}
+use Rattle.routes.specs.Inside.Frame.{column_of}
 
 -- Edge i of a route that is written down.
 unfoldable pub edge_at : Shape → List ℕ → Route → ℕ → ℕ
-edge_at shape t R.First i = vertex_scratch shape t first_column i
-edge_at shape t R.Second i = vertex_scratch shape t order_column i
+edge_at shape t route i = vertex_scratch shape t (column_of route) i
 
 -- The two routes between a and b are written down, edge by edge in travelling order. The state is as before.
 pub record RoutesFound (shape : Shape) (a b : ℕ) (old new : List ℕ) (lengths : Lengths) : Type 0 where

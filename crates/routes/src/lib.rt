@@ -6,6 +6,7 @@ ghost use Rattle.std.specs.Prelude.{true, ◌≡◌, ◌<◌};
 ghost use Rattle.graph.specs.Groups.{bridge_block};
 ghost use Rattle.forest.specs.Promise.{Holds, network_in};
 ghost use Rattle.routes.specs.Promise.{edge_at, RoutesFound};
+ghost use Rattle.routes.specs.Inside.Frame.{column_of};
 ghost use Rattle.routes.specs.Inside.Passes.{PassWritten, PassTaken};
 
 pub mod lists;
@@ -30,10 +31,22 @@ pub(crate) const ORDER: u8 = 2;
 pub(crate) const FIRST: u8 = 3;
 
 // Which of the two routes.
-#[derive(Clone, Copy)]
+#[derive(Clone, Copy, PartialEq, Eq)]
 pub enum Route {
     First,
     Second,
+}
+
+impl Route {
+    // The column in which it is written down.
+    pub(crate) fn column(self) -> u8
+        ensures { result ≡ column_of self }
+    {
+        match self {
+            Route::First => FIRST,
+            Route::Second => ORDER,
+        }
+    }
 }
 
 // How many edges each of them has.
@@ -43,20 +56,20 @@ pub struct Lengths {
     pub second: u32,
 }
 
-// Searches for a way from a to b, and writes it down in a column; gives its length.
+// Searches for a way from a to b, and writes it down as a route; gives its length.
 fn find_way(
     t: &mut [u32],
     shape: Shape,
     allowance: Allowance,
-    column: u8,
+    route: Route,
     a: Vertex,
     b: Vertex,
 ) -> u32
-    requires { Holds shape t.old × (1 < column) × (column < 4) × (b.0 < shape.vertices) }
-    ensures { PassWritten shape allowance column a.0 b.0 t.old t.new result }
+    requires { Holds shape t.old × (b.0 < shape.vertices) }
+    ensures { PassWritten shape allowance (column_of route) a.0 b.0 t.old t.new result }
 {
     search(t, shape, allowance, a, b);
-    write_way(t, shape, column, a, b)
+    write_way(t, shape, route, a, b)
 }
 
 // The same, and the way is taken: its edges that were not used are used, and those that were are so no longer.
@@ -64,8 +77,8 @@ fn find_and_take(t: &mut [u32], shape: Shape, allowance: Allowance, a: Vertex, b
     requires { Holds shape t.old × (b.0 < shape.vertices) }
     ensures { PassTaken shape allowance a.0 b.0 t.old t.new result }
 {
-    let length = find_way(t, shape, allowance, FIRST, a, b);
-    take_way(t, shape, FIRST, a, length);
+    let length = find_way(t, shape, allowance, Route::First, a, b);
+    take_way(t, shape, Route::First, a, length);
     length
 }
 
@@ -77,20 +90,17 @@ pub fn find(t: &mut [u32], shape: Shape, a: Vertex, b: Vertex) -> Lengths
 {
     build_lists(t, shape);
     let one = find_and_take(t, shape, Allowance::OneMore, a, b);
-    let two = find_way(t, shape, Allowance::OneMore, ORDER, a, b);
-    if !takes_back(t, shape, ORDER, two) {
+    let two = find_way(t, shape, Allowance::OneMore, Route::Second, a, b);
+    if !takes_back(t, shape, Route::Second, two) {
         return Lengths {
             first: one,
             second: two,
         };
     }
-    take_way(t, shape, ORDER, a, two);
+    take_way(t, shape, Route::Second, a, two);
     let first = find_and_take(t, shape, Allowance::AlongUsed, a, b);
-    let second = find_way(t, shape, Allowance::AlongUsed, ORDER, a, b);
-    Lengths {
-        first: first,
-        second: second,
-    }
+    let second = find_way(t, shape, Allowance::AlongUsed, Route::Second, a, b);
+    Lengths { first, second }
 }
 
 // Edge i of a route that is written down.
@@ -98,8 +108,5 @@ pub fn find(t: &mut [u32], shape: Shape, a: Vertex, b: Vertex) -> Lengths
 pub fn edge_at(t: &[u32], shape: Shape, route: Route, i: u32) -> Edge
     ensures { result.0 ≡ edge_at shape t.now route i }
 {
-    match route {
-        Route::First => Edge(vertex_scratch(t, shape, FIRST, Vertex(i))),
-        Route::Second => Edge(vertex_scratch(t, shape, ORDER, Vertex(i))),
-    }
+    Edge(vertex_scratch(t, shape, route.column(), Vertex(i)))
 }

@@ -1,20 +1,21 @@
 // Ways: written down from the steps that a search has left, and taken.
 ghost use Rattle.std.specs.Prelude.{◌≡◌, ◌&&◌, ◌-◌, ◌<◌, eqb};
 ghost use Rattle.forest.specs.Promise.{Holds, network_in};
+ghost use Rattle.routes.specs.Inside.Frame.{column_of};
 ghost use Rattle.routes.specs.Inside.Walks.{WayWritten, is_other_mate, UsesSet, MatesSet, StepDone, WayDone, TakesBack};
 
-use crate::NEXT;
 use crate::lists::{entry_behind, entry_of, far_end, first_entry};
 use crate::uses::Use;
+use crate::{NEXT, Route, edge_at};
 use forest::{
     are_mates, edge_scratch, ends_of, set_edge_scratch, set_vertex_scratch, vertex_scratch,
 };
 use numbers::{Edge, Shape, Vertex};
 
-// Writes down the edges of the way from a to b in a column; gives their number.
-pub(crate) fn write_way(t: &mut [u32], shape: Shape, column: u8, a: Vertex, b: Vertex) -> u32
-    requires { Holds shape t.old × (1 < column) × (column < 4) }
-    ensures { WayWritten shape column a.0 b.0 t.old t.new result }
+// Writes down the edges of the way from a to b as a route; gives their number.
+pub(crate) fn write_way(t: &mut [u32], shape: Shape, route: Route, a: Vertex, b: Vertex) -> u32
+    requires { Holds shape t.old }
+    ensures { WayWritten shape (column_of route) a.0 b.0 t.old t.new result }
 {
     let mut x = a;
     for i in 0..shape.vertices {
@@ -24,19 +25,18 @@ pub(crate) fn write_way(t: &mut [u32], shape: Shape, column: u8, a: Vertex, b: V
         let Some(s) = entry_of(vertex_scratch(t, shape, NEXT, x)) else {
             return i;
         };
-        set_vertex_scratch(t, shape, column, Vertex(i), s.0);
+        set_vertex_scratch(t, shape, route.column(), Vertex(i), s.0);
         x = far_end(t, shape, s, x);
     }
     shape.vertices
 }
 
-// Whether the way whose edges are written down in a column goes along an edge that is used.
-pub(crate) fn takes_back(t: &[u32], shape: Shape, column: u8, count: u32) -> bool
-    requires { column < 4 }
-    ensures { TakesBack shape column count t.now result }
+// Whether a way that is written down goes along an edge that is used.
+pub(crate) fn takes_back(t: &[u32], shape: Shape, route: Route, count: u32) -> bool
+    ensures { TakesBack shape (column_of route) count t.now result }
 {
     for i in 0..count {
-        let s = Edge(vertex_scratch(t, shape, column, Vertex(i)));
+        let s = edge_at(t, shape, route, i);
         if Use::in_word(edge_scratch(t, shape, s)).is_own() {
             return true;
         }
@@ -89,14 +89,14 @@ fn take_step(t: &mut [u32], shape: Shape, x: Vertex, s: Edge)
     set_mates_use(t, shape, x, s, used.of_mates_after_step());
 }
 
-// Takes the way from a whose edges are written down in a column.
-pub(crate) fn take_way(t: &mut [u32], shape: Shape, column: u8, a: Vertex, count: u32)
-    requires { Holds shape t.old × (column < 4) }
-    ensures { WayDone shape column a.0 count t.old t.new }
+// Takes the way from a whose edges are written down.
+pub(crate) fn take_way(t: &mut [u32], shape: Shape, route: Route, a: Vertex, count: u32)
+    requires { Holds shape t.old }
+    ensures { WayDone shape (column_of route) a.0 count t.old t.new }
 {
     let mut x = a;
     for i in 0..count {
-        let s = Edge(vertex_scratch(t, shape, column, Vertex(i)));
+        let s = edge_at(t, shape, route, i);
         if s.0 < shape.edges {
             take_step(t, shape, x, s);
         }

@@ -1,6 +1,5 @@
 -- `find` finds two routes: two ways, or, where the second goes back along the first, two routes along what both use.
 use mathlib.Core.Path.{subst}
-use native.Mathlib.Omega.{arith}
 use Rattle.routes.specs.Inside.Frame.{order_column}
 use Rattle.routes.specs.Inside.Walks.{TakesBack}
 use Rattle.routes.proofs.Passes.{two_ways_found, routes_found}
@@ -21,9 +20,6 @@ returns-then-not-takes_back c =
     c.find_and_take-one.ensures
     c.find_way-two.ensures
     (subst (TakesBack c.args.shape order_column _ _) none c.takes_back.ensures)
-
-pub find_way-second-requires : goal.find_way-second-requires
-find_way-second-requires c = (c.find_and_take-first.ensures.only.holds, omega arith, omega arith, c.requires.1)
 
 pub returns : goal.returns
 returns c =

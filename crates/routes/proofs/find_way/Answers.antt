@@ -11,6 +11,6 @@ returns c =
     c.args.b.0
     c.args.t.now
     c.requires.0
-    c.requires.3
+    c.requires.1
     c.search.ensures
     c.write_way.ensures

@@ -2,6 +2,8 @@
 use Rattle.std.specs.Prelude.{Bool, true, false, ◌||◌, List, ◌≡◌, ℕ, ◌<◌, eqb}
 use Rattle.graph.specs.Below.{tabulate}
 use Rattle.numbers.specs.declared.Shape.{Shape}
+use Rattle.routes.specs.declared.Route.{Route}
+use Rattle.routes.specs.declared.Route.TheVariants as R
 use Rattle.forest.specs.Promise.{Holds, state_of, SameBeyond, scratch_words, vertex_scratch, edge_scratch}
 
 -- The columns of the vertices' scratch words: the first entry of a vertex's list of edges; its step towards the goal; the vertices in the
@@ -17,6 +19,11 @@ order_column = 2
 
 abbrev pub first_column : ℕ
 first_column = 3
+
+-- The column of a route.
+abbrev pub column_of : Route → ℕ
+column_of R.First = first_column
+column_of R.Second = order_column
 
 -- Which scratch words may change: columns of the vertices, and whether those of the edges.
 pub record Free : Type 0 where

@@ -1,5 +1,5 @@
 -- Ways in scratch words: written down from the steps of a search, and taken.
-use Rattle.std.specs.Prelude.{Bool, true, not, cond, ◌&&◌, List, ◌≡◌, ℕ, ◌+◌, ◌*◌, ◌/◌, ◌%◌, ◌<◌, eqb, length}
+use Rattle.std.specs.Prelude.{Bool, true, not, cond, ◌&&◌, List, ◌≡◌, ℕ, ◌+◌, ◌*◌, ◌/◌, ◌<◌, eqb, length}
 use Rattle.graph.specs.Lists.{is_in}
 use Rattle.graph.specs.Network.{Network, edge, edge_count, touches, mates}
 use Rattle.graph.specs.Cycle.{Step}

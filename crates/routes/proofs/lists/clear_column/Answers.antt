@@ -1,8 +1,7 @@
 -- `lists::clear_column` clears a column. The loop's invariant: it is cleared at the vertices below i.
 use native.Mathlib.Omega.{arith}
 use Rattle.forest.specs.Promise.{vertices_fit}
-use Rattle.routes.proofs.Frames.{only_refl}
-use Rattle.routes.proofs.ListsSteps.{cleared_next, all_cleared}
+use Rattle.routes.proofs.ListsSteps.{cleared_next}
 use Rattle.routes.proofs.lists.clear_column.Goals as goal
 
 pub set_vertex_scratch-requires : goal.set_vertex_scratch-requires

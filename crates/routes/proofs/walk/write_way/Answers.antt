@@ -1,17 +1,17 @@
--- `walk::write_way` writes down the edges of a way in a column. The loop's invariant: the first i of them are written down, and the way
+-- `walk::write_way` writes down the edges of a way. The loop's invariant: the first i of them are written down, and the way
 -- goes on from x.
 use mathlib.Core.Path.{sym, ◌∙◌, ap}
 use native.Mathlib.Omega.{arith}
 use Rattle.graph.proofs.Truth.{eqb_eq, eqb_ne}
 use Rattle.forest.specs.Promise.{vertices_held, vertices_fit}
-use Rattle.routes.specs.Inside.Frame.{column_only}
-use Rattle.routes.proofs.Frames.{only_refl, only_trans, only_vertex}
+use Rattle.routes.specs.Inside.Frame.{column_of, column_only}
+use Rattle.routes.proofs.Frames.{column_known, column_above, only_refl, only_trans, only_vertex}
 use Rattle.routes.proofs.WalksWritten.{write_begins, write_ends, written_fits, write_goes_on, step_stands}
 use Rattle.routes.proofs.walk.write_way.Goals as goal
 
 pub loop-i-init : goal.loop-i-init
 loop-i-init c = (
-  only_refl c.args.shape (column_only c.args.column) c.args.t.now c.requires.0,
+  only_refl c.args.shape (column_only (column_of c.args.route)) c.args.t.now c.requires,
   λ g f is o n e. write_begins c.args.t.now e,
 )
 
@@ -26,7 +26,7 @@ returns-in_default c =
     record {
       only = now.invariant.0;
       written = λ g f is o n e short.
-          absurd (step_stands o (now.invariant.1 g f is o n e) c.args.t.now is n c.requires.1 now.invariant.0
+          absurd (step_stands o (now.invariant.1 g f is o n e) c.args.t.now is n (column_above c.args.route) now.invariant.0
           (eqb_ne _ _ (sym c.eq.ensures ∙ c.if-eq.false)) (sym c.vertex_scratch.ensures ∙ sym c.in_default.ensures));
     }
 
@@ -34,15 +34,15 @@ pub set_vertex_scratch-requires : goal.set_vertex_scratch-requires
 set_vertex_scratch-requires c =
     let now = c.loop-i in
     let holds = now.invariant.0.holds in
-    (holds, c.requires.2, omega (arith, vertices_fit c.args.shape now.t holds))
+    (holds, rw c.column.ensures (column_known c.args.route), omega (arith, vertices_fit c.args.shape now.t holds))
 
 pub loop-i-preserved : goal.loop-i-preserved
 loop-i-preserved c =
     let now = c.loop-i in
-    let stored = c.set_vertex_scratch.ensures in (
+    let stored = rw c.column.ensures at c.set_vertex_scratch.ensures in (
       only_trans now.invariant.0 (only_vertex stored),
       λ g f is o n e.
-          write_goes_on o (now.invariant.1 g f is o n e) c.args.t.now _ c.in-Some.s.0 is n c.requires.1 c.requires.2
+          write_goes_on o (now.invariant.1 g f is o n e) c.args.t.now _ c.in-Some.s.0 is n (column_above c.args.route) (column_known c.args.route)
           (omega arith) now.invariant.0 (eqb_ne _ _ (sym c.eq.ensures ∙ c.if-eq.false)) (c.in-Some.ensures ∙ c.vertex_scratch.ensures) stored
           c.far_end-x.result.0 c.far_end-x.ensures,
     )
