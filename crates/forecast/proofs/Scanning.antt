@@ -2,7 +2,7 @@
 use mathlib.Core.Bool.{Bool, cond}
 use mathlib.Core.List.{List, [], ◌∷◌, map}
 use mathlib.Core.Option.{Option, none, some}
-use mathlib.Core.Path.{◌≡◌, sym, ◌∙◌, ap, ap₂}
+use mathlib.Core.Path.{◌≡◌, refl, sym, ◌∙◌, ap, ap₂}
 use Prim.Native.Nat.{ℕ, suc, ◌+◌, ◌*◌, ◌≤◌, ◌<◌}
 use native.Mathlib.Nat.{add-zero, zero-add}
 use native.Mathlib.Omega.{arith}
@@ -11,21 +11,32 @@ use Rattle.graph.proofs.Truth.{ge_ltb}
 use Rattle.naming.specs.Book.{Addition}
 use Rattle.commands.specs.Command.{Command, command_byte}
 use Rattle.commands.specs.Facts.{facts, addition}
-use Rattle.commands.specs.Refusal.{Refusal, bad_byte, cut_operands, refusal_number}
+use Rattle.commands.specs.Refusal.{Refusal, bad_byte, cut_operands}
 use Rattle.commands.specs.Text.{Read, Text, ends_with, followed_by, text_of, place_behind}
 use Rattle.commands.specs.Forecast.{is_cabinet, is_span, count_adding, cabinet_commands, span_commands, plain_lengths, length_for, sufficient}
 use Rattle.commands.specs.Forecast.{Forecast, no_forecast, forecast_text, forecast}
 use Rattle.commands.proofs.Report.{count_one}
 use Rattle.commands.proofs.TextAt.{text_here, text_at_end}
-use Rattle.reading.specs.Inside.Reads.{no_command, cut_short, whole}
+use Rattle.reading.specs.Inside.Reads.{Passing, no_command, cut_short, whole}
 use Rattle.reading.proofs.PassedAt.{passing_here, text_at_no_command, text_at_cut_short, command_here, its_own_byte, operands_here, text_goes_on_behind}
+use Rattle.std.specs.Prelude.{Ok, Err}
+use Rattle.refusals.specs.Causes.{cause_of}
+use Rattle.refusals.specs.declared.RefusedAt.{RefusedAt}
+use Rattle.commands.proofs.ForecastFits.{forecast_fits}
+use Rattle.forecast.specs.Promise.{foretold}
 use Rattle.forecast.specs.declared.Tally.{Tally}
-use Rattle.forecast.specs.Inside.Tallies.{plain_length, counted_by, Counted, length_of, length_with, forecast_with, CountedTo}
+use Rattle.forecast.specs.Inside.Tallies.{plain_length, counted_by, Counted, length_of, length_with, forecast_with, CountedTo, RefusedFor}
 use Rattle.forecast.proofs.Counting.{counted_by_byte, byte_in_tables}
 
 -- The tally of no command.
 abbrev pub empty_tally : Tally
 empty_tally = record { cabinets = 0; spans = 0; bytes = 0; spanlists = 0; cabinetlists = 0 }
+
+-- each of its numbers is 0
+pub nothing_counted : (t : Tally)
+    → (t.cabinets ≡ 0) × ((t.spans ≡ 0) × ((t.bytes ≡ 0) × ((t.spanlists ≡ 0) × (t.cabinetlists ≡ 0)))) → t ≡ empty_tally
+nothing_counted t e =
+    λ i. record { cabinets = e.0 i; spans = e.1.0 i; bytes = e.1.1.0 i; spanlists = e.1.1.1.0 i; cabinetlists = e.1.1.1.1 i }
 
 -- it counts no answer
 no_answer : (c s : ℕ) → plain_length c s empty_tally ≡ 0
@@ -98,34 +109,36 @@ counted_at_start journal short =
 -- A journal that is counted up to a place.
 module _ {journal : List ℕ} {t : Tally} {place : ℕ} (so_far : CountedTo journal t place) where
   -- at its end the tally gives the length
-  pub counted_to_end : length journal ≤ place → record { number = 0; place = place; length = length_of t } ≡ forecast journal
-  unfolding forecast_with ends_with
-  counted_to_end h =
-      let at_end : length journal ≡ place = omega (arith, so_far.in_journal) in
-      rw (text_at_end journal place h, at_end, none_to_come t) at so_far.leads
+  pub counted_to_end : length journal ≤ place → foretold (length journal) (Ok (length_of t)) ≡ forecast journal
+  unfolding forecast_with ends_with foretold
+  counted_to_end h = rw (text_at_end journal place h, none_to_come t) at so_far.leads
+
+  -- which is below the bound of its type
+  pub length_fits : length journal ≤ place → length_of t < 4294967296
+  unfolding foretold
+  length_fits h = rw (ap (λ f. f.length) (counted_to_end h)) (forecast_fits journal)
 
   -- the text from the place on leads to the forecast
   leads_from : {text : Text} → text_here journal place ≡ text → forecast_with t place (length journal) text ≡ forecast journal
   leads_from e = ap (forecast_with t place (length journal)) (sym e) ∙ so_far.leads
 
   -- what cannot be read is refused at this place
-  refused_here : (q : Refusal) {number at : ℕ} → text_here journal place ≡ ends_with (some q) → number ≡ refusal_number q → at ≡ place
-      → record { number = number; place = at; length = 0 } ≡ forecast journal
-  unfolding forecast_with ends_with place_behind no_forecast
-  refused_here q e n p = rw (n, p) (rw (add-zero place) at (leads_from e))
+  refused_here : (q : Refusal) (refused : RefusedAt) → text_here journal place ≡ ends_with (some q) → cause_of refused.refusal ≡ q
+      → refused.place ≡ place → foretold (length journal) (Err refused) ≡ forecast journal
+  unfolding forecast_with ends_with place_behind foretold
+  refused_here q refused e n p = rw (n, p) (rw (add-zero place) at (leads_from e))
 
   module _ (at_command : place < length journal) where
-    -- an unknown byte
-    pub unknown_here : {number at : ℕ} → no_command ≡ passing_here journal place at_command → number ≡ 4 → at ≡ place
-        → record { number = number; place = at; length = 0 } ≡ forecast journal
-    unfolding refusal_number
-    unknown_here e = refused_here bad_byte (text_at_no_command journal place at_command e)
-
-    -- cut-off operands
-    pub cut_off_here : {number at : ℕ} → cut_short ≡ passing_here journal place at_command → number ≡ 5 → at ≡ place
-        → record { number = number; place = at; length = 0 } ≡ forecast journal
-    unfolding refusal_number
-    cut_off_here e = refused_here cut_operands (text_at_cut_short journal place at_command e)
+    -- be it an unknown byte or cut-off operands
+    pub unread_here : (refused : RefusedAt) → RefusedFor (passing_here journal place at_command) refused.refusal → refused.place ≡ place
+        → foretold (length journal) (Err refused) ≡ forecast journal
+    unread_here refused = go (passing_here journal place at_command) refl
+      where
+        go : (p : Passing) → p ≡ passing_here journal place at_command → RefusedFor p refused.refusal → refused.place ≡ place
+            → foretold (length journal) (Err refused) ≡ forecast journal
+        go no_command e q = refused_here bad_byte refused (text_at_no_command journal place at_command e) (ap cause_of q)
+        go cut_short e q = refused_here cut_operands refused (text_at_cut_short journal place at_command e) (ap cause_of q)
+        go (whole byte width) e q = absurd q
 
     -- A command with this byte and so many bytes of operands.
     module _ (byte width : ℕ) (passed : whole byte width ≡ passing_here journal place at_command) where

@@ -1,7 +1,11 @@
 -- What the forecast in code tells.
+use Rattle.std.specs.Prelude.{Result, Ok, Err, ℕ}
+use Rattle.commands.specs.Forecast.{no_forecast}
 use Rattle.commands.specs.Forecast as Paper
-use Rattle.forecast.specs.declared.Forecast.{Forecast}
+use Rattle.refusals.specs.Causes.{cause_of}
+use Rattle.refusals.specs.declared.RefusedAt.{RefusedAt}
 
--- The number, place and length of the paper.
-unfoldable pub foretold : Forecast → Paper.Forecast
-foretold f = record { number = f.number; place = f.place; length = f.length }
+-- The number, place and length of the paper, of a journal that is so long.
+unfoldable pub foretold : ℕ → Result ℕ RefusedAt → Paper.Forecast
+foretold end (Ok n) = record { number = 0; place = end; length = n }
+foretold end (Err refused) = no_forecast (cause_of refused.refusal) refused.place

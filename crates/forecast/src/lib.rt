@@ -1,26 +1,19 @@
 // The forecast: a length of the answer buffer that suffices, counted in one pass over the caller's journal.
 #![tactic(auto)]
 
-ghost use Rattle.std.specs.Prelude.{◌≡◌, ◌<◌, ◌≤◌, length};
+ghost use Rattle.std.specs.Prelude.{◌≡◌, ◌+◌, ◌<◌, ◌≤◌, length, get_or, drop};
 ghost use Rattle.naming.specs.Log.{highest_bit};
 ghost use Rattle.commands.specs.Forecast.{forecast};
 ghost use Rattle.forecast.specs.Promise.{foretold};
-ghost use Rattle.forecast.specs.Inside.Tallies.{Few, entry_more, counted_by, length_of};
+ghost use Rattle.forecast.specs.Inside.Tallies.{Few, entry_more, counted_by, length_of, PassedAt};
 
-use reading::read::{Passed, entry_of};
-use reading::reader::{passed_at, place_after};
-
-// What is forecast: 0 or the number of the refusal, a place in the journal, and the length.
-#[derive(Clone, Copy)]
-pub struct Forecast {
-    pub number: u32,
-    pub place: u32,
-    pub length: u32,
-}
+use reading::read::{Taken, entry_of};
+use reading::reader::Reader;
+use refusals::{Refusal, RefusedAt};
 
 // What is counted of the commands: those that add a cabinet and those that add a span; of the answers to the others, the bytes that do not
 // depend on how many cabinets and spans there are, and the lists of spans and of cabinets.
-#[derive(Clone, Copy)]
+#[derive(Clone, Copy, Default)]
 pub struct Tally {
     pub cabinets: u32,
     pub spans: u32,
@@ -39,24 +32,10 @@ fn highest_bit(k: u32) -> u32
     let mut high = k;
     let mut below = 0;
     while 255 < high {
-        high = high / 256;
-        below = below + 8;
+        high /= 256;
+        below += 8;
     }
-    below + (table[high as usize] as u32)
-}
-
-// An entry of the tables more: a span or none; so many bytes of an answer, and so many lists of spans and of cabinets behind them.
-fn entry_more(t: Tally, spans: u8, bytes: u8, spanlists: u8, cabinetlists: u8) -> Tally
-    requires { Few t × (spans ≤ 15) × (bytes ≤ 15) × (spanlists ≤ 15) × (cabinetlists ≤ 15) }
-    ensures { result ≡ entry_more spans bytes spanlists cabinetlists t }
-{
-    Tally {
-        cabinets: t.cabinets,
-        spans: t.spans + (spans as u32),
-        bytes: t.bytes + (bytes as u32),
-        spanlists: t.spanlists + (spanlists as u32),
-        cabinetlists: t.cabinetlists + (cabinetlists as u32),
-    }
+    below + u32::from(table[high as usize])
 }
 
 // By the byte of a command other than 01 and 02: the spans that it adds; of the answer to one that adds nothing, the bytes that do not
@@ -69,96 +48,98 @@ const SPANLISTS: u64 = 0x0001_0000_0100_0000;
 
 const CABINETLISTS: u64 = 0x0000_0000_1000_0000;
 
-// The tally with one command more, by its byte.
-fn counted(t: Tally, byte: u8) -> Tally
-    requires { Few t × (byte ≤ 15) }
-    ensures { result ≡ counted_by byte t }
-{
-    let mut next = t;
-    match byte {
-        1 => {
-            next.cabinets = t.cabinets + 1;
-            next
+impl Tally {
+    // An entry of the tables more: a span or none; so many bytes of an answer, and so many lists of spans and of cabinets behind them.
+    #[tactic(auto, unfolding(crate::specs::Inside::Tallies::entry_more))]
+    fn entry_more(self, spans: u8, bytes: u8, spanlists: u8, cabinetlists: u8) -> Tally
+        requires { Few self × (spans ≤ 15) × (bytes ≤ 15) × (spanlists ≤ 15) × (cabinetlists ≤ 15) }
+        ensures { result ≡ entry_more spans bytes spanlists cabinetlists self }
+    {
+        Tally {
+            cabinets: self.cabinets,
+            spans: self.spans + u32::from(spans),
+            bytes: self.bytes + u32::from(bytes),
+            spanlists: self.spanlists + u32::from(spanlists),
+            cabinetlists: self.cabinetlists + u32::from(cabinetlists),
         }
-        2 => {
-            next.spans = t.spans + 1;
-            next
+    }
+
+    // The tally with one command more, by its byte.
+    #[tactic(auto, using(crate::proofs::Counting::entry_few), unfolding(crate::specs::Inside::Tallies::counted_by))]
+    fn counted(self, byte: u8) -> Tally
+        requires { Few self × (byte ≤ 15) }
+        ensures { result ≡ counted_by byte self }
+    {
+        match byte {
+            1 => Tally {
+                cabinets: self.cabinets + 1,
+                ..self
+            },
+            2 => Tally {
+                spans: self.spans + 1,
+                ..self
+            },
+            _ => self.entry_more(
+                entry_of(SPANS, byte),
+                entry_of(BYTES, byte),
+                entry_of(SPANLISTS, byte),
+                entry_of(CABINETLISTS, byte),
+            ),
         }
-        _ => entry_more(
-            t,
-            entry_of(SPANS, byte),
-            entry_of(BYTES, byte),
-            entry_of(SPANLISTS, byte),
-            entry_of(CABINETLISTS, byte),
-        ),
+    }
+
+    // The length that suffices for the commands counted.
+    #[tactic(auto, unfolding(crate::specs::Inside::Tallies::length_of, crate::specs::Inside::Tallies::plain_length, commands::specs::Forecast::length_for))]
+    fn length(self) -> u32
+        requires { length_of self < 4294967296 }
+        ensures { result ≡ length_of self }
+    {
+        let c = self.cabinets;
+        let s = self.spans;
+        let notices = 2 * c * highest_bit(c) + s * highest_bit(s);
+        let lists = 2 * s * self.spanlists + 2 * c * self.cabinetlists;
+        3 * c + 7 * s + 5 * notices + (self.bytes + lists)
     }
 }
 
-// The length that suffices for the commands counted.
-fn length_of(t: Tally) -> u32
-    requires { length_of t < 4294967296 }
-    ensures { result ≡ length_of t }
+// The command at the reader's place, the operands passed over; or why none can be read there, with the place.
+#[tactic(auto, unfolding(reading::specs::Inside::Reads::passing_of))]
+fn command_at<'a>(reader: Reader<'a>) -> Result<Taken<u8>, RefusedAt>
+    requires { (reader.place < length reader.journal.now) × (reader.place ≤ 65536) }
+    ensures { PassedAt (get_or reader.entry.journal.now reader.entry.place 0) (drop (reader.entry.place + 1) reader.entry.journal.now) reader.entry.place result }
 {
-    let c = t.cabinets;
-    let s = t.spans;
-    let notices = 2 * c * highest_bit(c) + s * highest_bit(s);
-    let lists = 2 * s * t.spanlists + 2 * c * t.cabinetlists;
-    3 * c + 7 * s + 5 * notices + (t.bytes + lists)
-}
-
-// A refusal with its place. No length comes with it.
-fn refused(number: u32, place: usize) -> Forecast
-    requires { place ≤ 65536 }
-    ensures { foretold result ≡ record { number = number; place = place; length = 0 } }
-{
-    Forecast {
-        number: number,
-        place: place as u32,
-        length: 0,
-    }
+    let place = reader.place as u32;
+    reader.pass().map_err(|unread| RefusedAt {
+        refusal: unread.into(),
+        place,
+    })
 }
 
 // A journal that is not too long, up to its end or to the first command that cannot be read.
-fn scan(journal: &[u8]) -> Forecast
+fn scan(journal: &[u8]) -> Result<u32, RefusedAt>
     requires { length journal.now ≤ 65536 }
-    ensures { foretold result ≡ forecast journal.now }
+    ensures { foretold (length journal.now) result ≡ forecast journal.now }
 {
-    let mut t = Tally {
-        cabinets: 0,
-        spans: 0,
-        bytes: 0,
-        spanlists: 0,
-        cabinetlists: 0,
-    };
-    let mut place = 0;
-    while place < journal.len() {
-        let passed = passed_at(journal, place);
-        match passed {
-            Passed::Unknown => {
-                return refused(4, place);
-            }
-            Passed::CutOff => {
-                return refused(5, place);
-            }
-            Passed::Command(byte, width) => {
-                t = counted(t, byte);
-                place = place_after(journal, place, width);
-            }
-        }
+    let mut tally = Tally::default();
+    let mut reader = Reader::new(journal, 0);
+    while reader.place < reader.journal.len() {
+        let passed = command_at(reader)?;
+        tally = tally.counted(passed.command);
+        reader = reader.further(passed.width);
     }
-    Forecast {
-        number: 0,
-        place: place as u32,
-        length: length_of(t),
-    }
+    Ok(tally.length())
 }
 
-// The forecast of a journal.
-pub fn forecast_of(journal: &[u8]) -> Forecast
-    ensures { foretold result ≡ forecast journal.now }
+// The forecast of a journal: a length of the answer buffer that suffices, or why there is none.
+#[tactic(auto, unfolding(crate::specs::Promise::foretold, commands::specs::Forecast::forecast))]
+pub fn forecast_of(journal: &[u8]) -> Result<u32, RefusedAt>
+    ensures { foretold (length journal.now) result ≡ forecast journal.now }
 {
     if 65536 < journal.len() {
-        return refused(3, 0);
+        return Err(RefusedAt {
+            refusal: Refusal::LongJournal,
+            place: 0,
+        });
     }
     scan(journal)
 }

@@ -22,13 +22,7 @@ returns c =
     let last = c.loop-high in
     omega (arith, last.invariant.place_is, entry_is _ last.invariant.table_is last.high last.high (omega (arith, c.loop-high-test.false)) (omega arith))
 
--- so what is looked up and what is returned fit: L of a number of 32 bits is at most 31
-pub overflow_cast-result-2 : goal.overflow_cast-result-2
-overflow_cast-result-2 c =
-    let last = c.loop-high in
-    let entry = entry_is _ last.invariant.table_is last.high last.high (omega (arith, c.loop-high-test.false)) (omega arith) in
-    record { fits = omega (arith, last.invariant.place_is, entry, highest_bit_at_most c.args.k 31 c.ranges.k.fits) }
-
+-- so what is returned fits: L of a number of 32 bits is at most 31
 pub overflow_add-result : goal.overflow_add-result
 overflow_add-result c =
     let last = c.loop-high in

@@ -6,7 +6,13 @@ use Rattle.commands.specs.Facts.{Facts, addition_of}
 use Rattle.commands.specs.Text.{Text, text_from, place_behind}
 use Rattle.commands.specs.Forecast.{is_cabinet, is_span, cabinet_commands, span_commands, longest_plain, plain_lengths, length_for, no_forecast}
 use Rattle.commands.specs.Forecast as Paper
-use Rattle.reading.specs.Inside.Reads.{entry_of}
+use Rattle.std.specs.Prelude.{Result, Ok, Err}
+use Rattle.commands.specs.Command.{read_command}
+use Rattle.refusals.specs.declared.Refusal.{Refusal}
+use Rattle.refusals.specs.declared.Refusal.TheVariants as R
+use Rattle.refusals.specs.declared.RefusedAt.{RefusedAt}
+use Rattle.reading.specs.Inside.Reads.{entry_of, Passing, no_command, cut_short, whole, pass_over}
+use Rattle.reading.specs.declared.read.Taken.{Taken}
 use Rattle.forecast.specs.declared.Tally.{Tally}
 
 -- No number of the tally is above the bound.
@@ -104,3 +110,14 @@ pub record CountedTo (journal : List ℕ) (t : Tally) (place : ℕ) : Type 0 whe
   pub in_journal : place ≤ length journal
   pub few : AtMost (5 * place) t
   pub leads : forecast_with t place (length journal) (text_from place 0 (drop place journal)) ≡ Paper.forecast journal
+
+-- What cannot be read is refused for this.
+abbrev pub RefusedFor : Passing → Refusal → Type 0
+RefusedFor no_command refusal = refusal ≡ R.BadByte
+RefusedFor cut_short refusal = refusal ≡ R.CutOperands
+RefusedFor (whole byte width) refusal = ⊥
+
+-- A command with this byte, before these bytes, that is passed over; or the refusal where none can be read, with the place.
+abbrev pub PassedAt : ℕ → List ℕ → ℕ → Result (Taken ℕ) RefusedAt → Type 0
+PassedAt byte bytes place (Ok passed) = whole passed.command passed.width ≡ pass_over byte (read_command byte bytes)
+PassedAt byte bytes place (Err refused) = RefusedFor (pass_over byte (read_command byte bytes)) refused.refusal × (refused.place ≡ place)
