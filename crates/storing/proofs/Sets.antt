@@ -1,11 +1,14 @@
 -- A run of stores: one behind another, over the front of a buffer, and of what stands in another list.
-use mathlib.Core.List.{List, [], ◌∷◌, ◌++◌}
-use mathlib.Core.Path.{◌≡◌, refl, ◌∙◌, ap}
-use Prim.Native.Nat.{ℕ, suc, ◌+◌, ◌≤◌, ◌<◌}
+use mathlib.Core.List.{List, [], ◌∷◌, ◌++◌, append_assoc}
+use mathlib.Core.Path.{◌≡◌, sym, ◌∙◌, ap}
+use Prim.Native.Nat.{ℕ, suc, ◌+◌, ◌-◌, ◌≤◌}
 use native.Mathlib.Numerals.{add-one}
 use native.Mathlib.Omega.{arith}
-use lib.ListN.{length, get_or, drop, set, length-append}
-use lib.Seq.{sets, sets-eq, slice, slice_empty, slice-cons}
+use borrow.Rule.Slice.PartMut.{put_mid}
+use lib.ListN.{length, take, drop, set, length-append}
+use lib.Seq.{sets, sets-eq, slice, length-slice, drop-drop}
+use Rattle.std.specs.List.{between}
+use Rattle.std.proofs.lemmas.Slice.{between_is}
 use Rattle.commands.specs.Entry.{over}
 
 -- stores that begin where others end are one run of stores
@@ -36,11 +39,15 @@ sets_front l bytes h =
     sets-eq bytes l 0 (omega arith)
     ∙ ap (λ (k : ℕ). bytes ++ drop k l) (let e : 0 + length bytes ≡ length bytes = omega arith in e)
 
--- the first of the elements from one place up to another is stored, and then those behind it
-pub copied_one : (out source : List ℕ) (at from to : ℕ) → from < to → to ≤ length source
-    → sets (set out at (get_or source from 0)) (at + 1) (slice (from + 1) to source) ≡ sets out at (slice from to source)
-copied_one out source at from to h k = rw (add-one at, add-one from, slice-cons from to source 0 h k) refl
-
--- and where the places meet nothing is left to store
-pub copied_all : (out : List ℕ) (at from to : ℕ) (source : List ℕ) → from ≡ to → out ≡ sets out at (slice from to source)
-copied_all out at from to source e = rw (e, slice_empty to source) refl
+-- so is a part of the buffer over which as many elements of another list are copied
+pub part_stored : (out source bytes : List ℕ) (at from to count : ℕ) → to ≤ length source → at + (to - from) ≤ length out
+    → bytes ≡ between from to source → count ≡ to - from → put_mid at count out bytes ≡ sets out at (slice from to source)
+part_stored out source bytes at from to count h room e n =
+    let these : bytes ≡ slice from to source = e ∙ between_is source from to in
+    let long : length (slice from to source) ≡ to - from = length-slice from to source h in
+    rw (these, drop-drop count at out, ← append_assoc)
+    (sym
+    (sets-eq (slice from to source) out at (omega arith)
+    ∙ ap
+    (λ (k : ℕ). take at out ++ slice from to source ++ drop k out)
+    (let d : at + length (slice from to source) ≡ at + count = omega arith in d)))

@@ -6,7 +6,8 @@ ghost use Rattle.std.proofs.lemmas.List.Edits.{sets};
 ghost use Rattle.std.proofs.Math.Seq.{slice};
 ghost use Rattle.commands.specs.Bytes.{two_bytes};
 
-// Stores a byte; nothing beyond the buffer's end.
+// Stores a byte; nothing beyond the buffer's end. (By an index, since of a `get_mut` that finds nothing the check does not see that the buffer is as
+// before.)
 pub fn put_byte(out: &mut [u8], at: usize, b: u8)
     ensures { out.new ≡ set out.old at b }
 {
@@ -16,12 +17,14 @@ pub fn put_byte(out: &mut [u8], at: usize, b: u8)
 }
 
 // Stores a number in two bytes, high byte first.
+#[tactic(auto, unfolding(commands::specs::Bytes::two_bytes))]
 pub fn put_two(out: &mut [u8], at: usize, value: u32)
     requires { at ≤ length out.old }
     ensures { out.new ≡ sets out.old at (two_bytes value) }
 {
-    put_byte(out, at, (value / 256 % 256) as u8);
-    put_byte(out, at + 1, (value % 256) as u8);
+    let [high, low] = ((value % 65536) as u16).to_be_bytes();
+    put_byte(out, at, high);
+    put_byte(out, at + 1, low);
 }
 
 // Stores the bytes that stand in `source` from one place up to another.
@@ -29,11 +32,5 @@ pub fn copy(source: &[u8], from: usize, to: usize, out: &mut [u8], at: usize)
     requires { (from ≤ to) × (to ≤ length source.now) × (at + (to - from) ≤ length out.old) }
     ensures { out.new ≡ sets out.old at (slice from to source.now) }
 {
-    let mut next = from;
-    let mut place = at;
-    while next < to {
-        put_byte(out, place, source[next]);
-        next = next + 1;
-        place = place + 1;
-    }
+    out[at..at + (to - from)].copy_from_slice(&source[from..to]);
 }
