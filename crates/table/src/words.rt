@@ -3,13 +3,15 @@
 ghost use Rattle.std.specs.Prelude.{◌≡◌, suc};
 ghost use Rattle.table.specs.Inside.Layout.{place, cell, put, vertex_area, bridge_block_area, edge_area};
 
-use numbers::Limits;
+use numbers::{Limits, Shape};
 
 // How many words each vertex takes, and each edge.
 pub const WORDS_PER_VERTEX: u32 = 24;
 
 pub const WORDS_PER_EDGE: u32 = 8;
 
+// A column is a number and no enum, since it is a place in the layout that is counted, added and looped over.
+//
 // The columns of each kind of group: an item's name; by a name, the range of its group's items; the items that changed their name; by a
 // name, its group's size. From SIZE on, up to the last column of the kind, merging adds up what groups have.
 pub const NAME: u8 = 0;
@@ -95,35 +97,59 @@ pub fn edge_area(limits: Limits) -> Area
     }
 }
 
+// The working table: the words that the caller lends, how many vertices and edges it has words for, and how many it holds.
+#[derive(Drop)]
+pub struct Table<'a> {
+    pub words: &'a mut [u32],
+    pub shape: Shape,
+}
+
 // Where the word of an item stands.
+#[tactic(auto, unfolding(crate::specs::Inside::Layout::place))]
 fn place_of(area: Area, column: u8, item: u32) -> usize
     ensures { result ≡ place area column item }
 {
     (area.base as usize) + (column as usize) * (area.size as usize) + (item as usize)
 }
 
-// The word of an item in a column; 0 where the table has no such word.
-pub fn word(t: &[u32], area: Area, column: u8, item: u32) -> u32
-    ensures { result ≡ cell t.now area column item }
-{
-    let at = place_of(area, column, item);
-    if at < t.len() { t[at] } else { 0 }
-}
+impl Table<'_> {
+    ghost use Rattle.table.specs.Same.{IsSame};
 
-// The word of the item behind an item, in a column; 0 where the table has no such word.
-pub fn word_behind(t: &[u32], area: Area, column: u8, item: u32) -> u32
-    ensures { result ≡ cell t.now area column (suc item) }
-{
-    let at = place_of(area, column, item) + 1;
-    if at < t.len() { t[at] } else { 0 }
-}
+    // The word of an item in a column; 0 where the table has no such word.
+    #[tactic(auto, unfolding(crate::specs::Inside::Layout::cell))]
+    pub fn word(&self, area: Area, column: u8, item: u32) -> u32
+        ensures { result ≡ cell self.now.words.now area column item }
+    {
+        let at = place_of(area, column, item);
+        if at < self.words.len() {
+            self.words[at]
+        } else {
+            0
+        }
+    }
 
-// Stores the word of an item in a column; nothing where the table has no such word.
-pub fn set_word(t: &mut [u32], area: Area, column: u8, item: u32, value: u32)
-    ensures { t.new ≡ put t.old area column item value }
-{
-    let at = place_of(area, column, item);
-    if at < t.len() {
-        t[at] = value;
+    // The word of the item behind an item, in a column; 0 where the table has no such word.
+    #[tactic(auto, unfolding(crate::specs::Inside::Layout::cell, crate::specs::Inside::Layout::place))]
+    pub fn word_behind(&self, area: Area, column: u8, item: u32) -> u32
+        ensures { result ≡ cell self.now.words.now area column (suc item) }
+    {
+        let at = place_of(area, column, item) + 1;
+        if at < self.words.len() {
+            self.words[at]
+        } else {
+            0
+        }
+    }
+
+    // Stores the word of an item in a column; nothing where the table has no such word.
+    #[tactic(auto, unfolding(crate::specs::Inside::Layout::put))]
+    pub fn set_word(&mut self, area: Area, column: u8, item: u32, value: u32)
+        ensures words { self.new.words.now ≡ put self.old.words.now area column item value }
+        ensures same { IsSame self.old self.new }
+    {
+        let at = place_of(area, column, item);
+        if at < self.words.len() {
+            self.words[at] = value;
+        }
     }
 }
