@@ -3,7 +3,7 @@
 ghost use Rattle.std.specs.Prelude.{◌≡◌, suc};
 ghost use Rattle.table.specs.Inside.Layout.{place, cell, put, vertex_area, bridge_block_area, edge_area};
 
-use numbers::{Limits, Shape};
+use numbers::Shape;
 
 // How many words each vertex takes, and each edge.
 pub const WORDS_PER_VERTEX: u32 = 24;
@@ -67,36 +67,6 @@ pub struct Area {
     pub columns: u8,
 }
 
-pub fn vertex_area(limits: Limits) -> Area
-    ensures { result ≡ vertex_area limits }
-{
-    Area {
-        base: 0,
-        size: limits.vertices,
-        columns: COMPONENT_COLUMNS,
-    }
-}
-
-pub fn bridge_block_area(limits: Limits) -> Area
-    ensures { result ≡ bridge_block_area limits }
-{
-    Area {
-        base: (limits.vertices as u32) * (COMPONENT_COLUMNS as u32),
-        size: limits.vertices,
-        columns: BRIDGE_BLOCK_COLUMNS,
-    }
-}
-
-pub fn edge_area(limits: Limits) -> Area
-    ensures { result ≡ edge_area limits }
-{
-    Area {
-        base: (limits.vertices as u32) * WORDS_PER_VERTEX,
-        size: limits.edges,
-        columns: BLOCK_COLUMNS,
-    }
-}
-
 // The working table: the words that the caller lends, how many vertices and edges it has words for, and how many it holds.
 #[derive(Drop)]
 pub struct Table<'a> {
@@ -114,6 +84,39 @@ fn place_of(area: Area, column: u8, item: u32) -> usize
 
 impl Table<'_> {
     ghost use Rattle.table.specs.Same.{IsSame};
+
+    // The words of the vertices, of which the components have the first columns.
+    pub fn vertex_area(&self) -> Area
+        ensures { result ≡ vertex_area self.now.shape.limits }
+    {
+        Area {
+            base: 0,
+            size: self.shape.limits.vertices,
+            columns: COMPONENT_COLUMNS,
+        }
+    }
+
+    // The words of the bridge-blocks among them.
+    pub fn bridge_block_area(&self) -> Area
+        ensures { result ≡ bridge_block_area self.now.shape.limits }
+    {
+        Area {
+            base: (self.shape.limits.vertices as u32) * (COMPONENT_COLUMNS as u32),
+            size: self.shape.limits.vertices,
+            columns: BRIDGE_BLOCK_COLUMNS,
+        }
+    }
+
+    // The words of the edges, of which the blocks have the first columns.
+    pub fn edge_area(&self) -> Area
+        ensures { result ≡ edge_area self.now.shape.limits }
+    {
+        Area {
+            base: (self.shape.limits.vertices as u32) * WORDS_PER_VERTEX,
+            size: self.shape.limits.edges,
+            columns: BLOCK_COLUMNS,
+        }
+    }
 
     // The word of an item in a column; 0 where the table has no such word.
     #[tactic(auto, unfolding(crate::specs::Inside::Layout::cell))]
