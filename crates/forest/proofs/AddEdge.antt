@@ -59,7 +59,7 @@ module _ (new : EdgeToAdd) where
   edge_added named t' growth to =
       rw to.table_is
       record {
-        holds = rw add-one (sound_after named);
+        holds = rw add-one (∣ sound_after named ∣₁);
         state_is = rw add-one (state_is grows.book_after_lem grows.marked_after grows.surveys_after_lem);
         components_changed = changes_written (vertex_area limits) n n growth.components t after (le_refl n) components;
         bridge_blocks_changed = changes_written (bridge_block_area limits) n n growth.bridge_blocks t after (le_refl n) bridge_blocks_lem;

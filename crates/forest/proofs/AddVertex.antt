@@ -355,7 +355,7 @@ module _ (limits : Limits) (n m : ℕ) (t : List ℕ) (valid : Valid limits n m 
   unfolding Holds state_of after_addition feed
   vertex_added named =
       record {
-        holds = rw add-one record { valid = valid_after; bridges_named = rw book (bridges_named_vertex (book_of limits n m t) named) };
+        holds = rw add-one (∣ record { valid = valid_after; bridges_named = rw book (bridges_named_vertex (book_of limits n m t) named) } ∣₁);
         state_is = rw add-one (state_is book marked_after (same_surveys whole m valid.edges_fit refl));
         same_beyond = frame_beyond whole;
       }

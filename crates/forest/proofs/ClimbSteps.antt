@@ -124,12 +124,21 @@ climb_stays (suc k) t limits r e = climb_met t limits r (suc k) (eqb_eq _ _ (tru
 pub steps_left_lem : (k : ℕ) (b : Bool) → (ltb 0 k && b) ≡ true → 0 < k
 steps_left_lem k b e = ltb_lt 0 k (and_left _ _ e)
 
--- joining the right side's steps begins with the last of them
-pub join_step : (k : ℕ) (t : List ℕ) (limits : Limits) (at : ℕ) → k ≢ 0 →
-    join_from k t limits at ≡ join_from (k - 1) (join_one t limits (k - 1) at) limits (at + 1)
+-- joining the steps of the right side that are left begins with the last of them
+pub join_step : (right step : ℕ) (t : List ℕ) (limits : Limits) (kept : ℕ) → step < right
+    → join_from (right - step) t limits (kept + step)
+    ≡ join_from (right - (step + 1)) (join_one t limits (right - 1 - step) (kept + step)) limits (kept + (step + 1))
 unfolding join_from
-join_step zero t limits at z = absurd (z refl)
-join_step (suc k) t limits at z = rw (sub-one (suc k))
+join_step right step t limits kept h =
+    let one_more : right - step ≡ suc (right - (step + 1)) = omega arith in
+    let last : right - 1 - step ≡ right - (step + 1) = omega arith in
+    let next : kept + (step + 1) ≡ kept + step + 1 = omega arith in
+    rw (one_more, last, next)
+
+-- with none left the table stays
+pub join_end : (right step : ℕ) (t : List ℕ) (limits : Limits) (kept : ℕ) → right ≤ step → join_from (right - step) t limits (kept + step) ≡ t
+unfolding join_from
+join_end right step t limits kept h = let none : right - step ≡ 0 = omega arith in rw none
 
 -- a climb has room for so many steps at most
 pub reach_most : (t : List ℕ) (limits : Limits) (a b n : ℕ) → n ≡ reach t limits a b → n ≤ 2147483648

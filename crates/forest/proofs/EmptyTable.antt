@@ -65,7 +65,7 @@ begun limits t long vertices edges =
     record {
       shape_is = refl;
       holds =
-          record {
+          ∣ record {
             valid =
                 record {
                   long = long;
@@ -81,6 +81,6 @@ begun limits t long vertices edges =
                   forest = forest_none t limits _;
                 };
             bridges_named = bridges_named_empty table_rule;
-          };
+          } ∣₁;
       state_is = state_is refl (λ x. rw (ge_ltb x 0 (omega arith))) refl;
     }

@@ -16,6 +16,7 @@ use Rattle.table.proofs.Cells.{HasColumns}
 use Rattle.table.proofs.KindNames.{name_known, one_name, one_group}
 use Rattle.numbers.specs.declared.Shape.{Shape}
 use Rattle.forest.specs.Inside.Tree.{mark_table}
+use Rattle.forest.specs.Inside.Held.{sound}
 use Rattle.forest.specs.Inside.Valid.{network_of, book_of, marked_in, Valid}
 use Rattle.forest.specs.Promise.{Holds, state_of, VertexMarked}
 use Rattle.forest.proofs.Columns.{mark_columns}
@@ -141,7 +142,7 @@ module _ (limits : Limits) (n m : ℕ) (t : List ℕ) (valid : Valid limits n m 
   unfolding Holds state_of after_recording marks_after surveys_after
   vertex_marked named =
       record {
-        holds = record { valid = valid_with_marks valid (frame_more frame refl refl) edges marks; bridges_named = rw book named };
+        holds = ∣ record { valid = valid_with_marks valid (frame_more frame refl refl) edges marks; bridges_named = rw book named } ∣₁;
         state_is = state_is book marked_after (same_surveys frame m valid.edges_fit refl);
         same_beyond = frame_beyond frame;
       }
@@ -150,7 +151,7 @@ module _ (limits : Limits) (n m : ℕ) (t : List ℕ) (valid : Valid limits n m 
 pub marks_are : (shape : Shape) (t : List ℕ) → Holds shape t → (x : ℕ) → x < shape.vertices
     → cell t (bridge_block_area shape.limits) Column.mark_count (name_in t (bridge_block_area shape.limits) x) ≡ marks_with (state_of shape t) x
 unfolding Holds state_of book_of network_of marks_with
-marks_are shape t holds x h = holds.valid.marks.counted x h
+marks_are shape t holds x h = (sound holds).valid.marks.counted x h
 
 -- a vertex is marked if its word is 1
 pub marked_is : (shape : Shape) (t : List ℕ) (x : ℕ) → x < shape.vertices

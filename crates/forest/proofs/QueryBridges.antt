@@ -18,6 +18,7 @@ use Rattle.table.proofs.KindNames.{name_in_list}
 use Rattle.numbers.specs.declared.Shape.{Shape}
 use Rattle.forest.specs.Inside.Climb.{block_of, path_vertex, path_edge, climb_table, climb_route}
 use Rattle.forest.specs.Inside.Route.{step_at, steps_of}
+use Rattle.forest.specs.Inside.Held.{sound}
 use Rattle.forest.specs.Inside.Valid.{Valid, network_of, book_of}
 use Rattle.forest.specs.Inside.Queries.{Found, bridges_written, bridge_blocks_differ, find_table, find_count, find_from, bridges_found}
 use Rattle.forest.specs.Promise.{Holds, state_of, network_in, bridge_at, ListWritten}
@@ -194,27 +195,27 @@ bridges_written_lem shape t holds a b h l joined =
     k = (climb_route t limits a b).steps
 
     c : Climbs limits n m t g a b t₁ (climb_route t limits a b)
-    c = climb_law limits n m t holds.valid a b h l joined
+    c = climb_law limits n m t (sound holds).valid a b h l joined
 
     finds : Finds t₁ limits 0 k 0 t₁ (find_from t₁ limits 0 k 0)
     finds =
-        find_from_lem t₁ limits k (omega (arith, c.few, holds.valid.vertices_fit)) (omega (arith, c.frame.same_length, holds.valid.long))
-        (λ i j. omega (arith, c.vertices_known i j, holds.valid.vertices_fit))
-        (λ i j. omega (arith, c.edges_known i j, holds.valid.edges_fit)) k 0 0 t₁ (omega arith) (omega arith) frame_none
+        find_from_lem t₁ limits k (omega (arith, c.few, (sound holds).valid.vertices_fit)) (omega (arith, c.frame.same_length, (sound holds).valid.long))
+        (λ i j. omega (arith, c.vertices_known i j, (sound holds).valid.vertices_fit))
+        (λ i j. omega (arith, c.edges_known i j, (sound holds).valid.edges_fit)) k 0 0 t₁ (omega arith) (omega arith) frame_none
 
     -- a block's name is a word that the climb leaves
     named : NamedByLeast g (block_of t₁ limits)
     named s i q =
         let below = rw (edge_count_lem limits n m t) at i in
-        c.frame.edge_word Column.name s (omega arith) (omega (arith, below, holds.valid.edges_fit)) refl
+        c.frame.edge_word Column.name s (omega arith) (omega (arith, below, (sound holds).valid.edges_fit)) refl
         ∙ sym (name_in_list t (edge_area limits) m s below)
-        ∙ bridge_named_by_least (book_of limits n m t) (book_laws holds.valid) holds.bridges_named s i q
+        ∙ bridge_named_by_least (book_of limits n m t) (book_laws (sound holds).valid) (sound holds).bridges_named s i q
 
     between : bridges_between g a b ≡ parting_names (block_of t₁ limits) g a (steps_of t₁ limits k)
-    between = bridges_of_named_steps g holds.valid.proper (network_rule limits n m t) (block_of t₁ limits) named c.path
+    between = bridges_of_named_steps g (sound holds).valid.proper (network_rule limits n m t) (block_of t₁ limits) named c.path
 
     names : bridges_written limits 0 t₁ ++ parted t₁ limits 0 k ≡ parting_names (block_of t₁ limits) g a (steps_of t₁ limits k)
     names =
-        rw (frame_network holds.valid (path_only c.frame), c.start)
-        at (parted_names (frame_valid holds.valid (path_only c.frame)) k c.vertices_known k 0 (step_at t₁ limits) (omega arith)
+        rw (frame_network (sound holds).valid (path_only c.frame), c.start)
+        at (parted_names (frame_valid (sound holds).valid (path_only c.frame)) k c.vertices_known k 0 (step_at t₁ limits) (omega arith)
         (λ j i. ap (step_at t₁ limits) (omega arith)))

@@ -9,6 +9,7 @@ use Rattle.numbers.specs.declared.Limits.{Limits}
 use Rattle.numbers.specs.declared.Shape.{Shape}
 use Rattle.forest.specs.Inside.Climb.{path_vertex, climb_table, climb_route}
 use Rattle.forest.specs.Inside.Route.{step_at, steps_of}
+use Rattle.forest.specs.Inside.Held.{sound}
 use Rattle.forest.specs.Inside.Valid.{network_of, book_of}
 use Rattle.forest.specs.Inside.Queries.{cuts_count}
 use Rattle.forest.specs.Promise.{Holds, state_of, network_in, cut_at, ListWritten}
@@ -29,7 +30,7 @@ pub cuts_written : (shape : Shape) (t : List ℕ) → Holds shape t → (a b : �
 unfolding cuts_count cut_at Holds state_of book_of
 cuts_written shape t holds a b h l joined =
     list_written shape holds (path_only climbs.frame) _ _ _
-    (sym (cuts_of_block_path g holds.valid.proper climbs.path ∙ inner_written (climb_table t limits a b) limits (climb_route t limits a b).steps))
+    (sym (cuts_of_block_path g (sound holds).valid.proper climbs.path ∙ inner_written (climb_table t limits a b) limits (climb_route t limits a b).steps))
   where
     limits : Limits
     limits = shape.limits
@@ -38,4 +39,4 @@ cuts_written shape t holds a b h l joined =
     g = network_of limits shape.vertices shape.edges t
 
     climbs : Climbs limits shape.vertices shape.edges t g a b (climb_table t limits a b) (climb_route t limits a b)
-    climbs = climb_law limits shape.vertices shape.edges t holds.valid a b h l joined
+    climbs = climb_law limits shape.vertices shape.edges t (sound holds).valid a b h l joined

@@ -13,6 +13,7 @@ use Rattle.numbers.specs.declared.Shape.{Shape}
 use Rattle.forest.specs.declared.VertexGroups.{VertexGroups}
 use Rattle.forest.specs.declared.VertexGroups.TheVariants as G
 use Rattle.forest.specs.Inside.Words.{group_area}
+use Rattle.forest.specs.Inside.Held.{sound}
 use Rattle.forest.specs.Inside.Valid.{stored_edge, network_of, book_of, Valid}
 use Rattle.forest.specs.Inside.Queries.{bridge_blocks_differ, bridge_in}
 use Rattle.forest.specs.Promise.{Holds, state_of, book_in, network_in, vertex_names, vertex_groups}
@@ -36,8 +37,8 @@ pub group_size_lem : (shape : Shape) (t : List ℕ) → Holds shape t → (group
     → size_in t (group_area shape.limits groups) (name_in t (group_area shape.limits groups) x)
     ≡ size shape.vertices (vertex_groups groups (network_in shape t)) x
 unfolding Holds state_of book_of
-group_size_lem shape t holds G.Components x h = holds.valid.components.sized x h
-group_size_lem shape t holds G.BridgeBlocks x h = holds.valid.bridge_blocks_lem.sized x h
+group_size_lem shape t holds G.Components x h = (sound holds).valid.components.sized x h
+group_size_lem shape t holds G.BridgeBlocks x h = (sound holds).valid.bridge_blocks_lem.sized x h
 
 -- edge s of a table's network is the one that the table has stored
 pub network-edge : (limits : Limits) (n m : ℕ) (t : List ℕ) (s : ℕ) → s < m → edge (network_of limits n m t) s ≡ stored_edge t limits s

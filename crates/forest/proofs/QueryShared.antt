@@ -1,5 +1,6 @@
 -- The block that two vertices share, as the forest shows it: the blocks above them are one, or one of them is above the other's block.
 use Rattle.std.proofs.Common.{◌≡◌, ℕ, suc, ◌-◌, ◌<◌, true, false, not, ◌&&◌, eqb, ◌⊎◌, List, sym, ◌∙◌, inl, inr, ⊎_elim, arith}
+use Rattle.std.specs.Prelude as P
 use mathlib.Core.Option.{some}
 use Rattle.graph.specs.Network.{Network, edge_count}
 use Rattle.graph.specs.Block.{block, shared_block, on_block}
@@ -9,11 +10,10 @@ use Rattle.graph.proofs.Block.{block_sym, block_trans}
 use Rattle.graph.proofs.BlockVertices.{OnBlock, on_block_lem, on_same_block}
 use Rattle.graph.proofs.SharedBlock.{shared_block_some, shared_block_found, shared_block_is, no_shared_block}
 use Rattle.naming.specs.Rename.{name_of}
+use Rattle.numbers.specs.declared.Edge.{Edge}
 use Rattle.numbers.specs.declared.Limits.{Limits}
 use Rattle.table.specs.Inside.Layout.{edge_area}
 use Rattle.table.proofs.KindNames.{name_in_list, one_name, one_group}
-use Rattle.forest.specs.declared.Shared.{Shared}
-use Rattle.forest.specs.declared.Shared.TheVariants.{Block, Nothing}
 use Rattle.forest.specs.Inside.Climb.{up_of, block_of, above_edge}
 use Rattle.forest.specs.Inside.Valid.{network_of, book_of, HangsBelow, Valid}
 use Rattle.forest.specs.Inside.Queries.{hangs_from, hang_together, block_above, shared_in}
@@ -134,11 +134,11 @@ module _ {limits : Limits} {n m : ℕ} {t : List ℕ} (valid : Valid limits n m 
       (block_trans g b.by e c.by (block_sym g e b.by b.in_block) c.in_block))
 
   module _ (a b : ℕ) (a_known : a < n) (b_known : b < n) (differ : eqb a b ≡ false) where
-    abbrev Answer : Shared → Type 0
+    abbrev Answer : P.Option Edge → Type 0
     Answer answer = answer ≡ shared_name (book_of limits n m t).blocks (shared_block g a b)
 
     -- a block that both are on is the one, by its name
-    on_both : (e : ℕ) → e < m → on_block g e a ≡ true → on_block g e b ≡ true → Answer (Block (record { 0 = block_of t limits e }))
+    on_both : (e : ℕ) → e < m → on_block g e a ≡ true → on_block g e b ≡ true → Answer (P.Some (record { 0 = block_of t limits e }))
     unfolding book_of
     on_both e h p q = rw (found.1, named)
       where
@@ -154,7 +154,7 @@ module _ {limits : Limits} {n m : ℕ} {t : List ℕ} (valid : Valid limits n m 
             ∙ sym (name_in_list t (edge_area limits) m found.0 known)
 
     -- there is none where neither hangs from the other and they do not hang together
-    on_none : hang_together t limits a b ≡ false → hangs_from t limits a b ≡ false → hangs_from t limits b a ≡ false → Answer Nothing
+    on_none : hang_together t limits a b ≡ false → hangs_from t limits a b ≡ false → hangs_from t limits b a ≡ false → Answer P.None
     on_none p q r = rw (no_shared_block g a b (λ s h on. false_of_not (on_block g s b) (λ on'. apart s h on on')))
       where
         clash : (s : ℕ) → s < m

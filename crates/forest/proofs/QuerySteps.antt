@@ -15,12 +15,9 @@ module _ (t : List ℕ) (limits : Limits) where
       rw (e, add-one i)
 
   -- with no step left the answer is the table and the count at hand
-  pub find_end : (steps i count : ℕ) → steps ≤ i → (all : Found) → find_from t limits i (steps - i) count ≡ all
-      → (t ≡ all.table) × (count ≡ all.count)
+  pub find_end : (steps i count : ℕ) → steps ≤ i → find_from t limits i (steps - i) count ≡ record { table = t; count = count }
   unfolding find_from
-  find_end steps i count h all e =
-      let z : steps - i ≡ 0 = omega arith in
-      (ap (λ (f : Found). f.table) (rw z at e), ap (λ (f : Found). f.count) (rw z at e))
+  find_end steps i count h = let none : steps - i ≡ 0 = omega arith in rw none
 
   -- a step adds at most one to the count
   pub find_count_bound : (i count : ℕ) → find_count t limits i count ≤ count + 1

@@ -6,6 +6,7 @@ use Rattle.table.specs.Inside.Column
 use Rattle.table.specs.Inside.Layout.{cell, put, vertex_area, edge_area}
 use Rattle.table.proofs.Cells.{cell-put-same, cell_put_other_column, cell_put_other_item, cell_edge_after_vertex, cell_vertex_after_edge}
 use Rattle.numbers.specs.declared.Shape.{Shape}
+use Rattle.forest.specs.Inside.Held.{sound}
 use Rattle.forest.specs.Promise.{scratch_words, Holds, vertex_scratch, edge_scratch, VertexScratchStored, EdgeScratchStored}
 use Rattle.forest.proofs.Columns.{among, scratch}
 use Rattle.forest.proofs.Beyond.{frame_beyond}
@@ -23,7 +24,7 @@ scratch_column (suc (suc (suc (suc k)))) h = absurd (omega arith)
 -- a table of a shape is long enough
 long_enough : (shape : Shape) (t : List ℕ) → Holds shape t → shape.limits.vertices * Column.per_vertex + shape.limits.edges * Column.per_edge ≤ length t
 unfolding Holds
-long_enough shape t holds = holds.valid.long
+long_enough shape t holds = (sound holds).valid.long
 
 module _ (shape : Shape) (t : List ℕ) (holds : Holds shape t) where
   abbrev limits : Limits

@@ -112,7 +112,7 @@ module _ (limits : Limits) (n m : ℕ) (t : List ℕ) (valid : Valid limits n m 
       go (inl r) =
           rw r
           record {
-            holds = record { valid = valid_kept valid (frame_more frame refl refl) edges; bridges_named = rw book named };
+            holds = ∣ record { valid = valid_kept valid (frame_more frame refl refl) edges; bridges_named = rw book named } ∣₁;
             agrees =
                 record {
                   same_book = book;
@@ -127,7 +127,7 @@ module _ (limits : Limits) (n m : ℕ) (t : List ℕ) (valid : Valid limits n m 
       go (inr r) =
           rw r
           record {
-            holds = record { valid = valid; bridges_named = named };
+            holds = ∣ record { valid = valid; bridges_named = named } ∣₁;
             agrees =
                 record {
                   same_book = refl;

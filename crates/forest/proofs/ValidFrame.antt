@@ -10,6 +10,7 @@ use Rattle.table.specs.Inside.Layout.{vertex_area, bridge_block_area, edge_area}
 use Rattle.table.specs.Inside.KindValid.{Counts}
 use Rattle.table.proofs.KindNames.{name_known}
 use Rattle.forest.specs.Inside.Climb.{up_of, depth_of, above_edge}
+use Rattle.forest.specs.Inside.Held.{sound}
 use Rattle.forest.specs.Inside.Valid.{network_of, book_of, marked_in, HangsBelow, ForestValid, Valid}
 use Rattle.numbers.specs.declared.Shape.{Shape}
 use Rattle.forest.specs.Promise.{Holds, state_of, ListWritten}
@@ -142,15 +143,17 @@ module _ (shape : Shape) {t t' : List ℕ} (holds : Holds shape t) (f : ScratchO
   pub scratch_holds : Holds shape t'
   unfolding Holds
   scratch_holds =
-      record { valid = frame_valid holds.valid f; bridges_named = rw (frame_book holds.valid f) holds.bridges_named }
+      let s = sound holds in
+      ∣ record { valid = frame_valid s.valid f; bridges_named = rw (frame_book s.valid f) s.bridges_named } ∣₁
 
   pub scratch_state : state_of shape t' ≡ state_of shape t
   unfolding Holds state_of
   scratch_state =
+      let valid = (sound holds).valid in
       state_is
-      (frame_book holds.valid f)
-      (same_marked f shape.vertices holds.valid.vertices_fit refl)
-      (same_surveys f shape.edges holds.valid.edges_fit refl)
+      (frame_book valid f)
+      (same_marked f shape.vertices valid.vertices_fit refl)
+      (same_surveys f shape.edges valid.edges_fit refl)
 
   -- so a list is written down there
   pub list_written : (at : ℕ → ℕ) (count : ℕ) (list : List ℕ) → tabulate count at ≡ list → ListWritten shape t t' at count list

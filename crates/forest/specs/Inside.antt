@@ -6,3 +6,4 @@ pub mod Tree
 pub mod Queries
 pub mod Surveys
 pub mod Valid
+pub mod Held

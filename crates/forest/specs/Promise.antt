@@ -1,7 +1,9 @@
 -- What a caller may say of the working table, and what the operations on it promise. `Holds`, `state_of` and what is read from the table
 -- one item at a time are never opened outside this crate: a caller knows of them only what stands here.
 use Rattle.std.specs.Prelude.{◌≡◌, ℕ, suc, ◌+◌, ◌*◌, ◌<◌, ◌≤◌, List, length, drop, ◌≢◌, refl}
+use Rattle.std.specs.Prelude as P
 use Rattle.std.proofs.Math.Option.{Option, none, some}
+use Rattle.std.proofs.Math.Logic.{∥∥₁_prop}
 use Rattle.std.proofs.Common.{◌∙◌, arith}
 use Rattle.graph.specs.Below.{tabulate, length_tabulate}
 use Rattle.graph.specs.Network.{Network, edge_in_duct, Proper, edge_count}
@@ -17,13 +19,12 @@ use Rattle.numbers.specs.declared.Shape.{Shape}
 use Rattle.forest.specs.declared.VertexGroups.{VertexGroups}
 use Rattle.forest.specs.declared.VertexGroups.TheVariants as G
 use Rattle.forest.specs.declared.Growth.{Growth}
-use Rattle.forest.specs.declared.Length.{Length}
-use Rattle.forest.specs.declared.Length.TheVariants as H
-use Rattle.forest.specs.declared.Shared.{Shared}
-use Rattle.forest.specs.declared.Shared.TheVariants.{Block, Nothing}
+use Rattle.numbers.specs.declared.Edge.{Edge}
+pub use Rattle.table.specs.Same.{IsSame}
 pub use Rattle.forest.specs.Rule.{table_rule, table_rule_lem}
 use Rattle.forest.specs.Inside.Words.{group_area}
 use Rattle.forest.specs.Inside.Valid.{Sound, stored_edge, network_of, book_of, marked_in, surveys_in}
+use Rattle.forest.specs.Inside.Held.{sound}
 
 -- How many words a table takes for so many vertices and edges.
 unfoldable pub words_needed : Limits → ℕ
@@ -36,7 +37,12 @@ words_needed_lem limits = refl
 
 -- The table holds a network of this shape.
 unfoldable pub Holds : Shape → List ℕ → Type 0
-Holds shape t = Sound shape.limits shape.vertices shape.edges t
+Holds shape t = ∥ Sound shape.limits shape.vertices shape.edges t ∥₁
+
+-- which is a mere fact, so that a network in a working table keeps it
+pub holds_prop : (shape : Shape) (t : List ℕ) → IsProp (Holds shape t)
+unfolding Holds
+holds_prop shape t = ∥∥₁_prop
 
 -- The state that it holds. Of each edge's surveys it keeps one.
 unfoldable pub state_of : Shape → List ℕ → State
@@ -65,25 +71,25 @@ edges_held shape t = length_tabulate shape.edges (stored_edge t shape.limits)
 -- for which there are words
 pub vertices_fit : (shape : Shape) (t : List ℕ) → Holds shape t → shape.vertices ≤ shape.limits.vertices
 unfolding Holds
-vertices_fit shape t holds = holds.valid.vertices_fit
+vertices_fit shape t holds = (sound holds).valid.vertices_fit
 
 pub edges_fit : (shape : Shape) (t : List ℕ) → Holds shape t → shape.edges ≤ shape.limits.edges
 unfolding Holds
-edges_fit shape t holds = holds.valid.edges_fit
+edges_fit shape t holds = (sound holds).valid.edges_fit
 
 -- and which are few
 pub few_vertices : (shape : Shape) (t : List ℕ) → Holds shape t → shape.vertices ≤ 4096
 unfolding Holds
-few_vertices shape t holds = omega (arith, holds.valid.vertices_fit, holds.valid.small_vertices)
+few_vertices shape t holds = omega (arith, (sound holds).valid.vertices_fit, (sound holds).valid.small_vertices)
 
 pub few_edges : (shape : Shape) (t : List ℕ) → Holds shape t → shape.edges ≤ 8192
 unfolding Holds
-few_edges shape t holds = omega (arith, holds.valid.edges_fit, holds.valid.small_edges)
+few_edges shape t holds = omega (arith, (sound holds).valid.edges_fit, (sound holds).valid.small_edges)
 
 -- each edge joins two different vertices, and which edges are lost together is the table's rule
 pub proper_held : (shape : Shape) (t : List ℕ) → Holds shape t → Proper (network_in shape t)
 unfolding Holds state_of book_of
-proper_held shape t holds = holds.valid.proper
+proper_held shape t holds = (sound holds).valid.proper
 
 pub rule_held : (shape : Shape) (t : List ℕ) → (network_in shape t).rule ≡ table_rule
 unfolding state_of book_of network_of
@@ -174,14 +180,14 @@ pub record SurveyEntered (shape : Shape) (r : Survey) (old new : List ℕ) : Typ
   pub same_beyond : SameBeyond shape.limits old new
 
 -- The length that a survey gives, if there is one.
-abbrev pub length_given : Option Survey → Length
-length_given none = H.Nothing
-length_given (some r) = H.Metres r.metres
+abbrev pub length_given : Option Survey → P.Option ℕ
+length_given none = P.None
+length_given (some r) = P.Some r.metres
 
 -- The shared block, by its name, or that there is none.
-abbrev pub shared_name : List ℕ → Option ℕ → Shared
-shared_name names none = Nothing
-shared_name names (some s) = Block (record { 0 = name_of names s })
+abbrev pub shared_name : List ℕ → Option ℕ → P.Option Edge
+shared_name names none = P.None
+shared_name names (some s) = P.Some (record { 0 = name_of names s })
 
 -- Bridge i and cut vertex i of those that are written down.
 unfoldable pub bridge_at : Shape → List ℕ → ℕ → ℕ

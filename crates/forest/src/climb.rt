@@ -1,12 +1,12 @@
 // Climbing the block forest: from vertex to block and from block to vertex, turn about, until two vertices' ways up meet.
 ghost use Rattle.std.specs.Prelude.{◌≡◌, ◌+◌, ◌<◌, ◌≤◌, min, cond, not, ◌&&◌, ◌==◌, nat_lt};
+ghost use Rattle.table.specs.Same.{IsSame};
 ghost use Rattle.forest.specs.Inside.Climb.{up_of, depth_of, block_of, top_of, above_edge, right_deeper, record_table, record_trail};
 ghost use Rattle.forest.specs.Inside.Climb.{nested_most, climb_from, climb_from_block, kept_left, join_one, join_from, reach, climb_table, climb_route};
 
-use numbers::{Edge, Limits, Vertex};
+use numbers::{Edge, Vertex};
 use table::words::{
-    DEPTH, NAME, PATH_EDGE, PATH_VERTEX, RIGHT_EDGE, RIGHT_VERTEX, TOP, UP, edge_area, set_word,
-    vertex_area, word,
+    DEPTH, NAME, PATH_EDGE, PATH_VERTEX, RIGHT_EDGE, RIGHT_VERTEX, TOP, Table, UP,
 };
 
 // How many steps of a climb nest in one another at most: what bounds the stack. A climb of no more steps is one nest of calls.
@@ -29,98 +29,90 @@ pub struct Route {
 }
 
 // 0 at a root, else one more than an edge of the block above the vertex.
-pub(crate) fn up(t: &[u32], limits: Limits, x: Vertex) -> u32
-    ensures { result ≡ up_of t.now limits x.0 }
+pub(crate) fn up(t: &Table, x: Vertex) -> u32
+    ensures { result ≡ up_of t.now.words.now t.now.shape.limits x.0 }
 {
-    word(t, vertex_area(limits), UP, x.0)
+    t.word(t.vertex_area(), UP, x.0)
 }
 
 // A number that falls on the way up.
-pub(crate) fn depth(t: &[u32], limits: Limits, x: Vertex) -> u32
-    ensures { result ≡ depth_of t.now limits x.0 }
+pub(crate) fn depth(t: &Table, x: Vertex) -> u32
+    ensures { result ≡ depth_of t.now.words.now t.now.shape.limits x.0 }
 {
-    word(t, vertex_area(limits), DEPTH, x.0)
+    t.word(t.vertex_area(), DEPTH, x.0)
 }
 
 // The name of an edge's block.
-pub(crate) fn block_of(t: &[u32], limits: Limits, e: Edge) -> Edge
-    ensures { result.0 ≡ block_of t.now limits e.0 }
+pub(crate) fn block_of(t: &Table, e: Edge) -> Edge
+    ensures { result.0 ≡ block_of t.now.words.now t.now.shape.limits e.0 }
 {
-    Edge(word(t, edge_area(limits), NAME, e.0))
+    Edge(t.word(t.edge_area(), NAME, e.0))
 }
 
 // The vertex above a block, by its name.
-pub(crate) fn top(t: &[u32], limits: Limits, block: Edge) -> Vertex
-    ensures { result.0 ≡ top_of t.now limits block.0 }
+pub(crate) fn top(t: &Table, block: Edge) -> Vertex
+    ensures { result.0 ≡ top_of t.now.words.now t.now.shape.limits block.0 }
 {
-    Vertex(word(t, edge_area(limits), TOP, block.0))
+    Vertex(t.word(t.edge_area(), TOP, block.0))
 }
 
 // The vertex above an edge's block.
-fn above(t: &[u32], limits: Limits, e: Edge) -> Vertex
-    ensures { result.0 ≡ above_edge t.now limits e.0 }
+#[tactic(auto, unfolding(crate::specs::Inside::Climb::above_edge))]
+fn above(t: &Table, e: Edge) -> Vertex
+    ensures { result.0 ≡ above_edge t.now.words.now t.now.shape.limits e.0 }
 {
-    top(t, limits, block_of(t, limits, e))
+    top(t, block_of(t, e))
 }
 
 // The right side is the deeper one.
-fn right_deeper(t: &[u32], limits: Limits, r: Trail) -> bool
-    ensures { result ≡ right_deeper t.now limits r }
+#[tactic(auto, unfolding(crate::specs::Inside::Climb::right_deeper))]
+fn right_deeper(t: &Table, r: Trail) -> bool
+    ensures { result ≡ right_deeper t.now.words.now t.now.shape.limits r }
 {
-    let a = r.a;
-    let b = r.b;
-    let left = depth(t, limits, a);
-    let right = depth(t, limits, b);
-    left < right
+    depth(t, r.a) < depth(t, r.b)
 }
 
 // What stands above the vertex on the side that climbs.
-fn climber_up(t: &[u32], limits: Limits, r: Trail, on_right: bool) -> u32
-    ensures { result ≡ up_of t.now limits (cond on_right r.b.0 r.a.0) }
+fn climber_up(t: &Table, r: Trail, on_right: bool) -> u32
+    ensures { result ≡ up_of t.now.words.now t.now.shape.limits (cond on_right r.b.0 r.a.0) }
 {
-    let a = r.a;
-    let b = r.b;
-    if on_right {
-        up(t, limits, b)
-    } else {
-        up(t, limits, a)
-    }
+    up(t, if on_right { r.b } else { r.a })
 }
 
 // Writes down a step along an edge to the vertex v above its block.
-fn record_step(t: &mut [u32], limits: Limits, r: Trail, e: Edge, v: Vertex, on_right: bool) -> Trail
+#[tactic(auto, unfolding(crate::specs::Inside::Climb::record_table, crate::specs::Inside::Climb::record_trail))]
+fn record_step(t: &mut Table, r: Trail, e: Edge, v: Vertex, on_right: bool) -> Trail
     requires { (r.left < 4294967295) × (r.right < 4294967295) }
-    ensures { (t.new ≡ record_table t.old limits r e.0 v.0 on_right) × (result ≡ record_trail r v.0 on_right) }
+    ensures words { t.new.words.now ≡ record_table t.old.words.now t.old.shape.limits r e.0 v.0 on_right }
+    ensures trail { result ≡ record_trail r v.0 on_right }
+    ensures longer { result.left + result.right ≡ r.left + r.right + 1 }
+    ensures same { IsSame t.old t.new }
 {
-    let a = r.a;
-    let b = r.b;
     if on_right {
-        set_word(t, vertex_area(limits), RIGHT_EDGE, r.right, e.0);
-        set_word(t, vertex_area(limits), RIGHT_VERTEX, r.right, b.0);
+        t.set_word(t.vertex_area(), RIGHT_EDGE, r.right, e.0);
+        t.set_word(t.vertex_area(), RIGHT_VERTEX, r.right, r.b.0);
         Trail {
-            a: a,
             b: v,
-            left: r.left,
             right: r.right + 1,
+            ..r
         }
     } else {
-        set_word(t, vertex_area(limits), PATH_EDGE, r.left, e.0);
-        set_word(t, vertex_area(limits), PATH_VERTEX, r.left + 1, v.0);
+        t.set_word(t.vertex_area(), PATH_EDGE, r.left, e.0);
+        t.set_word(t.vertex_area(), PATH_VERTEX, r.left + 1, v.0);
         Trail {
             a: v,
-            b: b,
             left: r.left + 1,
-            right: r.right,
+            ..r
         }
     }
 }
 
 // From the deeper of two vertices to the block above it, and on from there: until the two are one, or a root is reached, or as many steps
 // are made as remain. The numbers of a trail come apart, since they are passed at every step.
+#[tactic(auto, unfolding(crate::specs::Inside::Climb::climb_from_block), using(crate::proofs::ClimbSteps::climb_met, crate::proofs::ClimbSteps::climb_none, crate::proofs::ClimbSteps::climb_root, crate::proofs::ClimbSteps::climber_up, crate::proofs::ClimbSteps::climb_by_block))]
 #[cycle(from_block_from_vertex)]
 fn from_vertex(
-    t: &mut [u32],
-    limits: Limits,
+    t: &mut Table,
     a: Vertex,
     b: Vertex,
     left: u32,
@@ -128,101 +120,84 @@ fn from_vertex(
     remaining: u32,
 ) -> Trail
     requires { left + right + remaining < 4294967295 }
-    ensures { (t.new ≡ (climb_from remaining t.old limits (record { a = a; b = b; left = left; right = right })).table) × (result ≡ (climb_from remaining t.old limits (record { a = a; b = b; left = left; right = right })).trail) × (result.left + result.right ≤ left + right + remaining) }
+    ensures words { t.new.words.now ≡ (climb_from remaining t.old.words.now t.old.shape.limits (record { a = a; b = b; left = left; right = right })).table }
+    ensures trail { result ≡ (climb_from remaining t.old.words.now t.old.shape.limits (record { a = a; b = b; left = left; right = right })).trail }
+    ensures few { result.left + result.right ≤ left + right + remaining }
+    ensures same { IsSame t.old t.new }
 {
-    let r = Trail {
-        a: a,
-        b: b,
-        left: left,
-        right: right,
-    };
-    if a.0 == b.0 {
+    let r = Trail { a, b, left, right };
+    if a == b {
         return r;
     }
     if remaining == 0 {
         return r;
     }
-    let on_right = right_deeper(t, limits, r);
-    let edge = climber_up(t, limits, r, on_right);
+    let on_right = right_deeper(t, r);
+    let edge = climber_up(t, r, on_right);
     if edge == 0 {
         return r;
     }
-    from_block(t, limits, r, Edge(edge - 1), on_right, remaining - 1)
+    from_block(t, r, Edge(edge - 1), on_right, remaining - 1)
 }
 
 // From the block of an edge to the vertex above it, which is a step, and on from there with as many steps as remain.
+#[tactic(auto, unfolding(crate::specs::Inside::Climb::climb_from_block), using(crate::proofs::ClimbSteps::climb_met, crate::proofs::ClimbSteps::climb_none, crate::proofs::ClimbSteps::climb_root, crate::proofs::ClimbSteps::climber_up, crate::proofs::ClimbSteps::climb_by_block))]
 #[cycle(from_block_from_vertex)]
 fn from_block(
-    t: &mut [u32],
-    limits: Limits,
+    t: &mut Table,
     r: Trail,
     e: Edge,
     on_right: bool,
     remaining: u32,
 ) -> Trail
     requires { r.left + r.right + remaining + 1 < 4294967295 }
-    ensures { (t.new ≡ (climb_from_block remaining t.old limits r e.0 on_right).table) × (result ≡ (climb_from_block remaining t.old limits r e.0 on_right).trail) × (result.left + result.right ≤ r.left + r.right + remaining + 1) }
+    ensures words { t.new.words.now ≡ (climb_from_block remaining t.old.words.now t.old.shape.limits r e.0 on_right).table }
+    ensures trail { result ≡ (climb_from_block remaining t.old.words.now t.old.shape.limits r e.0 on_right).trail }
+    ensures few { result.left + result.right ≤ r.left + r.right + remaining + 1 }
+    ensures same { IsSame t.old t.new }
 {
-    let v = above(t, limits, e);
-    let next = record_step(t, limits, r, e, v, on_right);
-    let a = next.a;
-    let b = next.b;
-    from_vertex(t, limits, a, b, next.left, next.right, remaining)
+    let v = above(t, e);
+    let next = record_step(t, r, e, v, on_right);
+    from_vertex(t, next.a, next.b, next.left, next.right, remaining)
 }
 
 // Steps are left, and the two sides have not met.
 fn goes_on(r: Trail, remaining: u32) -> bool
     ensures { result ≡ (nat_lt 0 remaining && not (r.a.0 == r.b.0)) }
 {
-    let a = r.a;
-    let b = r.b;
-    if remaining == 0 {
-        return false;
-    }
-    a.0 != b.0
-}
-
-// How many of the steps that remain are taken in one nest of calls.
-fn nested(remaining: u32) -> u32
-    ensures { result ≡ min remaining nested_most }
-{
-    if remaining < NESTED {
-        remaining
-    } else {
-        NESTED
-    }
+    0 < remaining && r.a != r.b
 }
 
 // The whole climb: where the path is longer than one nest of calls, the next nest takes it up where the one before has come.
-fn climb_on(t: &mut [u32], limits: Limits, start: Trail, steps: u32) -> Trail
+#[tactic(auto, using(crate::proofs::ClimbSteps::climb_add, crate::proofs::ClimbSteps::climb_stays, crate::proofs::ClimbSteps::steps_left_lem))]
+fn climb_on(t: &mut Table, start: Trail, steps: u32) -> Trail
     requires { start.left + start.right + steps < 4294967295 }
-    ensures { (t.new ≡ (climb_from steps t.old limits start).table) × (result ≡ (climb_from steps t.old limits start).trail) × (result.left + result.right ≤ start.left + start.right + steps) }
+    ensures words { t.new.words.now ≡ (climb_from steps t.old.words.now t.old.shape.limits start).table }
+    ensures trail { result ≡ (climb_from steps t.old.words.now t.old.shape.limits start).trail }
+    ensures few { result.left + result.right ≤ start.left + start.right + steps }
+    ensures same { IsSame t.old t.new }
 {
     let mut r = start;
     let mut remaining = steps;
     while goes_on(r, remaining) {
-        let some = nested(remaining);
-        let a = r.a;
-        let b = r.b;
-        r = from_vertex(t, limits, a, b, r.left, r.right, some);
+        let some = remaining.min(NESTED);
+        r = from_vertex(t, r.a, r.b, r.left, r.right, some);
         remaining -= some;
     }
     r
 }
 
 // How many steps of the left side stay: where both sides came up through one block, its last step is dropped.
-fn kept_left(t: &[u32], limits: Limits, r: Trail) -> u32
-    ensures { result ≡ kept_left t.now limits r }
+#[tactic(auto, unfolding(crate::specs::Inside::Climb::kept_left, crate::specs::Inside::Climb::same_last))]
+fn kept_left(t: &Table, r: Trail) -> u32
+    ensures { result ≡ kept_left t.now.words.now t.now.shape.limits r }
 {
-    if r.left == 0 {
+    if r.left == 0 || r.right == 0 {
         return r.left;
     }
-    if r.right == 0 {
-        return r.left;
-    }
-    let left = Edge(word(t, vertex_area(limits), PATH_EDGE, r.left - 1));
-    let right = Edge(word(t, vertex_area(limits), RIGHT_EDGE, r.right - 1));
-    if block_of(t, limits, left).0 == block_of(t, limits, right).0 {
+    let left = Edge(t.word(t.vertex_area(), PATH_EDGE, r.left - 1));
+    let right = Edge(t.word(t.vertex_area(), RIGHT_EDGE, r.right - 1));
+    if block_of(t, left) == block_of(t, right) {
         r.left - 1
     } else {
         r.left
@@ -230,65 +205,59 @@ fn kept_left(t: &[u32], limits: Limits, r: Trail) -> u32
 }
 
 // One step of the right side, turned round, behind the first `at` steps of the path.
-fn join_one(t: &mut [u32], limits: Limits, k: u32, at: u32)
+#[tactic(auto, unfolding(crate::specs::Inside::Climb::join_one))]
+fn join_one(t: &mut Table, k: u32, at: u32)
     requires { at < 4294967295 }
-    ensures { t.new ≡ join_one t.old limits k at }
+    ensures words { t.new.words.now ≡ join_one t.old.words.now t.old.shape.limits k at }
+    ensures same { IsSame t.old t.new }
 {
-    let e = word(t, vertex_area(limits), RIGHT_EDGE, k);
-    let v = word(t, vertex_area(limits), RIGHT_VERTEX, k);
-    set_word(t, vertex_area(limits), PATH_EDGE, at, e);
-    set_word(t, vertex_area(limits), PATH_VERTEX, at + 1, v);
+    let e = t.word(t.vertex_area(), RIGHT_EDGE, k);
+    let v = t.word(t.vertex_area(), RIGHT_VERTEX, k);
+    t.set_word(t.vertex_area(), PATH_EDGE, at, e);
+    t.set_word(t.vertex_area(), PATH_VERTEX, at + 1, v);
 }
 
 // The steps of the right side, turned round, behind the first `kept` steps of the path.
-fn join(t: &mut [u32], limits: Limits, kept: u32, right: u32)
+#[tactic(auto, using(crate::proofs::ClimbSteps::join_step, crate::proofs::ClimbSteps::join_end))]
+fn join(t: &mut Table, kept: u32, right: u32)
     requires { kept + right < 4294967295 }
-    ensures { t.new ≡ join_from right t.old limits kept }
+    ensures words { t.new.words.now ≡ join_from right t.old.words.now t.old.shape.limits kept }
+    ensures same { IsSame t.old t.new }
 {
-    let mut k = right;
-    let mut at = kept;
-    while 0 < k {
-        k -= 1;
-        join_one(t, limits, k, at);
-        at += 1;
+    for step in 0..right {
+        join_one(t, right - 1 - step, kept + step);
     }
 }
 
 // How many steps the climb may take.
-fn reach_of(t: &[u32], limits: Limits, a: Vertex, b: Vertex) -> u32
-    ensures { result ≡ reach t.now limits a.0 b.0 }
+#[tactic(auto, unfolding(crate::specs::Inside::Climb::reach))]
+fn reach_of(t: &Table, a: Vertex, b: Vertex) -> u32
+    ensures { result ≡ reach t.now.words.now t.now.shape.limits a.0 b.0 }
 {
-    let both = (depth(t, limits, a) as u64) + (depth(t, limits, b) as u64);
-    if both < 2147483648 {
-        both as u32
-    } else {
-        2147483648
-    }
+    let both = (depth(t, a) as u64) + (depth(t, b) as u64);
+    both.min(2147483648) as u32
 }
 
 // Leaves the path of blocks from a to b in the table: its vertices and its edges, an edge for each block.
-pub(crate) fn climb(t: &mut [u32], limits: Limits, a: Vertex, b: Vertex) -> Route
-    ensures { (t.new ≡ climb_table t.old limits a.0 b.0) × (result ≡ climb_route t.old limits a.0 b.0) }
+#[tactic(auto, unfolding(crate::specs::Inside::Climb::climb_table, crate::specs::Inside::Climb::climb_route, crate::specs::Inside::Climb::climb_both), using(crate::proofs::ClimbSteps::kept_most, crate::proofs::ClimbSteps::reach_most))]
+pub(crate) fn climb(t: &mut Table, a: Vertex, b: Vertex) -> Route
+    ensures words { t.new.words.now ≡ climb_table t.old.words.now t.old.shape.limits a.0 b.0 }
+    ensures route { result ≡ climb_route t.old.words.now t.old.shape.limits a.0 b.0 }
+    ensures same { IsSame t.old t.new }
 {
-    set_word(t, vertex_area(limits), PATH_VERTEX, 0, a.0);
-    let remaining = reach_of(t, limits, a, b);
-    let r = climb_on(
-        t,
-        limits,
-        Trail {
-            a: a,
-            b: b,
-            left: 0,
-            right: 0,
-        },
-        remaining,
-    );
-    let kept = kept_left(t, limits, r);
-    let right = r.right;
-    join(t, limits, kept, right);
-    let meeting = r.a;
+    t.set_word(t.vertex_area(), PATH_VERTEX, 0, a.0);
+    let remaining = reach_of(t, a, b);
+    let start = Trail {
+        a,
+        b,
+        left: 0,
+        right: 0,
+    };
+    let r = climb_on(t, start, remaining);
+    let kept = kept_left(t, r);
+    join(t, kept, r.right);
     Route {
-        steps: kept + right,
-        top: meeting,
+        steps: kept + r.right,
+        top: r.a,
     }
 }

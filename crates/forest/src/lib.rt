@@ -5,15 +5,15 @@
 
 ghost use Rattle.std.specs.Prelude.{◌≡◌, ◌<◌, ◌≤◌, min, true, false, ◌++◌, length, drop, replicate, ◌≢◌};
 ghost use Rattle.graph.specs.Network.{edge, mates};
-ghost use Rattle.graph.specs.Groups.{component, bridge, bridge_block};
+ghost use Rattle.graph.specs.Groups.{component, bridge};
 ghost use Rattle.graph.specs.Block.{shared_block};
 ghost use Rattle.graph.specs.Between.{bridges_between, cuts_between};
 ghost use Rattle.naming.specs.Rename.{size, name_of};
 ghost use Rattle.naming.specs.Survey.{holding};
 ghost use Rattle.naming.specs.State.{marks_with};
 ghost use Rattle.forest.specs.Inside.Words.{group_area};
-ghost use Rattle.forest.specs.Promise.{words_needed, Holds, state_of, book_in, network_in, Begun, VertexAdded, EdgeAdded, VertexMarked, SurveyEntered, length_given, ListWritten};
-ghost use Rattle.forest.specs.Promise.{vertex_names, vertex_groups, vertex_change_at, edge_change_at, shared_name, bridge_at, cut_at};
+ghost use Rattle.forest.specs.Promise.{IsSame, words_needed, Holds, holds_prop, state_of, book_in, network_in, Begun, VertexAdded, EdgeAdded, VertexMarked, SurveyEntered, length_given, ListWritten};
+ghost use Rattle.forest.specs.Promise.{one_vertex_more, one_edge_more, vertex_names, vertex_groups, vertex_change_at, edge_change_at, shared_name, bridge_at, cut_at};
 ghost use Rattle.forest.specs.Promise.{scratch_words, vertex_scratch, edge_scratch, VertexScratchStored, EdgeScratchStored};
 
 pub mod climb;
@@ -22,9 +22,10 @@ pub mod survey;
 pub mod tree;
 
 use numbers::{Duct, Edge, Limits, Measure, Shape, Vertex};
+pub use table::words::Table;
 use table::words::{
     Area, CHANGED, ENDS, MARK, MARK_COUNT, NAME, PATH_VERTEX, RIGHT_EDGE, SIZE, WORDS_PER_EDGE,
-    WORDS_PER_VERTEX, bridge_block_area, edge_area, set_word, vertex_area, word, word_behind,
+    WORDS_PER_VERTEX,
 };
 
 // The two kinds of groups of vertices.
@@ -41,18 +42,11 @@ pub struct Group {
     pub size: u32,
 }
 
-// A vertex and its new name.
+// A vertex or an edge, and its new name.
 #[derive(Clone, Copy)]
-pub struct VertexChange {
-    pub item: Vertex,
-    pub name: Vertex,
-}
-
-// An edge and its new name.
-#[derive(Clone, Copy)]
-pub struct EdgeChange {
-    pub item: Edge,
-    pub name: Edge,
+pub struct Change<T> {
+    pub item: T,
+    pub name: T,
 }
 
 // What one edge more did: how many items of each kind changed their name, and the new edge's block name.
@@ -64,20 +58,6 @@ pub struct Growth {
     pub block: Edge,
 }
 
-// The block that two vertices share, by its name, or that there is none.
-#[derive(Clone, Copy)]
-pub enum Shared {
-    Block(Edge),
-    Nothing,
-}
-
-// The length of an edge in metres, or that there is none.
-#[derive(Clone, Copy)]
-pub enum Length {
-    Metres(u32),
-    Nothing,
-}
-
 // The two ends of an edge.
 #[derive(Clone, Copy)]
 pub struct Ends {
@@ -85,7 +65,15 @@ pub struct Ends {
     pub right: Vertex,
 }
 
+// A network in a working table: what the table holds is a network of its shape.
+#[derive(Drop)]
+pub struct Network<'a> {
+    pub table: Table<'a>,
+    pub ghost holds: { Holds table.shape table.words.now } by { holds_prop table.shape table.words.now },
+}
+
 // How many words a table takes.
+#[tactic(auto, unfolding(crate::specs::Promise::words_needed))]
 pub fn words_needed(limits: Limits) -> usize
     ensures { result ≡ words_needed limits }
 {
@@ -93,281 +81,279 @@ pub fn words_needed(limits: Limits) -> usize
         + (limits.edges as usize) * (WORDS_PER_EDGE as usize)
 }
 
-// Begins a run: whatever the table's words are, it holds a network without vertices and edges.
-pub fn begin(t: &[u32], limits: Limits) -> Shape
-    requires { (limits.vertices ≤ 4096) × (limits.edges ≤ 8192) × (words_needed limits ≤ length t.now) }
-    ensures { Begun limits t.now result }
-{
-    Shape {
-        limits: limits,
-        vertices: 0,
-        edges: 0,
-    }
-}
-
 // Sets the first `count` words to 0, or all where there are fewer.
 pub fn clear(t: &mut [u32], count: usize)
     ensures { t.new ≡ replicate (min count (length t.old)) 0 ++ drop count t.old }
 {
-    let end = if count < t.len() { count } else { t.len() };
-    let mut i: usize = 0;
-    while i < end {
-        t[i] = 0;
-        i += 1;
+    let end = count.min(t.len());
+    t[..end].fill(0);
+}
+
+impl<'a> Network<'a> {
+    // Begins a run: whatever the words are, the table holds a network without vertices and edges.
+    pub fn new(words: &'a mut [u32], limits: Limits) -> Network<'a>
+        requires { (limits.vertices ≤ 4096) × (limits.edges ≤ 8192) × (words_needed limits ≤ length words.old) }
+        ensures begun { Begun limits result.table.words.now result.table.shape }
+        ensures words { result.table.words.now ≡ words.old }
+        ensures reference { result.table.words.ghost_name ≡ words.entry.ghost_name }
+    {
+        let shape = Shape {
+            limits,
+            vertices: 0,
+            edges: 0,
+        };
+        Network {
+            table: Table { words, shape },
+        }
     }
 }
 
-// Adds the next vertex.
-pub fn add_vertex(t: &mut [u32], shape: Shape)
-    requires { Holds shape t.old × (shape.vertices < shape.limits.vertices) }
-    ensures { VertexAdded shape t.old t.new }
-{
-    let limits = shape.limits;
-    tree::grow_vertex(t, limits, Vertex(shape.vertices));
-}
+impl Network<'_> {
+    // Adds the next vertex.
+    pub fn add_vertex(&mut self)
+        requires { self.old.table.shape.vertices < self.old.table.shape.limits.vertices }
+        ensures added { VertexAdded self.old.table.shape self.old.table.words.now self.new.table.words.now }
+        ensures shape { self.new.table.shape ≡ one_vertex_more self.old.table.shape }
+        ensures reference { self.new.table.words.ghost_name ≡ self.old.table.words.ghost_name }
+    {
+        let x = Vertex(self.table.shape.vertices);
+        tree::grow_vertex(&mut self.table, x);
+        self.table.shape.vertices += 1;
+    }
 
-// Adds the next edge, between two different vertices, in a duct, which is 0 where none is told.
-pub fn add_edge(t: &mut [u32], shape: Shape, a: Vertex, b: Vertex, duct: Duct) -> Growth
-    requires { Holds shape t.old × (shape.edges < shape.limits.edges) × (a.0 < shape.vertices) × (b.0 < shape.vertices) × (a.0 ≢ b.0) }
-    ensures { EdgeAdded shape a.0 b.0 duct.0 t.old t.new result }
-{
-    let limits = shape.limits;
-    tree::grow_edge(t, limits, Edge(shape.edges), a, b, duct)
-}
+    // Adds the next edge, between two different vertices, in a duct, which is 0 where none is told.
+    pub fn add_edge(&mut self, a: Vertex, b: Vertex, duct: Duct) -> Growth
+        requires { (self.old.table.shape.edges < self.old.table.shape.limits.edges) × (a.0 < self.old.table.shape.vertices) × (b.0 < self.old.table.shape.vertices) × (a.0 ≢ b.0) }
+        ensures added { EdgeAdded self.old.table.shape a.0 b.0 duct.0 self.old.table.words.now self.new.table.words.now result }
+        ensures shape { self.new.table.shape ≡ one_edge_more self.old.table.shape }
+        ensures reference { self.new.table.words.ghost_name ≡ self.old.table.words.ghost_name }
+    {
+        let s = Edge(self.table.shape.edges);
+        let growth = tree::grow_edge(&mut self.table, s, a, b, duct);
+        self.table.shape.edges += 1;
+        growth
+    }
 
-// Marks a vertex that is not marked.
-pub fn mark(t: &mut [u32], shape: Shape, x: Vertex)
-    requires { Holds shape t.old × (x.0 < shape.vertices) × ((state_of shape t.old).marked x.0 ≡ false) }
-    ensures { VertexMarked shape x.0 t.old t.new }
-{
-    let limits = shape.limits;
-    tree::mark_vertex(t, limits, x);
-}
+    // Marks a vertex that is not marked.
+    pub fn mark(&mut self, x: Vertex)
+        requires { (x.0 < self.old.table.shape.vertices) × ((state_of self.old.table.shape self.old.table.words.now).marked x.0 ≡ false) }
+        ensures marked { VertexMarked self.old.table.shape x.0 self.old.table.words.now self.new.table.words.now }
+        ensures same { IsSame self.old.table self.new.table }
+    {
+        tree::mark_vertex(&mut self.table, x);
+    }
 
-// Whether a vertex is marked.
-pub fn is_marked(t: &[u32], shape: Shape, x: Vertex) -> bool
-    requires { Holds shape t.now × (x.0 < shape.vertices) }
-    ensures { result ≡ (state_of shape t.now).marked x.0 }
-{
-    let limits = shape.limits;
-    word(t, vertex_area(limits), MARK, x.0) == 1
-}
+    // Whether a vertex is marked.
+    pub fn is_marked(&self, x: Vertex) -> bool
+        requires { x.0 < self.now.table.shape.vertices }
+        ensures { result ≡ (state_of self.now.table.shape self.now.table.words.now).marked x.0 }
+    {
+        self.table.word(self.table.vertex_area(), MARK, x.0) == 1
+    }
 
-// How many of the vertices in a vertex's bridge-block are marked.
-pub fn marks_with(t: &[u32], shape: Shape, x: Vertex) -> u32
-    requires { Holds shape t.now × (x.0 < shape.vertices) }
-    ensures { result ≡ marks_with (state_of shape t.now) x.0 }
-{
-    let limits = shape.limits;
-    let name = word(t, bridge_block_area(limits), NAME, x.0);
-    word(t, bridge_block_area(limits), MARK_COUNT, name)
-}
+    // How many of the vertices in a vertex's bridge-block are marked.
+    pub fn marks_with(&self, x: Vertex) -> u32
+        requires { x.0 < self.now.table.shape.vertices }
+        ensures { result ≡ marks_with (state_of self.now.table.shape self.now.table.words.now) x.0 }
+    {
+        let area = self.table.bridge_block_area();
+        let name = self.table.word(area, NAME, x.0);
+        self.table.word(area, MARK_COUNT, name)
+    }
 
-// Enters a survey of an edge.
-pub fn enter_survey(t: &mut [u32], shape: Shape, s: Edge, measure: Measure)
-    requires { Holds shape t.old × (s.0 < shape.edges) }
-    ensures { SurveyEntered shape (record { measured = s.0; day = measure.day; metres = measure.metres }) t.old t.new }
-{
-    let limits = shape.limits;
-    survey::keep_survey(t, limits, s, measure);
-}
+    // Enters a survey of an edge.
+    pub fn enter_survey(&mut self, s: Edge, measure: Measure)
+        requires { s.0 < self.old.table.shape.edges }
+        ensures entered { SurveyEntered self.old.table.shape (record { measured = s.0; day = measure.day; metres = measure.metres }) self.old.table.words.now self.new.table.words.now }
+        ensures same { IsSame self.old.table self.new.table }
+    {
+        survey::keep_survey(&mut self.table, s, measure);
+    }
 
-// The length of an edge, by the survey that holds.
-pub fn length_of(t: &[u32], shape: Shape, s: Edge) -> Length
-    requires { Holds shape t.now × (s.0 < shape.edges) }
-    ensures { result ≡ length_given (holding (state_of shape t.now).surveys s.0) }
-{
-    let limits = shape.limits;
-    survey::kept_length(t, limits, s)
+    // The length of an edge in metres, by the survey that holds, if there is one.
+    pub fn length_of(&self, s: Edge) -> Option<u32>
+        requires { s.0 < self.now.table.shape.edges }
+        ensures { result ≡ length_given (holding (state_of self.now.table.shape self.now.table.words.now).surveys s.0) }
+    {
+        survey::kept_length(&self.table, s)
+    }
+
+    // The group of a vertex.
+    pub fn group_of(&self, groups: VertexGroups, x: Vertex) -> Group
+        requires { x.0 < self.now.table.shape.vertices }
+        ensures name { result.name.0 ≡ name_of (vertex_names groups (book_in self.now.table.shape self.now.table.words.now)) x.0 }
+        ensures size { result.size ≡ size self.now.table.shape.vertices (vertex_groups groups (network_in self.now.table.shape self.now.table.words.now)) x.0 }
+    {
+        let area = area_of(&self.table, groups);
+        let name = self.table.word(area, NAME, x.0);
+        let size = self.table.word(area, SIZE, name);
+        Group {
+            name: Vertex(name),
+            size,
+        }
+    }
+
+    // Whether two vertices share a group.
+    pub fn same_group(&self, groups: VertexGroups, a: Vertex, b: Vertex) -> bool
+        requires { (a.0 < self.now.table.shape.vertices) × (b.0 < self.now.table.shape.vertices) }
+        ensures { result ≡ vertex_groups groups (network_in self.now.table.shape self.now.table.words.now) a.0 b.0 }
+    {
+        let area = area_of(&self.table, groups);
+        self.table.word(area, NAME, a.0) == self.table.word(area, NAME, b.0)
+    }
+
+    // The block name of an edge.
+    pub fn block_name(&self, s: Edge) -> Edge
+        requires { s.0 < self.now.table.shape.edges }
+        ensures { result.0 ≡ name_of (book_in self.now.table.shape self.now.table.words.now).blocks s.0 }
+    {
+        climb::block_of(&self.table, s)
+    }
+
+    // The two ends of an edge.
+    pub fn ends_of(&self, s: Edge) -> Ends
+        requires { s.0 < self.now.table.shape.edges }
+        ensures left { result.left.0 ≡ (edge (network_in self.now.table.shape self.now.table.words.now) s.0).left }
+        ensures right { result.right.0 ≡ (edge (network_in self.now.table.shape self.now.table.words.now) s.0).right }
+    {
+        let ends = self.table.word(self.table.edge_area(), ENDS, s.0);
+        Ends {
+            left: Vertex(ends / 65536),
+            right: Vertex(ends % 65536),
+        }
+    }
+
+    // Whether two edges are mates: one edge, or lost together.
+    pub fn are_mates(&self, s: Edge, other: Edge) -> bool
+        requires { (s.0 < self.now.table.shape.edges) × (other.0 < self.now.table.shape.edges) }
+        ensures { result ≡ mates (network_in self.now.table.shape self.now.table.words.now) s.0 other.0 }
+    {
+        s == other || query::lost_together(&self.table, s, other)
+    }
+
+    // The block that has an edge at each of two different vertices, by its name, if there is one.
+    pub fn shared_block(&self, a: Vertex, b: Vertex) -> Option<Edge>
+        requires { (a.0 < self.now.table.shape.vertices) × (b.0 < self.now.table.shape.vertices) × (a.0 ≢ b.0) }
+        ensures { result ≡ shared_name (book_in self.now.table.shape self.now.table.words.now).blocks (shared_block (network_in self.now.table.shape self.now.table.words.now) a.0 b.0) }
+    {
+        query::find_shared(&self.table, a, b)
+    }
+
+    // Whether an edge is a bridge.
+    pub fn is_bridge(&self, s: Edge) -> bool
+        requires { s.0 < self.now.table.shape.edges }
+        ensures { result ≡ bridge (network_in self.now.table.shape self.now.table.words.now) s.0 }
+    {
+        query::ends_differ(&self.table, s)
+    }
+
+    // Writes down the bridges between two vertices of one component, in travelling order; gives their number.
+    pub fn bridges_between(&mut self, a: Vertex, b: Vertex) -> u32
+        requires { (a.0 < self.old.table.shape.vertices) × (b.0 < self.old.table.shape.vertices) × (component (network_in self.old.table.shape self.old.table.words.now) a.0 b.0 ≡ true) }
+        ensures written { ListWritten self.old.table.shape self.old.table.words.now self.new.table.words.now (bridge_at self.old.table.shape self.new.table.words.now) result (bridges_between (network_in self.old.table.shape self.old.table.words.now) a.0 b.0) }
+        ensures same { IsSame self.old.table self.new.table }
+    {
+        query::find_bridges(&mut self.table, a, b)
+    }
+
+    // Writes down the cut vertices between two vertices of one component, in travelling order; gives their number.
+    pub fn cuts_between(&mut self, a: Vertex, b: Vertex) -> u32
+        requires { (a.0 < self.old.table.shape.vertices) × (b.0 < self.old.table.shape.vertices) × (component (network_in self.old.table.shape self.old.table.words.now) a.0 b.0 ≡ true) }
+        ensures written { ListWritten self.old.table.shape self.old.table.words.now self.new.table.words.now (cut_at self.old.table.shape self.new.table.words.now) result (cuts_between (network_in self.old.table.shape self.old.table.words.now) a.0 b.0) }
+        ensures same { IsSame self.old.table self.new.table }
+    {
+        query::find_cuts(&mut self.table, a, b)
+    }
+
+    // Stores scratch word k of a vertex.
+    pub fn set_vertex_scratch(&mut self, k: u8, x: Vertex, value: u32)
+        requires { (k < scratch_words) × (x.0 < self.old.table.shape.limits.vertices) }
+        ensures stored { VertexScratchStored self.old.table.shape k x.0 value self.old.table.words.now self.new.table.words.now }
+        ensures same { IsSame self.old.table self.new.table }
+    {
+        let area = self.table.vertex_area();
+        self.table.set_word(area, PATH_VERTEX + k, x.0, value);
+    }
+
+    // Stores the scratch word of an edge.
+    pub fn set_edge_scratch(&mut self, s: Edge, value: u32)
+        requires { s.0 < self.old.table.shape.limits.edges }
+        ensures stored { EdgeScratchStored self.old.table.shape s.0 value self.old.table.words.now self.new.table.words.now }
+        ensures same { IsSame self.old.table self.new.table }
+    {
+        let area = self.table.edge_area();
+        self.table.set_word(area, CHANGED, s.0, value);
+    }
 }
 
 // The words of a kind of groups of vertices.
-fn area_of(limits: Limits, groups: VertexGroups) -> Area
-    ensures { result ≡ group_area limits groups }
+fn area_of(t: &Table, groups: VertexGroups) -> Area
+    ensures { result ≡ group_area t.now.shape.limits groups }
 {
     match groups {
-        VertexGroups::Components => vertex_area(limits),
-        VertexGroups::BridgeBlocks => bridge_block_area(limits),
+        VertexGroups::Components => t.vertex_area(),
+        VertexGroups::BridgeBlocks => t.bridge_block_area(),
     }
-}
-
-// The group of a vertex.
-pub fn group_of(t: &[u32], shape: Shape, groups: VertexGroups, x: Vertex) -> Group
-    requires { Holds shape t.now × (x.0 < shape.vertices) }
-    ensures { (result.name.0 ≡ name_of (vertex_names groups (book_in shape t.now)) x.0) × (result.size ≡ size shape.vertices (vertex_groups groups (network_in shape t.now)) x.0) }
-{
-    let area = area_of(shape.limits, groups);
-    let name = word(t, area, NAME, x.0);
-    let size = word(t, area, SIZE, name);
-    Group {
-        name: Vertex(name),
-        size: size,
-    }
-}
-
-// Whether two vertices share a component.
-pub fn same_component(t: &[u32], shape: Shape, a: Vertex, b: Vertex) -> bool
-    requires { Holds shape t.now × (a.0 < shape.vertices) × (b.0 < shape.vertices) }
-    ensures { result ≡ component (network_in shape t.now) a.0 b.0 }
-{
-    let limits = shape.limits;
-    let left = word(t, vertex_area(limits), NAME, a.0);
-    let right = word(t, vertex_area(limits), NAME, b.0);
-    left == right
-}
-
-// Whether two vertices share a bridge-block.
-pub fn same_bridge_block(t: &[u32], shape: Shape, a: Vertex, b: Vertex) -> bool
-    requires { Holds shape t.now × (a.0 < shape.vertices) × (b.0 < shape.vertices) }
-    ensures { result ≡ bridge_block (network_in shape t.now) a.0 b.0 }
-{
-    let limits = shape.limits;
-    !query::bridge_blocks_differ(t, limits, a.0, b.0)
-}
-
-// The block name of an edge.
-pub fn block_name(t: &[u32], shape: Shape, s: Edge) -> Edge
-    requires { Holds shape t.now × (s.0 < shape.edges) }
-    ensures { result.0 ≡ name_of (book_in shape t.now).blocks s.0 }
-{
-    let limits = shape.limits;
-    Edge(word(t, edge_area(limits), NAME, s.0))
-}
-
-// The two ends of an edge.
-pub fn ends_of(t: &[u32], shape: Shape, s: Edge) -> Ends
-    requires { Holds shape t.now × (s.0 < shape.edges) }
-    ensures { (result.left.0 ≡ (edge (network_in shape t.now) s.0).left) × (result.right.0 ≡ (edge (network_in shape t.now) s.0).right) }
-{
-    let limits = shape.limits;
-    let ends = word(t, edge_area(limits), ENDS, s.0);
-    Ends {
-        left: Vertex(ends / 65536),
-        right: Vertex(ends % 65536),
-    }
-}
-
-// Whether two edges are mates: one edge, or lost together.
-pub fn are_mates(t: &[u32], shape: Shape, s: Edge, other: Edge) -> bool
-    requires { Holds shape t.now × (s.0 < shape.edges) × (other.0 < shape.edges) }
-    ensures { result ≡ mates (network_in shape t.now) s.0 other.0 }
-{
-    let limits = shape.limits;
-    if s.0 == other.0 {
-        return true;
-    }
-    query::lost_together(t, limits, s, other)
-}
-
-// The block that has an edge at each of two different vertices.
-pub fn shared_block(t: &[u32], shape: Shape, a: Vertex, b: Vertex) -> Shared
-    requires { Holds shape t.now × (a.0 < shape.vertices) × (b.0 < shape.vertices) × (a.0 ≢ b.0) }
-    ensures { result ≡ shared_name (book_in shape t.now).blocks (shared_block (network_in shape t.now) a.0 b.0) }
-{
-    let limits = shape.limits;
-    query::find_shared(t, limits, a, b)
-}
-
-// Whether an edge is a bridge.
-pub fn is_bridge(t: &[u32], shape: Shape, s: Edge) -> bool
-    requires { Holds shape t.now × (s.0 < shape.edges) }
-    ensures { result ≡ bridge (network_in shape t.now) s.0 }
-{
-    let limits = shape.limits;
-    query::ends_differ(t, limits, s)
-}
-
-// Writes down the bridges between two vertices of one component, in travelling order; gives their number.
-pub fn bridges_between(t: &mut [u32], shape: Shape, a: Vertex, b: Vertex) -> u32
-    requires { Holds shape t.old × (a.0 < shape.vertices) × (b.0 < shape.vertices) × (component (network_in shape t.old) a.0 b.0 ≡ true) }
-    ensures { ListWritten shape t.old t.new (bridge_at shape t.new) result (bridges_between (network_in shape t.old) a.0 b.0) }
-{
-    let limits = shape.limits;
-    query::find_bridges(t, limits, a, b)
-}
-
-// Writes down the cut vertices between two vertices of one component, in travelling order; gives their number.
-pub fn cuts_between(t: &mut [u32], shape: Shape, a: Vertex, b: Vertex) -> u32
-    requires { Holds shape t.old × (a.0 < shape.vertices) × (b.0 < shape.vertices) × (component (network_in shape t.old) a.0 b.0 ≡ true) }
-    ensures { ListWritten shape t.old t.new (cut_at shape t.new) result (cuts_between (network_in shape t.old) a.0 b.0) }
-{
-    let limits = shape.limits;
-    query::find_cuts(t, limits, a, b)
 }
 
 // Bridge i of those that are written down.
-pub fn bridge_at(t: &[u32], shape: Shape, i: u32) -> Edge
-    ensures { result.0 ≡ bridge_at shape t.now i }
+#[tactic(auto, unfolding(crate::specs::Promise::bridge_at))]
+pub fn bridge_at(t: &Table, i: u32) -> Edge
+    ensures { result.0 ≡ bridge_at t.now.shape t.now.words.now i }
 {
-    let limits = shape.limits;
-    Edge(word(t, vertex_area(limits), RIGHT_EDGE, i))
+    Edge(t.word(t.vertex_area(), RIGHT_EDGE, i))
 }
 
 // Cut vertex i of those that are written down.
-pub fn cut_at(t: &[u32], shape: Shape, i: u32) -> Vertex
-    ensures { result.0 ≡ cut_at shape t.now i }
+#[tactic(auto, unfolding(crate::specs::Promise::cut_at))]
+pub fn cut_at(t: &Table, i: u32) -> Vertex
+    ensures { result.0 ≡ cut_at t.now.shape t.now.words.now i }
 {
-    let limits = shape.limits;
-    Vertex(word_behind(t, vertex_area(limits), PATH_VERTEX, i))
+    Vertex(t.word_behind(t.vertex_area(), PATH_VERTEX, i))
 }
 
 // Change i of the vertices' names of a kind, of those that are written down.
-pub fn vertex_change_at(t: &[u32], shape: Shape, groups: VertexGroups, i: u32) -> VertexChange
-    ensures { (result.item.0 ≡ (vertex_change_at shape groups t.now i).item) × (result.name.0 ≡ (vertex_change_at shape groups t.now i).name) }
+#[tactic(auto, unfolding(crate::specs::Promise::vertex_change_at))]
+pub fn vertex_change_at(t: &Table, groups: VertexGroups, i: u32) -> Change<Vertex>
+    ensures item { result.item.0 ≡ (vertex_change_at t.now.shape groups t.now.words.now i).item }
+    ensures name { result.name.0 ≡ (vertex_change_at t.now.shape groups t.now.words.now i).name }
 {
-    let area = area_of(shape.limits, groups);
-    let x = word(t, area, CHANGED, i);
-    let name = word(t, area, NAME, x);
-    VertexChange {
+    let area = area_of(t, groups);
+    let x = t.word(area, CHANGED, i);
+    let name = t.word(area, NAME, x);
+    Change {
         item: Vertex(x),
         name: Vertex(name),
     }
 }
 
 // Change i of the edges' names, of those that are written down.
-pub fn edge_change_at(t: &[u32], shape: Shape, i: u32) -> EdgeChange
-    ensures { (result.item.0 ≡ (edge_change_at shape t.now i).item) × (result.name.0 ≡ (edge_change_at shape t.now i).name) }
+#[tactic(auto, unfolding(crate::specs::Promise::edge_change_at))]
+pub fn edge_change_at(t: &Table, i: u32) -> Change<Edge>
+    ensures item { result.item.0 ≡ (edge_change_at t.now.shape t.now.words.now i).item }
+    ensures name { result.name.0 ≡ (edge_change_at t.now.shape t.now.words.now i).name }
 {
-    let limits = shape.limits;
-    let s = word(t, edge_area(limits), CHANGED, i);
-    let name = word(t, edge_area(limits), NAME, s);
-    EdgeChange {
+    let s = t.word(t.edge_area(), CHANGED, i);
+    let name = t.word(t.edge_area(), NAME, s);
+    Change {
         item: Edge(s),
         name: Edge(name),
     }
 }
 
 // Scratch word k of a vertex.
-pub fn vertex_scratch(t: &[u32], shape: Shape, k: u8, x: Vertex) -> u32
+#[tactic(auto, unfolding(crate::specs::Promise::vertex_scratch))]
+pub fn vertex_scratch(t: &Table, k: u8, x: Vertex) -> u32
     requires { k < scratch_words }
-    ensures { result ≡ vertex_scratch shape t.now k x.0 }
+    ensures { result ≡ vertex_scratch t.now.shape t.now.words.now k x.0 }
 {
-    let limits = shape.limits;
-    word(t, vertex_area(limits), PATH_VERTEX + k, x.0)
-}
-
-// Stores scratch word k of a vertex.
-pub fn set_vertex_scratch(t: &mut [u32], shape: Shape, k: u8, x: Vertex, value: u32)
-    requires { Holds shape t.old × (k < scratch_words) × (x.0 < shape.limits.vertices) }
-    ensures { VertexScratchStored shape k x.0 value t.old t.new }
-{
-    let limits = shape.limits;
-    set_word(t, vertex_area(limits), PATH_VERTEX + k, x.0, value);
+    t.word(t.vertex_area(), PATH_VERTEX + k, x.0)
 }
 
 // The scratch word of an edge.
-pub fn edge_scratch(t: &[u32], shape: Shape, s: Edge) -> u32
-    ensures { result ≡ edge_scratch shape t.now s.0 }
+#[tactic(auto, unfolding(crate::specs::Promise::edge_scratch))]
+pub fn edge_scratch(t: &Table, s: Edge) -> u32
+    ensures { result ≡ edge_scratch t.now.shape t.now.words.now s.0 }
 {
-    let limits = shape.limits;
-    word(t, edge_area(limits), CHANGED, s.0)
-}
-
-// Stores the scratch word of an edge.
-pub fn set_edge_scratch(t: &mut [u32], shape: Shape, s: Edge, value: u32)
-    requires { Holds shape t.old × (s.0 < shape.limits.edges) }
-    ensures { EdgeScratchStored shape s.0 value t.old t.new }
-{
-    let limits = shape.limits;
-    set_word(t, edge_area(limits), CHANGED, s.0, value);
+    t.word(t.edge_area(), CHANGED, s.0)
 }

@@ -1,62 +1,66 @@
 // The duct of an edge, and the survey that is kept of it: the lower half of one word is the duct, its upper half tells whether a survey is
 // kept, and its day and its metres are another word.
 ghost use Rattle.std.specs.Prelude.{◌≡◌};
+ghost use Rattle.table.specs.Same.{IsSame};
 ghost use Rattle.forest.specs.Inside.Words.{duct_of};
 ghost use Rattle.forest.specs.Inside.Surveys.{is_surveyed, is_replaced, survey_stored, survey_table, length_in};
 
-use crate::Length;
-use numbers::{Edge, Limits, Measure};
-use table::words::{DUCT, SURVEY, edge_area, set_word, word};
+use numbers::{Edge, Measure};
+use table::words::{DUCT, SURVEY, Table};
 
 // The duct of an edge.
-pub(crate) fn duct_of(t: &[u32], limits: Limits, s: Edge) -> u32
-    ensures { result ≡ duct_of t.now limits s.0 }
+pub(crate) fn duct_of(t: &Table, s: Edge) -> u32
+    ensures { result ≡ duct_of t.now.words.now t.now.shape.limits s.0 }
 {
-    word(t, edge_area(limits), DUCT, s.0) % 65536
+    t.word(t.edge_area(), DUCT, s.0) % 65536
 }
 
 // Whether a survey of an edge is kept.
-fn is_surveyed(t: &[u32], limits: Limits, s: Edge) -> bool
-    ensures { result ≡ is_surveyed t.now limits s.0 }
+#[tactic(auto, unfolding(crate::specs::Inside::Surveys::is_surveyed))]
+fn is_surveyed(t: &Table, s: Edge) -> bool
+    ensures { result ≡ is_surveyed t.now.words.now t.now.shape.limits s.0 }
 {
-    65536 <= word(t, edge_area(limits), DUCT, s.0)
+    65536 <= t.word(t.edge_area(), DUCT, s.0)
 }
 
 // Whether a survey of this day is to be kept instead: none is kept, or that of an earlier day.
-fn is_replaced(t: &[u32], limits: Limits, s: Edge, day: u16) -> bool
-    ensures { result ≡ is_replaced t.now limits s.0 day }
+#[tactic(auto, unfolding(crate::specs::Inside::Surveys::is_replaced))]
+fn is_replaced(t: &Table, s: Edge, day: u16) -> bool
+    ensures { result ≡ is_replaced t.now.words.now t.now.shape.limits s.0 day }
 {
-    if !is_surveyed(t, limits, s) {
-        return true;
-    }
-    word(t, edge_area(limits), SURVEY, s.0) / 65536 < (day as u32)
+    !is_surveyed(t, s) || t.word(t.edge_area(), SURVEY, s.0) / 65536 < (day as u32)
 }
 
 // Keeps a survey of an edge.
-fn store_survey(t: &mut [u32], limits: Limits, s: Edge, measure: Measure)
-    ensures { t.new ≡ survey_stored t.old limits s.0 measure.day measure.metres }
+#[tactic(auto, unfolding(crate::specs::Inside::Surveys::survey_stored))]
+fn store_survey(t: &mut Table, s: Edge, measure: Measure)
+    ensures words { t.new.words.now ≡ survey_stored t.old.words.now t.old.shape.limits s.0 measure.day measure.metres }
+    ensures same { IsSame t.old t.new }
 {
     let kept = (measure.day as u32) * 65536 + (measure.metres as u32);
-    let flagged = 65536 + duct_of(t, limits, s);
-    set_word(t, edge_area(limits), SURVEY, s.0, kept);
-    set_word(t, edge_area(limits), DUCT, s.0, flagged);
+    let flagged = 65536 + duct_of(t, s);
+    t.set_word(t.edge_area(), SURVEY, s.0, kept);
+    t.set_word(t.edge_area(), DUCT, s.0, flagged);
 }
 
 // Keeps a survey of an edge if it replaces what is kept.
-pub(crate) fn keep_survey(t: &mut [u32], limits: Limits, s: Edge, measure: Measure)
-    ensures { t.new ≡ survey_table t.old limits s.0 measure.day measure.metres }
+#[tactic(auto, unfolding(crate::specs::Inside::Surveys::survey_table))]
+pub(crate) fn keep_survey(t: &mut Table, s: Edge, measure: Measure)
+    ensures words { t.new.words.now ≡ survey_table t.old.words.now t.old.shape.limits s.0 measure.day measure.metres }
+    ensures same { IsSame t.old t.new }
 {
-    if is_replaced(t, limits, s, measure.day) {
-        store_survey(t, limits, s, measure);
+    if is_replaced(t, s, measure.day) {
+        store_survey(t, s, measure);
     }
 }
 
 // The metres of the survey that is kept of an edge.
-pub(crate) fn kept_length(t: &[u32], limits: Limits, s: Edge) -> Length
-    ensures { result ≡ length_in t.now limits s.0 }
+#[tactic(auto, unfolding(crate::specs::Inside::Surveys::length_in))]
+pub(crate) fn kept_length(t: &Table, s: Edge) -> Option<u32>
+    ensures { result ≡ length_in t.now.words.now t.now.shape.limits s.0 }
 {
-    if is_surveyed(t, limits, s) {
-        return Length::Metres(word(t, edge_area(limits), SURVEY, s.0) % 65536);
+    if is_surveyed(t, s) {
+        return Some(t.word(t.edge_area(), SURVEY, s.0) % 65536);
     }
-    Length::Nothing
+    None
 }

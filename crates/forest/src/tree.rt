@@ -1,6 +1,7 @@
 // Growing the block forest: one vertex more, and one edge more, which links two components or condenses the path between two vertices;
 // and marking a vertex.
 ghost use Rattle.std.specs.Prelude.{◌≡◌, ◌<◌, if◌then◌else◌};
+ghost use Rattle.table.specs.Same.{IsSame};
 ghost use Rattle.forest.specs.Inside.Tree.{new_group, new_marks, vertex_table, mark_table, raise_from, turn_from, turned_table, turned_state, hang_table, link_grown};
 ghost use Rattle.forest.specs.Inside.Tree.{enter_block, in_step_duct, merged_vertices, condense_grown, edge_table, edge_grown};
 ghost use Rattle.forest.specs.Inside.Tree.{GrowsTo};
@@ -8,11 +9,11 @@ ghost use Rattle.forest.specs.Inside.Tree.{GrowsTo};
 use crate::Growth;
 use crate::climb::{block_of, climb, depth, top, up};
 use crate::survey::duct_of;
-use numbers::{Duct, Edge, Limits, Vertex};
-use table::merge::{Listing, merge};
+use numbers::{Duct, Edge, Vertex};
+use table::merge::Listing;
 use table::words::{
     Area, CHANGED, DEPTH, DUCT, ENDS, MARK, MARK_COUNT, NAME, PATH_EDGE, PATH_VERTEX, RANGE, SIZE,
-    TOP, UP, bridge_block_area, edge_area, set_word, vertex_area, word,
+    TOP, Table, UP,
 };
 
 // A vertex on a way up that is turned round: what to store as its way up and its depth, and how many steps are left.
@@ -25,68 +26,78 @@ pub struct Turning {
 }
 
 // A group of one item, named by its number.
-fn new_group(t: &mut [u32], area: Area, x: u32)
-    ensures { t.new ≡ new_group t.old area x }
+#[tactic(auto, unfolding(crate::specs::Inside::Tree::new_group))]
+fn new_group(t: &mut Table, area: Area, x: u32)
+    ensures words { t.new.words.now ≡ new_group t.old.words.now area x }
+    ensures same { IsSame t.old t.new }
 {
-    set_word(t, area, NAME, x, x);
-    set_word(t, area, SIZE, x, 1);
+    t.set_word(area, NAME, x, x);
+    t.set_word(area, SIZE, x, 1);
     let range = (x % 65536) * 65536 + x % 65536;
-    set_word(t, area, RANGE, x, range);
+    t.set_word(area, RANGE, x, range);
 }
 
 // A new vertex is not marked, and its bridge-block, named by its number, has no marks.
-fn new_marks(t: &mut [u32], limits: Limits, x: Vertex)
-    ensures { t.new ≡ new_marks t.old limits x.0 }
+#[tactic(auto, unfolding(crate::specs::Inside::Tree::new_marks))]
+fn new_marks(t: &mut Table, x: Vertex)
+    ensures words { t.new.words.now ≡ new_marks t.old.words.now t.old.shape.limits x.0 }
+    ensures same { IsSame t.old t.new }
 {
-    set_word(t, bridge_block_area(limits), MARK_COUNT, x.0, 0);
-    set_word(t, vertex_area(limits), MARK, x.0, 0);
+    t.set_word(t.bridge_block_area(), MARK_COUNT, x.0, 0);
+    t.set_word(t.vertex_area(), MARK, x.0, 0);
 }
 
 // One vertex more: a component, a bridge-block and a root by itself, not marked.
-pub(crate) fn grow_vertex(t: &mut [u32], limits: Limits, x: Vertex)
-    ensures { t.new ≡ vertex_table t.old limits x.0 }
+#[tactic(auto, unfolding(crate::specs::Inside::Tree::vertex_table))]
+pub(crate) fn grow_vertex(t: &mut Table, x: Vertex)
+    ensures words { t.new.words.now ≡ vertex_table t.old.words.now t.old.shape.limits x.0 }
+    ensures same { IsSame t.old t.new }
 {
-    new_group(t, vertex_area(limits), x.0);
-    new_group(t, bridge_block_area(limits), x.0);
-    set_word(t, vertex_area(limits), UP, x.0, 0);
-    set_word(t, vertex_area(limits), DEPTH, x.0, 0);
-    new_marks(t, limits, x);
+    new_group(t, t.vertex_area(), x.0);
+    new_group(t, t.bridge_block_area(), x.0);
+    t.set_word(t.vertex_area(), UP, x.0, 0);
+    t.set_word(t.vertex_area(), DEPTH, x.0, 0);
+    new_marks(t, x);
 }
 
 // The vertex is marked, and its bridge-block has one mark more.
-pub(crate) fn mark_vertex(t: &mut [u32], limits: Limits, x: Vertex)
-    ensures { t.new ≡ mark_table t.old limits x.0 }
+#[tactic(auto, unfolding(crate::specs::Inside::Tree::mark_table))]
+pub(crate) fn mark_vertex(t: &mut Table, x: Vertex)
+    ensures words { t.new.words.now ≡ mark_table t.old.words.now t.old.shape.limits x.0 }
+    ensures same { IsSame t.old t.new }
 {
-    let name = word(t, bridge_block_area(limits), NAME, x.0);
-    let marks = word(t, bridge_block_area(limits), MARK_COUNT, name);
-    let more = std::num::wrapping_add_u32(marks, 1);
-    set_word(t, bridge_block_area(limits), MARK_COUNT, name, more);
-    set_word(t, vertex_area(limits), MARK, x.0, 1);
+    let name = t.word(t.bridge_block_area(), NAME, x.0);
+    let marks = t.word(t.bridge_block_area(), MARK_COUNT, name);
+    let more = marks.wrapping_add(1);
+    t.set_word(t.bridge_block_area(), MARK_COUNT, name, more);
+    t.set_word(t.vertex_area(), MARK, x.0, 1);
 }
 
 // Raises the depths of the vertices written down as changed.
-fn raise(t: &mut [u32], limits: Limits, changed: u32, by: u32)
-    ensures { t.new ≡ raise_from changed t.old limits by 0 }
+#[tactic(auto, using(crate::proofs::TreeSteps::raise_step, crate::proofs::TreeSteps::raise_end))]
+fn raise(t: &mut Table, changed: u32, by: u32)
+    ensures words { t.new.words.now ≡ raise_from changed t.old.words.now t.old.shape.limits by 0 }
+    ensures same { IsSame t.old t.new }
 {
-    let mut i: u32 = 0;
-    while i < changed {
-        let x = word(t, vertex_area(limits), CHANGED, i);
-        let old = word(t, vertex_area(limits), DEPTH, x);
-        let new = std::num::wrapping_add_u32(old, by);
-        set_word(t, vertex_area(limits), DEPTH, x, new);
-        i += 1;
+    for i in 0..changed {
+        let x = t.word(t.vertex_area(), CHANGED, i);
+        let old = t.word(t.vertex_area(), DEPTH, x);
+        t.set_word(t.vertex_area(), DEPTH, x, old.wrapping_add(by));
     }
 }
 
 // One vertex of a way up that is turned round.
-fn turn_one(t: &mut [u32], limits: Limits, s: Turning) -> Turning
+#[tactic(auto, unfolding(crate::specs::Inside::Tree::hung_vertex, crate::specs::Inside::Tree::hung_block, crate::specs::Inside::Tree::turned_table, crate::specs::Inside::Tree::turned_state, crate::specs::Inside::Climb::above_edge))]
+fn turn_one(t: &mut Table, s: Turning) -> Turning
     requires { 0 < s.left }
-    ensures { (t.new ≡ turned_table t.old limits s) × (result ≡ turned_state t.old limits s) }
+    ensures words { t.new.words.now ≡ turned_table t.old.words.now t.old.shape.limits s }
+    ensures state { result ≡ turned_state t.old.words.now t.old.shape.limits s }
+    ensures same { IsSame t.old t.new }
 {
     let at = s.at;
-    let above = up(t, limits, at);
-    set_word(t, vertex_area(limits), UP, at.0, s.up);
-    set_word(t, vertex_area(limits), DEPTH, at.0, s.depth);
+    let above = up(t, at);
+    t.set_word(t.vertex_area(), UP, at.0, s.up);
+    t.set_word(t.vertex_area(), DEPTH, at.0, s.depth);
     if above == 0 {
         return Turning {
             at: at,
@@ -96,10 +107,10 @@ fn turn_one(t: &mut [u32], limits: Limits, s: Turning) -> Turning
         };
     }
     let edge = above - 1;
-    let block = block_of(t, limits, Edge(edge));
-    let next = top(t, limits, block);
-    set_word(t, edge_area(limits), TOP, block.0, at.0);
-    let deeper = std::num::wrapping_add_u32(s.depth, 1);
+    let block = block_of(t, Edge(edge));
+    let next = top(t, block);
+    t.set_word(t.edge_area(), TOP, block.0, at.0);
+    let deeper = s.depth.wrapping_add(1);
     let left = s.left - 1;
     Turning {
         at: next,
@@ -110,28 +121,31 @@ fn turn_one(t: &mut [u32], limits: Limits, s: Turning) -> Turning
 }
 
 // The way up from a vertex turned round.
-fn turn(t: &mut [u32], limits: Limits, s: Turning)
-    ensures { t.new ≡ turn_from s.left t.old limits s.at.0 s.up s.depth }
+#[tactic(auto, using(crate::proofs::TreeSteps::turn_step, crate::proofs::TreeSteps::turn_end, crate::proofs::TreeSteps::turn_less))]
+fn turn(t: &mut Table, s: Turning)
+    ensures words { t.new.words.now ≡ turn_from s.left t.old.words.now t.old.shape.limits s.at.0 s.up s.depth }
+    ensures same { IsSame t.old t.new }
 {
     let mut state = s;
     while 0 < state.left {
-        state = turn_one(t, limits, state);
+        state = turn_one(t, state);
     }
 }
 
 // The component of u hung below v by the new edge e.
-fn hang(t: &mut [u32], limits: Limits, e: Edge, u: Vertex, v: Vertex, changed: u32)
+#[tactic(auto, unfolding(crate::specs::Inside::Tree::hang_table))]
+fn hang(t: &mut Table, e: Edge, u: Vertex, v: Vertex, changed: u32)
     requires { e.0 < 4294967295 }
-    ensures { t.new ≡ hang_table t.old limits e.0 u.0 v.0 changed }
+    ensures words { t.new.words.now ≡ hang_table t.old.words.now t.old.shape.limits e.0 u.0 v.0 changed }
+    ensures same { IsSame t.old t.new }
 {
-    let below = depth(t, limits, u);
-    let start = std::num::wrapping_add_u32(depth(t, limits, v), 1);
-    raise(t, limits, changed, std::num::wrapping_add_u32(start, below));
-    new_group(t, edge_area(limits), e.0);
-    set_word(t, edge_area(limits), TOP, e.0, v.0);
+    let below = depth(t, u);
+    let start = depth(t, v).wrapping_add(1);
+    raise(t, changed, start.wrapping_add(below));
+    new_group(t, t.edge_area(), e.0);
+    t.set_word(t.edge_area(), TOP, e.0, v.0);
     turn(
         t,
-        limits,
         Turning {
             at: u,
             up: e.0 + 1,
@@ -143,8 +157,7 @@ fn hang(t: &mut [u32], limits: Limits, e: Edge, u: Vertex, v: Vertex, changed: u
 
 // The component that loses its name hung below the other by the new edge e: that of b where a keeps its name, else that of a.
 fn hang_loser(
-    t: &mut [u32],
-    limits: Limits,
+    t: &mut Table,
     e: Edge,
     a: Vertex,
     b: Vertex,
@@ -152,33 +165,35 @@ fn hang_loser(
     changed: u32,
 )
     requires { e.0 < 4294967295 }
-    ensures { t.new ≡ hang_table t.old limits e.0 (if keeps then b.0 else a.0) (if keeps then a.0 else b.0) changed }
+    ensures words { t.new.words.now ≡ hang_table t.old.words.now t.old.shape.limits e.0 (if keeps then b.0 else a.0) (if keeps then a.0 else b.0) changed }
+    ensures same { IsSame t.old t.new }
 {
     if keeps {
-        hang(t, limits, e, b, a, changed);
+        hang(t, e, b, a, changed);
     } else {
-        hang(t, limits, e, a, b, changed);
+        hang(t, e, a, b, changed);
     }
 }
 
 // Links two components by the new edge e: the one that loses its name is hung below the other.
-fn link(t: &mut [u32], limits: Limits, e: Edge, a: Vertex, b: Vertex) -> Growth
+#[tactic(auto, unfolding(crate::specs::Inside::Tree::link_grown, crate::specs::Inside::Tree::list_ends, crate::specs::Inside::Tree::path_vertices))]
+fn link(t: &mut Table, e: Edge, a: Vertex, b: Vertex) -> Growth
     requires { e.0 < 4294967295 }
-    ensures { GrowsTo t.new result (link_grown t.old limits e.0 a.0 b.0) }
+    ensures grown { GrowsTo t.new.words.now result (link_grown t.old.words.now t.old.shape.limits e.0 a.0 b.0) }
+    ensures same { IsSame t.old t.new }
 {
-    let name = word(t, vertex_area(limits), NAME, a.0);
-    set_word(t, vertex_area(limits), PATH_VERTEX, 0, a.0);
-    set_word(t, vertex_area(limits), PATH_VERTEX, 1, b.0);
-    let m = merge(
-        t,
-        vertex_area(limits),
+    let name = t.word(t.vertex_area(), NAME, a.0);
+    t.set_word(t.vertex_area(), PATH_VERTEX, 0, a.0);
+    t.set_word(t.vertex_area(), PATH_VERTEX, 1, b.0);
+    let m = t.merge(
+        t.vertex_area(),
         Listing {
-            area: vertex_area(limits),
+            area: t.vertex_area(),
             column: PATH_VERTEX,
             count: 2,
         },
     );
-    hang_loser(t, limits, e, a, b, name == m.name, m.changed);
+    hang_loser(t, e, a, b, name == m.name, m.changed);
     Growth {
         components: m.changed,
         bridge_blocks: 0,
@@ -188,66 +203,70 @@ fn link(t: &mut [u32], limits: Limits, e: Edge, a: Vertex, b: Vertex) -> Growth
 }
 
 // Puts the new edge e into the block named w, below the vertex v.
-fn enter_block(t: &mut [u32], limits: Limits, e: Edge, w: u32, v: Vertex)
-    ensures { t.new ≡ enter_block t.old limits e.0 w v.0 }
+#[tactic(auto, unfolding(crate::specs::Inside::Tree::enter_block, table::specs::Inside::Merge::least_of))]
+fn enter_block(t: &mut Table, e: Edge, w: u32, v: Vertex)
+    ensures words { t.new.words.now ≡ enter_block t.old.words.now t.old.shape.limits e.0 w v.0 }
+    ensures same { IsSame t.old t.new }
 {
-    let size = std::num::wrapping_add_u32(word(t, edge_area(limits), SIZE, w), 1);
-    let range = (word(t, edge_area(limits), RANGE, w) / 65536) * 65536 + e.0 % 65536;
-    set_word(t, edge_area(limits), NAME, e.0, w);
-    set_word(t, edge_area(limits), SIZE, w, size);
-    set_word(t, edge_area(limits), RANGE, w, range);
-    set_word(t, edge_area(limits), TOP, w, v.0);
+    let size = t.word(t.edge_area(), SIZE, w).wrapping_add(1);
+    let range = (t.word(t.edge_area(), RANGE, w) / 65536) * 65536 + e.0 % 65536;
+    t.set_word(t.edge_area(), NAME, e.0, w);
+    t.set_word(t.edge_area(), SIZE, w, size);
+    t.set_word(t.edge_area(), RANGE, w, range);
+    t.set_word(t.edge_area(), TOP, w, v.0);
 }
 
 // Whether the path has one step, and the new edge e lies in the duct of the edge of that step.
-fn in_step_duct(t: &[u32], limits: Limits, e: Edge, steps: u32) -> bool
-    ensures { result ≡ in_step_duct t.now limits e.0 steps }
+#[tactic(auto, unfolding(crate::specs::Inside::Tree::in_step_duct))]
+fn in_step_duct(t: &Table, e: Edge, steps: u32) -> bool
+    ensures { result ≡ in_step_duct t.now.words.now t.now.shape.limits e.0 steps }
 {
     if steps != 1 {
         return false;
     }
-    let other = word(t, vertex_area(limits), PATH_EDGE, 0);
-    duct_of(t, limits, Edge(other)) == duct_of(t, limits, e)
+    let other = t.word(t.vertex_area(), PATH_EDGE, 0);
+    duct_of(t, Edge(other)) == duct_of(t, e)
 }
 
 // How many of the path's vertices have their bridge-blocks merged: only the first, which changes nothing, where e lies in the step's duct.
-fn merged_vertices(t: &[u32], limits: Limits, e: Edge, steps: u32) -> u32
+#[tactic(auto, unfolding(crate::specs::Inside::Tree::merged_vertices))]
+fn merged_vertices(t: &Table, e: Edge, steps: u32) -> u32
     requires { steps < 4294967295 }
-    ensures { result ≡ merged_vertices t.now limits e.0 steps }
+    ensures { result ≡ merged_vertices t.now.words.now t.now.shape.limits e.0 steps }
 {
-    if in_step_duct(t, limits, e, steps) {
+    if in_step_duct(t, e, steps) {
         return 1;
     }
     steps + 1
 }
 
 // Condenses the path between a and b by the new edge e.
-fn condense(t: &mut [u32], limits: Limits, e: Edge, a: Vertex, b: Vertex) -> Growth
-    ensures { GrowsTo t.new result (condense_grown t.old limits e.0 a.0 b.0) }
+#[tactic(auto, unfolding(crate::specs::Inside::Tree::condense_grown, crate::specs::Inside::Tree::path_vertices, crate::specs::Inside::Tree::path_edges), using(crate::proofs::TreeSteps::route_most))]
+fn condense(t: &mut Table, e: Edge, a: Vertex, b: Vertex) -> Growth
+    ensures grown { GrowsTo t.new.words.now result (condense_grown t.old.words.now t.old.shape.limits e.0 a.0 b.0) }
+    ensures same { IsSame t.old t.new }
 {
-    let route = climb(t, limits, a, b);
+    let route = climb(t, a, b);
     let steps = route.steps;
-    let vertices = merged_vertices(t, limits, e, steps);
-    let bridge_blocks = merge(
-        t,
-        bridge_block_area(limits),
+    let vertices = merged_vertices(t, e, steps);
+    let bridge_blocks = t.merge(
+        t.bridge_block_area(),
         Listing {
-            area: vertex_area(limits),
+            area: t.vertex_area(),
             column: PATH_VERTEX,
             count: vertices,
         },
     );
-    let blocks = merge(
-        t,
-        edge_area(limits),
+    let blocks = t.merge(
+        t.edge_area(),
         Listing {
-            area: vertex_area(limits),
+            area: t.vertex_area(),
             column: PATH_EDGE,
             count: steps,
         },
     );
     let v = route.top;
-    enter_block(t, limits, e, blocks.name, v);
+    enter_block(t, e, blocks.name, v);
     Growth {
         components: 0,
         bridge_blocks: bridge_blocks.changed,
@@ -257,32 +276,35 @@ fn condense(t: &mut [u32], limits: Limits, e: Edge, a: Vertex, b: Vertex) -> Gro
 }
 
 // Stores the new edge e: its ends in one word, its duct in another.
-fn store_edge(t: &mut [u32], limits: Limits, e: Edge, a: Vertex, b: Vertex, duct: Duct)
-    ensures { t.new ≡ edge_table t.old limits e.0 a.0 b.0 duct.0 }
+#[tactic(auto, unfolding(crate::specs::Inside::Tree::edge_table))]
+fn store_edge(t: &mut Table, e: Edge, a: Vertex, b: Vertex, duct: Duct)
+    ensures words { t.new.words.now ≡ edge_table t.old.words.now t.old.shape.limits e.0 a.0 b.0 duct.0 }
+    ensures same { IsSame t.old t.new }
 {
     let ends = (a.0 % 65536) * 65536 + b.0 % 65536;
-    set_word(t, edge_area(limits), ENDS, e.0, ends);
-    set_word(t, edge_area(limits), DUCT, e.0, duct.0 as u32);
+    t.set_word(t.edge_area(), ENDS, e.0, ends);
+    t.set_word(t.edge_area(), DUCT, e.0, duct.0 as u32);
 }
 
 // One edge more, between two different vertices, in a duct, which is 0 where none is told.
+#[tactic(auto, unfolding(crate::specs::Inside::Tree::edge_grown))]
 pub(crate) fn grow_edge(
-    t: &mut [u32],
-    limits: Limits,
+    t: &mut Table,
     e: Edge,
     a: Vertex,
     b: Vertex,
     duct: Duct,
 ) -> Growth
     requires { e.0 < 4294967295 }
-    ensures { GrowsTo t.new result (edge_grown t.old limits e.0 a.0 b.0 duct.0) }
+    ensures grown { GrowsTo t.new.words.now result (edge_grown t.old.words.now t.old.shape.limits e.0 a.0 b.0 duct.0) }
+    ensures same { IsSame t.old t.new }
 {
-    store_edge(t, limits, e, a, b, duct);
-    let left = word(t, vertex_area(limits), NAME, a.0);
-    let right = word(t, vertex_area(limits), NAME, b.0);
+    store_edge(t, e, a, b, duct);
+    let left = t.word(t.vertex_area(), NAME, a.0);
+    let right = t.word(t.vertex_area(), NAME, b.0);
     if left == right {
-        condense(t, limits, e, a, b)
+        condense(t, e, a, b)
     } else {
-        link(t, limits, e, a, b)
+        link(t, e, a, b)
     }
 }

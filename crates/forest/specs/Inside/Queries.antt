@@ -1,12 +1,11 @@
 -- What the questions read off the table, step by step.
-use Rattle.std.specs.Prelude.{ℕ, zero, suc, ◌+◌, ◌-◌, ◌/◌, ◌%◌, Bool, cond, not, ◌&&◌, ◌||◌, List, ◌==◌}
+use Rattle.std.specs.Prelude.{ℕ, zero, suc, ◌+◌, ◌-◌, ◌/◌, ◌%◌, Bool, cond, not, ◌&&◌, ◌||◌, List, Option, Some, None, ◌==◌}
 use Rattle.graph.specs.Below.{tabulate}
 use Rattle.numbers.specs.declared.Limits.{Limits}
 use Rattle.table.specs.Inside.Column
 use Rattle.table.specs.Inside.Layout.{cell, put, vertex_area, bridge_block_area, edge_area}
 use Rattle.table.specs.Inside.Merge.{name_in}
-use Rattle.forest.specs.declared.Shared.{Shared}
-use Rattle.forest.specs.declared.Shared.TheVariants.{Block, Nothing}
+use Rattle.numbers.specs.declared.Edge.{Edge}
 use Rattle.forest.specs.Inside.Words.{duct_of}
 use Rattle.forest.specs.Inside.Climb.{up_of, block_of, top_of, path_vertex, path_edge, climb_table, climb_route}
 
@@ -53,15 +52,15 @@ unfoldable pub block_above : List ℕ → Limits → ℕ → ℕ
 block_above t limits x = block_of t limits (up_of t limits x - 1)
 
 -- Two vertices share a block if the blocks above them are one, or one of them is above the other's block.
-unfoldable pub shared_in : List ℕ → Limits → ℕ → ℕ → Shared
+unfoldable pub shared_in : List ℕ → Limits → ℕ → ℕ → Option Edge
 shared_in t limits a b =
     cond
     (hang_together t limits a b)
-    (Block (record { 0 = block_above t limits a }))
+    (Some (record { 0 = block_above t limits a }))
     (cond
     (hangs_from t limits a b)
-    (Block (record { 0 = block_above t limits a }))
-    (cond (hangs_from t limits b a) (Block (record { 0 = block_above t limits b })) Nothing))
+    (Some (record { 0 = block_above t limits a }))
+    (cond (hangs_from t limits b a) (Some (record { 0 = block_above t limits b })) None))
 
 -- The first k bridges that are written down.
 unfoldable pub bridges_written : Limits → ℕ → List ℕ → List ℕ

@@ -1,10 +1,8 @@
 -- The survey that the table keeps of an edge, and what a survey more does to the words.
-use Rattle.std.specs.Prelude.{ℕ, ◌+◌, ◌*◌, ◌/◌, ◌%◌, Bool, cond, not, ◌||◌, List, nat_le, nat_lt}
+use Rattle.std.specs.Prelude.{ℕ, ◌+◌, ◌*◌, ◌/◌, ◌%◌, Bool, cond, not, ◌||◌, List, Option, Some, None, nat_le, nat_lt}
 use Rattle.numbers.specs.declared.Limits.{Limits}
 use Rattle.table.specs.Inside.Column
 use Rattle.table.specs.Inside.Layout.{cell, put, edge_area}
-use Rattle.forest.specs.declared.Length.{Length}
-use Rattle.forest.specs.declared.Length.TheVariants.{Metres, Nothing}
 use Rattle.forest.specs.Inside.Words.{duct_of}
 
 -- A survey of edge s is kept: the upper half of its duct's word is not 0.
@@ -32,5 +30,5 @@ unfoldable pub survey_table : List ℕ → Limits → ℕ → ℕ → ℕ → Li
 survey_table t limits s day metres = cond (is_replaced t limits s day) (survey_stored t limits s day metres) t
 
 -- The metres of the survey that is kept.
-unfoldable pub length_in : List ℕ → Limits → ℕ → Length
-length_in t limits s = cond (is_surveyed t limits s) (Metres (kept_metres t limits s)) Nothing
+unfoldable pub length_in : List ℕ → Limits → ℕ → Option ℕ
+length_in t limits s = cond (is_surveyed t limits s) (Some (kept_metres t limits s)) None

@@ -1,9 +1,11 @@
-use Rattle.std.proofs.Common.{◌≡◌, ◌+◌, length}
+use Rattle.std.proofs.Common.{◌≡◌, ◌+◌, ◌-◌}
+use Rattle.table.specs.Same.{IsSame}
 use Rattle.forest.specs.Inside.Climb.{join_from}
 use Rattle.forest.proofs.climb.join.Given as goal
 
-abbrev pub invariant-loop-k : goal.invariant-loop-k
-invariant-loop-k l = (l.at + l.k ≡ l.kept + l.right) × (length l.t ≡ length l.initial.t) × (join_from l.k l.t l.limits l.at ≡ join_from l.right l.initial.t l.limits l.kept)
-
-abbrev pub decreases-loop-k : goal.decreases-loop-k
-decreases-loop-k l = l.k
+-- joining what is left to what is there gives the whole joined table
+abbrev pub invariant-loop-step : goal.invariant-loop-step
+invariant-loop-step l =
+    (join_from (l.right - l.step) l.t.words.now l.t.shape.limits (l.kept + l.step)
+    ≡ join_from l.right l.initial.t.words.now l.initial.t.shape.limits l.kept)
+    × IsSame l.initial.t l.t

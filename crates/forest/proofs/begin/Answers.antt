@@ -1,6 +1,0 @@
--- `begin`: any table that is long enough holds the empty book.
-use Rattle.forest.proofs.EmptyTable.{begun}
-use Rattle.forest.proofs.begin.Goals as goal
-
-pub returns : goal.returns
-returns c = begun c.args.limits c.args.t.now c.requires.2 c.requires.0 c.requires.1
