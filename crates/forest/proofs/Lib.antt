@@ -39,6 +39,7 @@ pub mod LinkTable
 pub mod Marks
 pub mod MarkWords
 pub mod NamesStay
+pub mod Operations
 pub mod Networks
 pub mod QueryBridges
 pub mod QueryCuts

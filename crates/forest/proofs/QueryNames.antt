@@ -20,17 +20,17 @@ use Rattle.forest.specs.Promise.{Holds, state_of, book_in, network_in, vertex_na
 use Rattle.forest.proofs.Networks.{edge_count_lem, network_rule}
 
 -- the name of a vertex is the one in the book's list
-pub group-name : (shape : Shape) (t : List ℕ) (groups : VertexGroups) (x : ℕ) → x < shape.vertices
+pub group_name : (shape : Shape) (t : List ℕ) (groups : VertexGroups) (x : ℕ) → x < shape.vertices
     → name_in t (group_area shape.limits groups) x ≡ name_of (vertex_names groups (book_in shape t)) x
 unfolding state_of book_of
-group-name shape t G.Components x h = sym (name_in_list t (vertex_area shape.limits) shape.vertices x h)
-group-name shape t G.BridgeBlocks x h = sym (name_in_list t (bridge_block_area shape.limits) shape.vertices x h)
+group_name shape t G.Components x h = sym (name_in_list t (vertex_area shape.limits) shape.vertices x h)
+group_name shape t G.BridgeBlocks x h = sym (name_in_list t (bridge_block_area shape.limits) shape.vertices x h)
 
 -- and so is that of an edge
-pub block-name : (shape : Shape) (t : List ℕ) (s : ℕ) → s < shape.edges
+pub block_name_lem : (shape : Shape) (t : List ℕ) (s : ℕ) → s < shape.edges
     → name_in t (edge_area shape.limits) s ≡ name_of (book_in shape t).blocks s
 unfolding state_of book_of
-block-name shape t s h = sym (name_in_list t (edge_area shape.limits) shape.edges s h)
+block_name_lem shape t s h = sym (name_in_list t (edge_area shape.limits) shape.edges s h)
 
 -- the size of the group of a vertex's name is that of its group
 pub group_size_lem : (shape : Shape) (t : List ℕ) → Holds shape t → (groups : VertexGroups) (x : ℕ) → x < shape.vertices

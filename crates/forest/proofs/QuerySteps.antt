@@ -1,8 +1,8 @@
 -- How the model of finding bridges goes on along a path: one step more, and no step left.
-use Rattle.std.proofs.Common.{◌≡◌, ℕ, suc, ◌+◌, ◌-◌, ◌<◌, ◌≤◌, Bool, true, false, cond, List, ap, add-one, arith}
+use Rattle.std.proofs.Common.{◌≡◌, ℕ, suc, ◌+◌, ◌-◌, ◌<◌, ◌≤◌, Bool, true, false, cond, List, add-one, arith}
 use Rattle.numbers.specs.declared.Limits.{Limits}
 use Rattle.forest.specs.Inside.Climb.{path_vertex}
-use Rattle.forest.specs.Inside.Queries.{Found, bridge_blocks_differ, find_table, find_count, find_from}
+use Rattle.forest.specs.Inside.Queries.{bridge_blocks_differ, find_table, find_count, find_from}
 
 module _ (t : List ℕ) (limits : Limits) where
   -- the next step of the path is looked at, and then the rest

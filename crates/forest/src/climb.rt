@@ -5,9 +5,7 @@ ghost use Rattle.forest.specs.Inside.Climb.{up_of, depth_of, block_of, top_of, a
 ghost use Rattle.forest.specs.Inside.Climb.{nested_most, climb_from, climb_from_block, kept_left, join_one, join_from, reach, climb_table, climb_route};
 
 use numbers::{Edge, Vertex};
-use table::words::{
-    DEPTH, NAME, PATH_EDGE, PATH_VERTEX, RIGHT_EDGE, RIGHT_VERTEX, TOP, Table, UP,
-};
+use table::words::{DEPTH, NAME, PATH_EDGE, PATH_VERTEX, RIGHT_EDGE, RIGHT_VERTEX, TOP, Table, UP};
 
 // How many steps of a climb nest in one another at most: what bounds the stack. A climb of no more steps is one nest of calls.
 const NESTED: u32 = 12;
@@ -111,14 +109,7 @@ fn record_step(t: &mut Table, r: Trail, e: Edge, v: Vertex, on_right: bool) -> T
 // are made as remain. The numbers of a trail come apart, since they are passed at every step.
 #[tactic(auto, unfolding(crate::specs::Inside::Climb::climb_from_block), using(crate::proofs::ClimbSteps::climb_met, crate::proofs::ClimbSteps::climb_none, crate::proofs::ClimbSteps::climb_root, crate::proofs::ClimbSteps::climber_up, crate::proofs::ClimbSteps::climb_by_block))]
 #[cycle(from_block_from_vertex)]
-fn from_vertex(
-    t: &mut Table,
-    a: Vertex,
-    b: Vertex,
-    left: u32,
-    right: u32,
-    remaining: u32,
-) -> Trail
+fn from_vertex(t: &mut Table, a: Vertex, b: Vertex, left: u32, right: u32, remaining: u32) -> Trail
     requires { left + right + remaining < 4294967295 }
     ensures words { t.new.words.now ≡ (climb_from remaining t.old.words.now t.old.shape.limits (record { a = a; b = b; left = left; right = right })).table }
     ensures trail { result ≡ (climb_from remaining t.old.words.now t.old.shape.limits (record { a = a; b = b; left = left; right = right })).trail }
@@ -143,13 +134,7 @@ fn from_vertex(
 // From the block of an edge to the vertex above it, which is a step, and on from there with as many steps as remain.
 #[tactic(auto, unfolding(crate::specs::Inside::Climb::climb_from_block), using(crate::proofs::ClimbSteps::climb_met, crate::proofs::ClimbSteps::climb_none, crate::proofs::ClimbSteps::climb_root, crate::proofs::ClimbSteps::climber_up, crate::proofs::ClimbSteps::climb_by_block))]
 #[cycle(from_block_from_vertex)]
-fn from_block(
-    t: &mut Table,
-    r: Trail,
-    e: Edge,
-    on_right: bool,
-    remaining: u32,
-) -> Trail
+fn from_block(t: &mut Table, r: Trail, e: Edge, on_right: bool, remaining: u32) -> Trail
     requires { r.left + r.right + remaining + 1 < 4294967295 }
     ensures words { t.new.words.now ≡ (climb_from_block remaining t.old.words.now t.old.shape.limits r e.0 on_right).table }
     ensures trail { result ≡ (climb_from_block remaining t.old.words.now t.old.shape.limits r e.0 on_right).trail }

@@ -91,6 +91,7 @@ pub fn clear(t: &mut [u32], count: usize)
 
 impl<'a> Network<'a> {
     // Begins a run: whatever the words are, the table holds a network without vertices and edges.
+    #[tactic(auto, using(crate::proofs::EmptyTable::begun))]
     pub fn new(words: &'a mut [u32], limits: Limits) -> Network<'a>
         requires { (limits.vertices ≤ 4096) × (limits.edges ≤ 8192) × (words_needed limits ≤ length words.old) }
         ensures begun { Begun limits result.table.words.now result.table.shape }
@@ -144,6 +145,7 @@ impl Network<'_> {
     }
 
     // Whether a vertex is marked.
+    #[tactic(auto, using(crate::proofs::Marks::marked_is))]
     pub fn is_marked(&self, x: Vertex) -> bool
         requires { x.0 < self.now.table.shape.vertices }
         ensures { result ≡ (state_of self.now.table.shape self.now.table.words.now).marked x.0 }
@@ -152,6 +154,7 @@ impl Network<'_> {
     }
 
     // How many of the vertices in a vertex's bridge-block are marked.
+    #[tactic(auto, using(crate::proofs::Marks::marks_are))]
     pub fn marks_with(&self, x: Vertex) -> u32
         requires { x.0 < self.now.table.shape.vertices }
         ensures { result ≡ marks_with (state_of self.now.table.shape self.now.table.words.now) x.0 }
@@ -171,6 +174,7 @@ impl Network<'_> {
     }
 
     // The length of an edge in metres, by the survey that holds, if there is one.
+    #[tactic(auto, using(crate::proofs::Surveys::length_is))]
     pub fn length_of(&self, s: Edge) -> Option<u32>
         requires { s.0 < self.now.table.shape.edges }
         ensures { result ≡ length_given (holding (state_of self.now.table.shape self.now.table.words.now).surveys s.0) }
@@ -179,6 +183,7 @@ impl Network<'_> {
     }
 
     // The group of a vertex.
+    #[tactic(auto, using(crate::proofs::QueryNames::group_name, crate::proofs::QueryNames::group_size_lem))]
     pub fn group_of(&self, groups: VertexGroups, x: Vertex) -> Group
         requires { x.0 < self.now.table.shape.vertices }
         ensures name { result.name.0 ≡ name_of (vertex_names groups (book_in self.now.table.shape self.now.table.words.now)) x.0 }
@@ -194,6 +199,7 @@ impl Network<'_> {
     }
 
     // Whether two vertices share a group.
+    #[tactic(auto, using(crate::proofs::Operations::shares_group))]
     pub fn same_group(&self, groups: VertexGroups, a: Vertex, b: Vertex) -> bool
         requires { (a.0 < self.now.table.shape.vertices) × (b.0 < self.now.table.shape.vertices) }
         ensures { result ≡ vertex_groups groups (network_in self.now.table.shape self.now.table.words.now) a.0 b.0 }
@@ -203,6 +209,7 @@ impl Network<'_> {
     }
 
     // The block name of an edge.
+    #[tactic(auto, using(crate::proofs::QueryNames::block_name_lem))]
     pub fn block_name(&self, s: Edge) -> Edge
         requires { s.0 < self.now.table.shape.edges }
         ensures { result.0 ≡ name_of (book_in self.now.table.shape self.now.table.words.now).blocks s.0 }
@@ -211,6 +218,7 @@ impl Network<'_> {
     }
 
     // The two ends of an edge.
+    #[tactic(auto, using(crate::proofs::Operations::tells_left, crate::proofs::Operations::tells_right))]
     pub fn ends_of(&self, s: Edge) -> Ends
         requires { s.0 < self.now.table.shape.edges }
         ensures left { result.left.0 ≡ (edge (network_in self.now.table.shape self.now.table.words.now) s.0).left }
@@ -224,6 +232,7 @@ impl Network<'_> {
     }
 
     // Whether two edges are mates: one edge, or lost together.
+    #[tactic(auto, using(crate::proofs::Operations::tells_same, crate::proofs::Operations::tells_other))]
     pub fn are_mates(&self, s: Edge, other: Edge) -> bool
         requires { (s.0 < self.now.table.shape.edges) × (other.0 < self.now.table.shape.edges) }
         ensures { result ≡ mates (network_in self.now.table.shape self.now.table.words.now) s.0 other.0 }
@@ -232,6 +241,7 @@ impl Network<'_> {
     }
 
     // The block that has an edge at each of two different vertices, by its name, if there is one.
+    #[tactic(auto, using(crate::proofs::Operations::tells_shared))]
     pub fn shared_block(&self, a: Vertex, b: Vertex) -> Option<Edge>
         requires { (a.0 < self.now.table.shape.vertices) × (b.0 < self.now.table.shape.vertices) × (a.0 ≢ b.0) }
         ensures { result ≡ shared_name (book_in self.now.table.shape self.now.table.words.now).blocks (shared_block (network_in self.now.table.shape self.now.table.words.now) a.0 b.0) }
@@ -240,6 +250,7 @@ impl Network<'_> {
     }
 
     // Whether an edge is a bridge.
+    #[tactic(auto, using(crate::proofs::Operations::tells_bridge))]
     pub fn is_bridge(&self, s: Edge) -> bool
         requires { s.0 < self.now.table.shape.edges }
         ensures { result ≡ bridge (network_in self.now.table.shape self.now.table.words.now) s.0 }

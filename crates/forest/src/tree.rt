@@ -156,14 +156,7 @@ fn hang(t: &mut Table, e: Edge, u: Vertex, v: Vertex, changed: u32)
 }
 
 // The component that loses its name hung below the other by the new edge e: that of b where a keeps its name, else that of a.
-fn hang_loser(
-    t: &mut Table,
-    e: Edge,
-    a: Vertex,
-    b: Vertex,
-    keeps: bool,
-    changed: u32,
-)
+fn hang_loser(t: &mut Table, e: Edge, a: Vertex, b: Vertex, keeps: bool, changed: u32)
     requires { e.0 < 4294967295 }
     ensures words { t.new.words.now ≡ hang_table t.old.words.now t.old.shape.limits e.0 (if keeps then b.0 else a.0) (if keeps then a.0 else b.0) changed }
     ensures same { IsSame t.old t.new }
@@ -288,13 +281,7 @@ fn store_edge(t: &mut Table, e: Edge, a: Vertex, b: Vertex, duct: Duct)
 
 // One edge more, between two different vertices, in a duct, which is 0 where none is told.
 #[tactic(auto, unfolding(crate::specs::Inside::Tree::edge_grown))]
-pub(crate) fn grow_edge(
-    t: &mut Table,
-    e: Edge,
-    a: Vertex,
-    b: Vertex,
-    duct: Duct,
-) -> Growth
+pub(crate) fn grow_edge(t: &mut Table, e: Edge, a: Vertex, b: Vertex, duct: Duct) -> Growth
     requires { e.0 < 4294967295 }
     ensures grown { GrowsTo t.new.words.now result (edge_grown t.old.words.now t.old.shape.limits e.0 a.0 b.0 duct.0) }
     ensures same { IsSame t.old t.new }

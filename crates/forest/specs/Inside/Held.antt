@@ -9,7 +9,7 @@ use Rattle.graph.specs.Block.{block}
 use Rattle.graph.proofs.Truth.{true_or_false, eqb_eq, eqb_ne}
 use Rattle.numbers.specs.declared.Limits.{Limits}
 use Rattle.forest.specs.Inside.Climb.{up_of, above_edge}
-use Rattle.forest.specs.Inside.Valid.{network_of, HangsBelow, ForestValid, Valid, Sound}
+use Rattle.forest.specs.Inside.Valid.{network_of, HangsBelow, Sound}
 
 -- the edge by which a vertex hangs below a block can be read off the table
 hangs_by_its_edge : {t : List ℕ} {limits : Limits} {g : Network} {e x : ℕ} → HangsBelow t limits g e x
