@@ -77,14 +77,21 @@ pub edges_fit : (shape : Shape) (t : List ℕ) → Holds shape t → shape.edges
 unfolding Holds
 edges_fit shape t holds = (sound holds).valid.edges_fit
 
--- and which are few
-pub few_vertices : (shape : Shape) (t : List ℕ) → Holds shape t → shape.vertices ≤ 4096
+-- of which there are few
+pub small_vertices : (shape : Shape) (t : List ℕ) → Holds shape t → shape.limits.vertices ≤ 4096
 unfolding Holds
-few_vertices shape t holds = omega (arith, (sound holds).valid.vertices_fit, (sound holds).valid.small_vertices)
+small_vertices shape t holds = (sound holds).valid.small_vertices
+
+pub small_edges : (shape : Shape) (t : List ℕ) → Holds shape t → shape.limits.edges ≤ 8192
+unfolding Holds
+small_edges shape t holds = (sound holds).valid.small_edges
+
+-- and so they are few
+pub few_vertices : (shape : Shape) (t : List ℕ) → Holds shape t → shape.vertices ≤ 4096
+few_vertices shape t holds = omega (arith, vertices_fit shape t holds, small_vertices shape t holds)
 
 pub few_edges : (shape : Shape) (t : List ℕ) → Holds shape t → shape.edges ≤ 8192
-unfolding Holds
-few_edges shape t holds = omega (arith, (sound holds).valid.edges_fit, (sound holds).valid.small_edges)
+few_edges shape t holds = omega (arith, edges_fit shape t holds, small_edges shape t holds)
 
 -- each edge joins two different vertices, and which edges are lost together is the table's rule
 pub proper_held : (shape : Shape) (t : List ℕ) → Holds shape t → Proper (network_in shape t)
