@@ -2,7 +2,7 @@
 use mathlib.Core.Bool.{Bool, true, false, not, cond}
 use mathlib.Core.List.{List, ◌∷◌, ◌++◌}
 use mathlib.Core.Logic.{◌⊎◌, inl, inr, ◌≢◌}
-use mathlib.Core.Option.{some}
+use mathlib.Core.Option.{none, some}
 use mathlib.Core.Path.{◌≡◌, refl, sym, ◌∙◌, ap}
 use Prim.Native.Nat.{ℕ, suc, ◌+◌, ◌≤◌, ◌<◌}
 use native.Mathlib.Numerals.{add-one}
@@ -24,11 +24,26 @@ use Rattle.commands.proofs.ReadFront.{behind_of_front}
 use Rattle.commands.proofs.SpelledBack.{command_spelled}
 use Rattle.commands.proofs.EachRewritten.{Is02, Unchanged, each_rewritten}
 use Rattle.commands.proofs.RewrittenText.{span_rewritten}
-use Rattle.reading.specs.Inside.Reads.{whole}
-use Rattle.reading.proofs.PassedAt.{passing_here, command_here, its_own_byte, operands_here, text_goes_on_behind}
+use Rattle.commands.proofs.TextAt.{text_here}
+use Rattle.std.specs.Prelude.{Result, Ok, Err}
+use Rattle.std.specs.Result.{result_unwrap_or}
+use Rattle.reading.specs.declared.read.Taken.{Taken}
+use Rattle.reading.specs.declared.read.Unread.{Unread}
+use Rattle.reading.specs.declared.read.Unread.TheVariants as U
+use Rattle.reading.specs.Inside.Reads.{whole, passing_of}
+use Rattle.reading.proofs.PassedAt.{no_unknown_passed, no_cut_passed, passing_here, command_here, its_own_byte, operands_here, text_goes_on_behind}
 use Rattle.reading.specs.Inside.Places.{reads_at, commands_at}
 use Rattle.rewriting.specs.Inside.Measures.{size_of}
 use Rattle.rewriting.specs.Inside.Writes.{spans_behind, rewritten_at}
+
+-- where a journal is read to its end, what is passed over is a command
+pub one_passed : (journal : List ℕ) (place : ℕ) (at_byte : place < length journal) → (text_here journal place).refusal ≡ none
+    → (passed : Result (Taken ℕ) Unread) → passing_of passed ≡ passing_here journal place at_byte → (never : Taken ℕ)
+    → let head = result_unwrap_or passed never in whole head.command head.width ≡ passing_here journal place at_byte
+unfolding passing_of
+one_passed journal place at_byte read (Ok taken) e never = e
+one_passed journal place at_byte read (Err U.BadByte) e never = absurd (no_unknown_passed journal place at_byte read e)
+one_passed journal place at_byte read (Err U.CutOperands) e never = absurd (no_cut_passed journal place at_byte read e)
 
 -- a 02 adds a span
 span_added_lem : (x y : ℕ) → is_span (addition (add_span x y)) ≡ true

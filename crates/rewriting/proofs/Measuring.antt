@@ -13,7 +13,8 @@ use Rattle.commands.proofs.TextAt.{text_at_end}
 use Rattle.reading.specs.Inside.Reads.{whole}
 use Rattle.reading.specs.Inside.Places.{reads_at, commands_at, Readable}
 use Rattle.reading.proofs.PassedAt.{passing_here, operands_here, whole_behind_passed}
-use Rattle.rewriting.specs.declared.Measured.TheVariants as M
+use Rattle.std.specs.Prelude.{Ok, Err}
+use Rattle.refusals.specs.declared.Refusal.TheVariants as R
 use Rattle.rewriting.specs.Inside.Measures.{size_of, Measures, MeasuredTo}
 use Rattle.rewriting.specs.Inside.Writes.{spans_behind, rewritten_at}
 use Rattle.rewriting.proofs.Going.{told_here, not_told_here, bytes_go_on, size_stands, size_at_most}
@@ -34,7 +35,7 @@ measured_at_start journal r =
 -- A journal that is measured up to a place.
 module _ {journal : List ℕ} {so_far place : ℕ} (m : MeasuredTo journal so_far place) where
   -- at its end the measure is the result's length
-  pub measured_to_end : length journal ≤ place → Measures journal (M.Length so_far)
+  pub measured_to_end : length journal ≤ place → Measures journal (Ok so_far)
   unfolding ends_with first_duct_told rewrite_from journal_bytes
   measured_to_end h =
       let nothing : reads_at journal place ≡ [] = ap (λ t. t.commands) (text_at_end journal place h) in (
@@ -45,8 +46,8 @@ module _ {journal : List ℕ} {so_far place : ℕ} (m : MeasuredTo journal so_fa
   -- A command of a journal of bytes at that place.
   module _ (are : all_bytes journal ≡ true) (at_byte : place < length journal) (byte width : ℕ) (passed : whole byte width ≡ passing_here journal place at_byte) where
     -- a 0B is the first
-    pub first_duct_told_lem : byte ≡ 11 → Measures journal (M.DuctTold place)
-    first_duct_told_lem e = (sym m.same_told ∙ told_here journal are place at_byte byte width passed e, m.in_journal)
+    pub first_duct_told_lem : byte ≡ 11 → Measures journal (Err (record { refusal = R.DuctTold; place = place }))
+    first_duct_told_lem e = (sym m.same_told ∙ told_here journal are place at_byte byte width passed e, refl)
 
     -- behind any other the journal is measured with its size
     pub measured_behind : byte ≢ 11 → MeasuredTo journal (so_far + size_of byte width) (place + 1 + width)

@@ -7,37 +7,37 @@ use Rattle.rewriting.proofs.put_command.Goals as goal
 
 pub put_span-requires : goal.put_span-requires
 unfolding size_of
-put_span-requires c = (c.requires.0, rw (eq-eqb c.args.byte 2 c.if-byte-eq2.true) at c.requires.2)
-
-pub returns-then-byte-eq2 : goal.returns-then-byte-eq2
-returns-then-byte-eq2 c =
-    stored_for_02
-    c.args.journal.now
-    c.args.place
-    c.args.byte
-    c.args.width
-    c.args.spans
-    c.args.out.now
-    c.args.at
-    c.put_span.ensures
-    (omega (arith, c.if-byte-eq2.true))
-    (omega arith)
+put_span-requires c = (c.requires.0, rw (eq-eqb c.args.head.command 2 c.if-head-eq2.true) at c.requires.2)
 
 pub copy-requires : goal.copy-requires
 unfolding size_of
 copy-requires c =
-    let room = rw (ne_eqb c.args.byte 2 c.if-byte-eq2.false) at c.requires.2 in
+    let room = rw (ne_eqb c.args.head.command 2 c.if-head-eq2.false) at c.requires.2 in
     (omega arith, c.requires.0, omega (arith, room))
 
-pub returns : goal.returns
-returns c =
+pub returns-then-head-eq2 : goal.returns-then-head-eq2
+returns-then-head-eq2 c =
+    stored_for_02
+    c.args.reader.journal.now
+    c.args.reader.place
+    c.args.head.command
+    c.args.head.width
+    c.args.spans
+    c.args.out.now
+    c.args.at
+    c.put_span.ensures
+    (omega (arith, c.if-head-eq2.true))
+    (omega arith)
+
+pub returns-else-head-eq2 : goal.returns-else-head-eq2
+returns-else-head-eq2 c =
     stored_for_other
-    c.args.journal.now
-    c.args.place
-    c.args.byte
-    c.args.width
+    c.args.reader.journal.now
+    c.args.reader.place
+    c.args.head.command
+    c.args.head.width
     c.args.spans
     c.args.out.now
     c.args.at
     c.copy.ensures
-    c.if-byte-eq2.false
+    c.if-head-eq2.false

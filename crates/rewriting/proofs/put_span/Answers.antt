@@ -9,13 +9,14 @@ use Rattle.rewriting.proofs.put_span.Goals as goal
 pub returns : goal.returns
 returns c =
     let args = c.args in
-    let to = args.place + 1 + args.width in
+    let from = args.reader.place + 1 in
+    let journal = args.reader.journal.now in
     rw (c.put_two.ensures, c.copy.ensures, c.put_byte.ensures)
     (stored_behind_one
     args.out.now
     args.at
     (args.at + 1 + args.width)
     0x0B
-    (slice (args.place + 1) to args.journal.now)
+    (slice from (from + args.width) journal)
     (two_bytes args.duct)
-    (omega (arith, length-slice (args.place + 1) to args.journal.now c.requires.0)))
+    (omega (arith, length-slice from (from + args.width) journal c.requires.0)))

@@ -1,49 +1,22 @@
 -- `rewrite_into` refuses what the forecast refuses, then a 0B, then a result that is too long, and writes any other.
-use mathlib.Core.List.{List}
-use mathlib.Core.Path.{◌≡◌, sym, ◌∙◌, ap, subst}
-use Prim.Native.Nat.{ℕ}
-use native.Mathlib.Omega.{arith}
-use Rattle.commands.specs.Forecast.{forecast}
-use Rattle.forecast.specs.declared.Forecast.{Forecast}
-use Rattle.forecast.specs.Promise.{foretold}
-use Rattle.reading.specs.Inside.Places.{Readable}
-use Rattle.rewriting.specs.Inside.Measures.{Measures}
+use Rattle.std.proofs.lemmas.Result.{err_from_is_err_and}
 use Rattle.rewriting.proofs.Ends.{readable, refused_as_foretold, refused_as_told}
 use Rattle.rewriting.proofs.rewrite_into.Goals as goal
 
--- a journal that the forecast does not refuse is read to its end
-read_to_its_end : (journal : List ℕ) (f : Forecast) → foretold f ≡ forecast journal → f.number ≡ 0 → Readable journal
-unfolding foretold
-read_to_its_end journal f told z = readable journal (sym (ap (λ r. r.number) told) ∙ z)
+pub returns-in_err-forecast_of : goal.returns-in_err-forecast_of
+returns-in_err-forecast_of c =
+    let p = err_from_is_err_and c.from_residual.result c.from_residual.ensures.1 in
+    rw (p.1, p.2) (refused_as_foretold _ c.in_err-forecast_of.ensures)
 
-pub returns-then-foretold-ne0 : goal.returns-then-foretold-ne0
-unfolding foretold
-returns-then-foretold-ne0 c =
-    let told = c.forecast_of-foretold.ensures in
-    refused_as_foretold (ap (λ f. f.number) told) (ap (λ f. f.place) told) c.if-foretold-ne0.true c.refused.ensures
+pub measure-requires : goal.measure-requires
+measure-requires c = readable _ _ c.in_ok-forecast_of.ensures
 
-pub measure-measured-requires : goal.measure-measured-requires
-unfolding foretold
-measure-measured-requires c =
-    read_to_its_end c.args.journal.now c.forecast_of-foretold.result c.forecast_of-foretold.ensures (omega (arith, c.if-foretold-ne0.false))
-
-pub overflow_cast-place : goal.overflow_cast-place
-unfolding foretold
-overflow_cast-place c =
-    let whole = read_to_its_end c.args.journal.now c.forecast_of-foretold.result c.forecast_of-foretold.ensures (omega (arith, c.if-foretold-ne0.false)) in
-    let told = subst (Measures c.args.journal.now) c.in-DuctTold.is c.measure-measured.ensures in
-    omega (arith, told.1, whole.short)
+pub returns-in_err-length : goal.returns-in_err-length
+returns-in_err-length c =
+    let p = err_from_is_err_and c.from_residual-in_err-length.result c.from_residual-in_err-length.ensures.1 in
+    rw (p.1, p.2) (refused_as_told (readable _ _ c.in_ok-forecast_of.ensures) _ c.in_err-length.ensures)
 
 pub write_within-requires : goal.write_within-requires
-unfolding foretold
 write_within-requires c =
-    let whole = read_to_its_end c.args.journal.now c.forecast_of-foretold.result c.forecast_of-foretold.ensures (omega (arith, c.if-foretold-ne0.false)) in
-    let measured = subst (Measures c.args.journal.now) c.in-Length.is c.measure-measured.ensures in
-    record { readable = whole; none_told = measured.0; length_is = measured.1 }
-
-pub returns-in-DuctTold : goal.returns-in-DuctTold
-unfolding foretold
-returns-in-DuctTold c =
-    let whole = read_to_its_end c.args.journal.now c.forecast_of-foretold.result c.forecast_of-foretold.ensures (omega (arith, c.if-foretold-ne0.false)) in
-    let told = subst (Measures c.args.journal.now) c.in-DuctTold.is c.measure-measured.ensures in
-    refused_as_told whole told.0 (omega arith) c.refused-in-DuctTold.ensures
+    let measured = c.in_ok-length.ensures in
+    record { readable = readable _ _ c.in_ok-forecast_of.ensures; none_told = measured.0; length_is = measured.1 }

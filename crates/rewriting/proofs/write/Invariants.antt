@@ -1,10 +1,14 @@
 use Prim.Native.Nat.{◌-◌}
+use mathlib.Core.Path.{◌≡◌}
 use lib.ListN.{length}
 use Rattle.rewriting.specs.Inside.Writes.{WrittenTo}
 use Rattle.rewriting.proofs.write.Given as goal
 
-abbrev pub invariant-loop-place : goal.invariant-loop-place
-invariant-loop-place l = WrittenTo l.journal l.initial.out l.out l.spans l.at l.place
+abbrev pub invariant-loop-reader : goal.invariant-loop-reader
+invariant-loop-reader l = record {
+  same : l.reader.journal.now ≡ l.journal;
+  so_far : WrittenTo l.reader.journal.now l.initial.out l.out l.spans l.at l.reader.place;
+}
 
-abbrev pub decreases-loop-place : goal.decreases-loop-place
-decreases-loop-place l = length l.journal - l.place
+abbrev pub decreases-loop-reader : goal.decreases-loop-reader
+decreases-loop-reader l = length l.reader.journal.now - l.reader.place

@@ -1,20 +1,21 @@
 -- The length of a result, command by command.
 use Rattle.std.specs.Prelude.{cond, List, ◌≡◌, ℕ, ◌+◌, ◌*◌, ◌≤◌, eqb, length, drop}
+use Rattle.std.specs.Prelude as P
 use Rattle.std.proofs.Math.Option.{none, some}
 use Rattle.commands.specs.Text.{text_from, text_of, journal_bytes}
 use Rattle.commands.specs.Rewrite.{rewrite_from, rewritten_bytes, first_duct_told}
 use Rattle.reading.specs.Inside.Places.{reads_at, commands_at}
-use Rattle.rewriting.specs.declared.Measured.{Measured}
-use Rattle.rewriting.specs.declared.Measured.TheVariants as M
+use Rattle.refusals.specs.declared.Refusal.TheVariants as R
+use Rattle.refusals.specs.declared.RefusedAt.{RefusedAt}
 
 -- The bytes that a command with this byte and so many bytes of operands has once it is rewritten: 0B takes two more than 02.
 unfoldable pub size_of : ℕ → ℕ → ℕ
 size_of byte width = cond (eqb byte 2) (3 + width) (1 + width)
 
--- What is measured of a journal: the place of the first 0B, or the length of the result.
-abbrev pub Measures : List ℕ → Measured → Type 0
-Measures journal (M.DuctTold place) = (first_duct_told (text_of journal).commands ≡ some place) × (place ≤ length journal)
-Measures journal (M.Length n) = (first_duct_told (text_of journal).commands ≡ none) × (n ≡ length (rewritten_bytes journal))
+-- What is measured of a journal: the length of the result, or the place of the first 0B, for which it is refused.
+abbrev pub Measures : List ℕ → P.Result ℕ RefusedAt → Type 0
+Measures journal (P.Ok n) = (first_duct_told (text_of journal).commands ≡ none) × (n ≡ length (rewritten_bytes journal))
+Measures journal (P.Err refused) = (first_duct_told (text_of journal).commands ≡ some refused.place) × (refused.refusal ≡ R.DuctTold)
 
 -- A journal that is measured up to a place, with so many spans and no 0B before it: what is left leads to its first 0B and to the length of
 -- its result.
