@@ -1,8 +1,3 @@
-pub mod Left
-pub mod Course
-pub mod Further
-pub mod FurtherAnswered
-pub mod FurtherUnanswered
 pub mod Whole
 pub mod WholeAnswered
 pub mod WholeUnanswered

@@ -1,7 +1,6 @@
 -- The whole run with answers comes to what the definition's run leaves behind.
-use mathlib.Core.Bool.{false}
 use mathlib.Core.List.{List}
-use mathlib.Core.Path.{◌≡◌, ap}
+use mathlib.Core.Path.{◌≡◌, refl, ◌∙◌, ap}
 use Prim.Native.Nat.{ℕ, ◌≤◌}
 use native.Mathlib.Nat.{sub-zero, zero-add}
 use native.Mathlib.Omega.{arith}
@@ -20,44 +19,38 @@ use Rattle.forest.specs.Promise.{Begun}
 use Rattle.step.specs.Promise.{capacities_of}
 use Rattle.run.specs.declared.Progress.{Progress}
 use Rattle.run.specs.Promise.{whole_of, six_numbers, RunPromise}
-use Rattle.run.specs.Inside.Runs.{written_behind, left_of, Behind, leaves, numbers_after, leaves_after, with_answers, SoFar, goes_further}
-use Rattle.run.proofs.Course.{ends-with_answers}
-use Rattle.run.proofs.Whole.{at_start, same_rule, begun_limits, starts, has_come}
-
--- What the whole run of a journal within an answer buffer leaves behind.
-abbrev pub whole_leaves : Limits → List ℕ → List ℕ → Behind
-whole_leaves limits journal answers =
-    let whole = whole_of (capacities_of limits) journal answers in
-    record { numbers = report_of register_rule whole; answers = over (bytes_of_answers whole.accepted) answers }
+use Rattle.run.specs.Inside.Runs.{at_start, written_behind, left_of, Behind, leaves, numbers_after, leaves_after, will_leave, with_answers, HasCome}
+use Rattle.run.proofs.Whole.{same_rule, begun_limits}
 
 -- The run of a journal, from a table and an answer buffer.
-module _ {limits : Limits} {journal old old_answers : List ℕ} where
-  -- at the start all of the run is left
-  pub starts_answered : {shape : Shape} → Begun limits old shape
-      → SoFar with_answers limits (whole_leaves limits journal old_answers) (at_start shape) journal old old old_answers old_answers
+module _ {limits : Limits} {old : List ℕ} (journal old_answers : List ℕ) where
+  -- what a run that begins will leave behind is what the whole run does
+  will_leave_whole : {shape : Shape} → Begun limits old shape
+      → will_leave (at_start shape) journal old old_answers
+      ≡ record {
+        numbers = report_of register_rule (whole_of (capacities_of limits) journal old_answers);
+        answers = over (bytes_of_answers (whole_of (capacities_of limits) journal old_answers).accepted) old_answers;
+      }
   unfolding at_start leaves_after numbers_after left_of written_behind report_of book_after text_of empty_state
-  starts_answered begun =
+  will_leave_whole begun =
       let done = (whole_of (capacities_of limits) journal old_answers).accepted in
-      starts begun
-      (rw (
+      rw (
         same_rule begun,
         begun_limits begun,
         sub-zero,
         zero-add (place_after done),
         zero-add (length done),
         zero-add (length (bytes_of_answers done)),
-      ))
-      (omega arith)
+      )
 
-  -- the code has come to what the whole run leaves behind
-  pub run_promised : length journal ≤ 65536 → {p : Progress} {new new_answers : List ℕ}
-      → SoFar with_answers limits (whole_leaves limits journal old_answers) p journal old new old_answers new_answers
-      → goes_further p (length journal) ≡ false
-      → RunPromise limits (whole_of (capacities_of limits) journal old_answers) p old new old_answers new_answers
+  -- the code has come to that
+  pub run_promised : length journal ≤ 65536 → {shape : Shape} → Begun limits old shape → {p : Progress} {new answers new_answers : List ℕ}
+      → HasCome with_answers shape.limits (will_leave (at_start shape) journal old old_answers) p old new old_answers answers
+      → new_answers ≡ answers → RunPromise limits (whole_of (capacities_of limits) journal old_answers) p old new old_answers new_answers
   unfolding leaves six_numbers report_of capacities_of
-  run_promised short {p = p} far stopped =
+  run_promised short begun {p = p} come same =
       let whole = whole_of (capacities_of limits) journal old_answers in
-      let left = has_come far ends-with_answers stopped in
+      let left = come.has ∙ will_leave_whole begun in
       let numbers : six_numbers p ≡ report_of register_rule whole = ap (λ (b : Behind). b.numbers) left in
       let place : p.place ≡ place_after whole.accepted = cc numbers in
       let written : p.written ≡ length (bytes_of_answers whole.accepted) = cc numbers in
@@ -65,8 +58,8 @@ module _ {limits : Limits} {journal old old_answers : List ℕ} where
       let bound = run_answers_fit register_rule register-mates register_routes register_serves (capacities_of limits) journal short (length old_answers) in
       record {
         numbers_are = numbers;
-        answers_are = ap (λ (b : Behind). b.answers) left;
-        same_beyond = far.same_beyond;
+        answers_are = same ∙ ap (λ (b : Behind). b.answers) left;
+        same_beyond = rw (begun_limits begun) at come.same_beyond;
         place_fits = omega (arith, place, within);
         written_fits = omega (arith, written, bound);
       }

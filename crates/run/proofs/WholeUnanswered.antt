@@ -1,7 +1,6 @@
 -- The whole run without answers comes to what the definition's run reports.
-use mathlib.Core.Bool.{false}
 use mathlib.Core.List.{List, []}
-use mathlib.Core.Path.{◌≡◌}
+use mathlib.Core.Path.{◌≡◌, ◌∙◌}
 use Prim.Native.Nat.{ℕ, ◌≤◌, ◌<◌}
 use native.Mathlib.Nat.{zero-add}
 use native.Mathlib.Omega.{arith}
@@ -20,14 +19,9 @@ use Rattle.forest.specs.Promise.{Begun}
 use Rattle.step.specs.Promise.{capacities_of}
 use Rattle.run.specs.declared.Progress.{Progress}
 use Rattle.run.specs.Promise.{six_numbers, UnansweredPromise}
-use Rattle.run.specs.Inside.Runs.{numbers_after, SoFar, goes_further}
+use Rattle.run.specs.Inside.Runs.{at_start, numbers_after, HasCome}
 use Rattle.run.specs.Inside.Unanswered.{all_left, without_answers}
-use Rattle.run.proofs.Course.{ends-without_answers}
-use Rattle.run.proofs.Whole.{at_start, same_rule, begun_limits, starts, has_come}
-
--- What the whole run of a journal comes to.
-abbrev pub whole_ends : Limits → List ℕ → List ℕ
-whole_ends limits journal = report_of register_rule (ample_run register_routes (capacities_of limits) journal)
+use Rattle.run.proofs.Whole.{same_rule, begun_limits}
 
 -- Its place is in the journal or at its end, and the bytes of all its answers fit 32 bits.
 place_in_journal : (limits : Limits) (journal : List ℕ) → place_after (ample_run register_routes (capacities_of limits) journal).accepted ≤ length journal
@@ -40,30 +34,33 @@ unfolding ample_run
 whole_fits limits journal short = all_answers_fit register_rule register-mates register_routes register_serves (capacities_of limits) journal short
 
 -- The run of a journal, from a table.
-module _ {limits : Limits} {journal old : List ℕ} (short : length journal ≤ 65536) where
-  -- at the start all of the run is left
-  pub starts_unanswered : {shape : Shape} → Begun limits old shape
-      → SoFar without_answers limits (whole_ends limits journal) (at_start shape) journal old old [] []
-  unfolding at_start all_left numbers_after ample_run report_of book_after text_of empty_state
-  starts_unanswered begun =
-      let done = (ample_run register_routes (capacities_of limits) journal).accepted in
-      starts begun
-      (rw (same_rule begun, begun_limits begun, zero-add (place_after done), zero-add (length done), zero-add (length (bytes_of_answers done))))
-      (rw (same_rule begun, begun_limits begun) (omega (arith, whole_fits limits journal short)))
+module _ {limits : Limits} {old : List ℕ} (journal : List ℕ) (short : length journal ≤ 65536) {shape : Shape} (begun : Begun limits old shape) where
+  -- the bytes of all its answers can be counted
+  pub all_countable : (answers : List ℕ) → without_answers.Fits (at_start shape) journal old answers
+  unfolding at_start all_left ample_run text_of
+  all_countable answers = rw (same_rule begun, begun_limits begun) (omega (arith, whole_fits limits journal short))
 
-  -- the code has come to what the whole run comes to
-  pub unanswered_promised : {p : Progress} {new : List ℕ} → SoFar without_answers limits (whole_ends limits journal) p journal old new [] []
-      → goes_further p (length journal) ≡ false
+  -- what it will come to is what the whole run reports
+  comes_to_whole : numbers_after (at_start shape) old (all_left (at_start shape) journal old)
+      ≡ report_of register_rule (ample_run register_routes (capacities_of limits) journal)
+  unfolding at_start all_left numbers_after ample_run report_of book_after text_of empty_state
+  comes_to_whole =
+      let done = (ample_run register_routes (capacities_of limits) journal).accepted in
+      rw (same_rule begun, begun_limits begun, zero-add (place_after done), zero-add (length done), zero-add (length (bytes_of_answers done)))
+
+  -- the code has come to that
+  pub unanswered_promised : {p : Progress} {new answers new_answers : List ℕ}
+      → HasCome without_answers shape.limits (numbers_after (at_start shape) old (all_left (at_start shape) journal old)) p old new answers new_answers
       → UnansweredPromise limits (ample_run register_routes (capacities_of limits) journal) p old new
   unfolding six_numbers report_of
-  unanswered_promised {p = p} far stopped =
+  unanswered_promised {p = p} come =
       let whole = ample_run register_routes (capacities_of limits) journal in
-      let numbers : six_numbers p ≡ report_of register_rule whole = has_come far ends-without_answers stopped in
+      let numbers : six_numbers p ≡ report_of register_rule whole = come.has ∙ comes_to_whole in
       let place : p.place ≡ place_after whole.accepted = cc numbers in
       let written : p.written ≡ length (bytes_of_answers whole.accepted) = cc numbers in
       record {
         numbers_are = numbers;
-        same_beyond = far.same_beyond;
+        same_beyond = rw (begun_limits begun) at come.same_beyond;
         place_fits = omega (arith, place, short, place_in_journal limits journal);
         written_fits = omega (arith, written, whole_fits limits journal short);
       }

@@ -4,9 +4,10 @@ use Rattle.naming.specs.State.{empty_state}
 use Rattle.commands.specs.Refusal.{Capacities}
 use Rattle.commands.specs.Text.{text_of}
 use Rattle.commands.specs.Run.{Run, run_within, bytes_of_answers}
-use Rattle.commands.specs.Entry.{report_of, over}
+use Rattle.commands.specs.Entry.{number_of, report_of, over}
 use Rattle.commands.specs.Register.{register_rule, register_routes}
 use Rattle.numbers.specs.declared.Limits.{Limits}
+use Rattle.refusals.specs.Causes.{causes_of}
 use Rattle.forest.specs.Promise.{SameBeyond}
 use Rattle.run.specs.declared.Progress.{Progress}
 unfoldable pub use Rattle.step.specs.Promise.{capacities_of}
@@ -17,7 +18,7 @@ whole_of caps journal answers = run_within (length answers) register_routes caps
 
 -- The six numbers of the report, of a run that has come so far.
 unfoldable pub six_numbers : Progress → List ℕ
-six_numbers p = p.refusal ∷ p.place ∷ p.commands ∷ p.written ∷ p.shape.vertices ∷ p.shape.edges ∷ []
+six_numbers p = number_of (causes_of p.refusal) ∷ p.place ∷ p.commands ∷ p.written ∷ p.shape.vertices ∷ p.shape.edges ∷ []
 
 -- What the code has come to is what the definition's run reports and answers; the words beyond the table's are as before.
 pub record RunPromise (limits : Limits) (run : Run) (p : Progress) (old new old_answers new_answers : List ℕ) : Type 0 where

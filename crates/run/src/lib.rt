@@ -3,29 +3,32 @@
 
 ghost use Rattle.std.specs.Prelude.{◌≡◌, ◌≤◌, length};
 ghost use Rattle.commands.specs.Entry.{work_needed};
-ghost use Rattle.forest.specs.Promise.{words_needed};
-ghost use Rattle.step.specs.Promise.{shape_after};
+ghost use Rattle.forest.specs.Promise.{words_needed, Holds};
 ghost use Rattle.run.specs.Promise.{capacities_of, whole_of, RunPromise};
-ghost use Rattle.run.specs.Inside.Runs.{refused_progress, with_answers, Underway, Ready, Answerable, Answered, goes_further, RunOn};
+ghost use Rattle.run.specs.Inside.Runs.{at_start, Underway, Ready, GoesOn, HasCome};
 
+pub mod answered;
+pub mod answers;
 pub mod unanswered;
 
+use crate::answered::Buffer;
+use crate::answers::Answers;
 use forest::{begin, words_needed};
 use numbers::{Limits, Shape};
-use reading::read::{Order, Taken};
-use reading::reader::{place_after, taken_at};
-use step::{Reply, Stepped, shape_after, size_of, step};
-use writing::write_reply;
+use reading::read::Order;
+use reading::reader::Reader;
+use refusals::Refusal;
+use step::{shape_after, step};
 
 // How far a run has come: the network's size, the place of the next command, the commands accepted, the bytes of their answers, and the
-// number of the refusal that ended the run, 0 if none did.
+// refusal that ended the run, if one did.
 #[derive(Clone, Copy)]
 pub struct Progress {
     pub shape: Shape,
     pub place: usize,
     pub commands: u32,
     pub written: usize,
-    pub refusal: u32,
+    pub refusal: Option<Refusal>,
 }
 
 // How many words a run uses beside those that the table takes.
@@ -38,84 +41,72 @@ pub fn work_needed(limits: Limits) -> usize
     words_needed(limits) + SPARE
 }
 
-// The run ended by a refusal.
-pub(crate) fn refuse(p: Progress, number: u32) -> Progress
-    ensures { result ≡ refused_progress p number }
-{
-    let shape = p.shape;
-    Progress {
-        shape: shape,
-        place: p.place,
-        commands: p.commands,
-        written: p.written,
-        refusal: number,
-    }
-}
-
-// The answer to a command that is carried out, behind those written before, if there is room for it. Room is tested nowhere else.
-fn answer(work: &[u32], answers: &mut [u8], p: Progress, place: usize, reply: Reply) -> Progress
-    requires { Answerable p reply answers.old }
-    ensures { Answered p result work.now (shape_after p.shape reply) place reply answers.old answers.new }
-{
-    let written = p.written;
-    let size = size_of(reply);
-    if answers.len() - written < size {
-        return refuse(p, 11);
-    }
-    let next = shape_after(p.shape, reply);
-    write_reply(work, next, &mut answers[written..], reply);
-    Progress {
-        shape: next,
-        place: place,
-        commands: p.commands + 1,
-        written: written + size,
-        refusal: 0,
-    }
-}
-
-// One command read whole, with so many bytes of operands: refused, or carried out and answered.
-fn run_order(
+// One command read whole, with so many bytes of operands: carried out, and its reply taken; or refused.
+fn run_order<A: Answers>(
     journal: &[u8],
     work: &mut [u32],
-    answers: &mut [u8],
+    answers: &mut A,
     p: Progress,
     order: Order,
     width: usize,
-) -> Progress
-    requires { Ready with_answers p order width journal.now work.old answers.old }
-    ensures { RunOn p result journal.now work.old work.new answers.old answers.new }
+) -> Result<Progress, Refusal>
+    requires { Ready A.account p order width journal.now work.old (A.buffer answers.old) }
+    ensures goes_on { GoesOn A.account p journal.now work.old work.new (A.buffer answers.old) (A.buffer answers.new) result }
+    ensures same { A.same answers.old answers.new }
 {
-    let shape = p.shape;
-    let place = place_after(journal, p.place, width);
-    let stepped = step(work, shape, order);
-    match stepped {
-        Stepped::Refused(number) => refuse(p, number),
-        Stepped::Done(reply) => answer(work, answers, p, place, reply),
-    }
+    let place = Reader::new(journal, p.place).further(width).place;
+    let reply = step(work, p.shape, order)?;
+    let shape = shape_after(p.shape, reply);
+    let written = answers.take(work, shape, p, reply)?;
+    Ok(Progress {
+        shape,
+        place,
+        commands: p.commands + 1,
+        written,
+        refusal: None,
+    })
 }
 
 // What stands at the run's place.
-fn run_one(journal: &[u8], work: &mut [u32], answers: &mut [u8], p: Progress) -> Progress
-    requires { Underway with_answers p journal.now work.old answers.old }
-    ensures { RunOn p result journal.now work.old work.new answers.old answers.new }
+fn run_one<A: Answers>(
+    journal: &[u8],
+    work: &mut [u32],
+    answers: &mut A,
+    p: Progress,
+) -> Result<Progress, Refusal>
+    requires { Underway A.account p journal.now work.old (A.buffer answers.old) }
+    ensures goes_on { GoesOn A.account p journal.now work.old work.new (A.buffer answers.old) (A.buffer answers.new) result }
+    ensures same { A.same answers.old answers.new }
 {
-    let place = p.place;
-    let taken = taken_at(journal, place);
-    match taken {
-        Taken::Unknown => refuse(p, 4),
-        Taken::CutOff => refuse(p, 5),
-        Taken::Command(order, width) => run_order(journal, work, answers, p, order, width),
-    }
+    let taken = Reader::new(journal, p.place).take()?;
+    run_order(journal, work, answers, p, taken.command, taken.width)
 }
 
-// The run is not refused, and there is more of the journal.
-pub(crate) fn goes_on(p: Progress, end: usize) -> bool
-    ensures { result ≡ goes_further p end }
+// The run of a journal from a network that the working table holds, as its answers are taken.
+fn run_from<A: Answers>(
+    journal: &[u8],
+    work: &mut [u32],
+    answers: &mut A,
+    shape: Shape,
+) -> Progress
+    requires { Holds shape work.old × (length journal.now ≤ 65536) × A.account.Fits (at_start shape) journal.now work.old (A.buffer answers.old) }
+    ensures has_come { HasCome A.account shape.limits (A.account.later (at_start shape) journal.now work.old (A.buffer answers.old)) result work.old work.new (A.buffer answers.old) (A.buffer answers.new) }
+    ensures same { A.same answers.old answers.new }
 {
-    if p.refusal != 0 {
-        return false;
+    let mut p = Progress {
+        shape,
+        place: 0,
+        commands: 0,
+        written: 0,
+        refusal: None,
+    };
+    while p.place < journal.len() {
+        match run_one(journal, work, answers, p) {
+            Ok(further) => p = further,
+            Err(refusal) => return Progress { refusal: Some(refusal), ..p },
+        }
     }
-    p.place < end
+    p
 }
 
 // The whole run.
@@ -124,15 +115,6 @@ pub fn run(journal: &[u8], work: &mut [u32], answers: &mut [u8], limits: Limits)
     ensures { RunPromise limits (whole_of (capacities_of limits) journal.now answers.old) result work.old work.new answers.old answers.new }
 {
     let empty = begin(work, limits);
-    let mut p = Progress {
-        shape: empty,
-        place: 0,
-        commands: 0,
-        written: 0,
-        refusal: 0,
-    };
-    while goes_on(p, journal.len()) {
-        p = run_one(journal, work, answers, p);
-    }
-    p
+    let mut buffer = Buffer { bytes: answers };
+    run_from(journal, work, &mut buffer, empty)
 }

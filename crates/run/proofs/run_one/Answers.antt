@@ -1,32 +1,15 @@
 -- `run_one` takes what stands at the run's place: it is refused as unread, or handed on.
-use mathlib.Core.Path.{sym, ◌∙◌, ap}
+use mathlib.Core.Path.{◌≡◌, sym, ◌∙◌, ap, subst}
+use Rattle.std.proofs.lemmas.Result.{err_from_is_err_and}
 use Rattle.reading.specs.Inside.Reads.{reading_of}
-use Rattle.run.proofs.Course.{ends-with_answers}
-use Rattle.run.proofs.Further.{unknown_on, cut_off_on}
+use Rattle.run.specs.Inside.Further.{unread_on}
 use Rattle.run.proofs.run_one.Goals as goal
+
+pub returns-in_err-taken-clause-goes_on : goal.returns-in_err-taken-clause-goes_on
+returns-in_err-taken-clause-goes_on g c =
+    let p = err_from_is_err_and c.from_residual.result c.from_residual.ensures.1 in
+    rw (p.1, p.2) (unread_on c.requires g.met.A.Answers.ends _ (rw (c.new.ensures.0, c.new.ensures.1) at (sym c.in_err-taken.ensures)))
 
 pub run_order-requires : goal.run_order-requires
 unfolding reading_of
-run_order-requires c =
-    record {
-      underway = c.requires;
-      reads = sym c.taken_at-taken.ensures ∙ ap reading_of c.in-Command.is;
-    }
-
-pub returns-in-Unknown : goal.returns-in-Unknown
-unfolding reading_of
-returns-in-Unknown c =
-    unknown_on
-    c.requires
-    ends-with_answers
-    (sym c.taken_at-taken.ensures ∙ ap reading_of c.in-Unknown.is)
-    c.refuse.ensures
-
-pub returns-in-CutOff : goal.returns-in-CutOff
-unfolding reading_of
-returns-in-CutOff c =
-    cut_off_on
-    c.requires
-    ends-with_answers
-    (sym c.taken_at-taken.ensures ∙ ap reading_of c.in-CutOff.is)
-    c.refuse-in-CutOff.ensures
+run_order-requires g c = record { underway = c.requires; reads = rw (c.new.ensures.0, c.new.ensures.1, reading_of) at (sym c.in_ok-taken.ensures) }

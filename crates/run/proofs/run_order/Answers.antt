@@ -1,65 +1,44 @@
--- `run_order` hands the command to the step, and what is to be answered to `answer`.
+-- `run_order` hands the command to the step, and its reply to what takes the answers.
+use mathlib.Core.Path.{sym, ◌∙◌}
 use native.Mathlib.Omega.{arith}
+use Rattle.std.proofs.lemmas.Result.{err_from_is_err_and}
 use Rattle.commands.proofs.TextAt.{operands_stand}
 use Rattle.forest.specs.Promise.{few_vertices, few_edges}
 use Rattle.reading.specs.Inside.Reads.{meaning}
-use Rattle.run.proofs.Course.{ends-with_answers}
-use Rattle.run.proofs.Further.{was_done, step_refused_on}
-use Rattle.run.proofs.FurtherAnswered.{answered_on}
+use Rattle.run.specs.Inside.Runs.{one_further}
+use Rattle.run.specs.Inside.Further.{step_refused_on}
 use Rattle.run.proofs.run_order.Goals as goal
 
-pub place_after-place-requires : goal.place_after-place-requires
-place_after-place-requires c =
-    operands_stand
+pub further-place-requires : goal.further-place-requires
+further-place-requires g c =
+    rw
+    (c.new.ensures.0, c.new.ensures.1)
+    (operands_stand
     c.args.journal.now
     c.args.p.place
     c.requires.underway.at_command
     (meaning c.args.order)
     c.args.width
-    c.requires.reads
+    c.requires.reads)
 
-pub answer-requires : goal.answer-requires
-answer-requires c =
-    let under = c.requires.underway in
-    let done =
-    was_done
-    c.args.p.shape
-    (meaning c.args.order)
-    c.args.work.now
-    c.step-stepped.new.t
-    c.in-Done.reply
-    (rw c.in-Done.is at c.step-stepped.ensures) in
-    record {
-      fits = done.carried.fits;
-      few_cabinets = few_vertices c.args.p.shape c.args.work.now under.going.holds;
-      few_spans = few_edges c.args.p.shape c.args.work.now under.going.holds;
-      written_fits = under.going.written_fits;
-      counted = omega (arith, under.going.counted, under.at_command, under.short);
-    }
+pub returns-in_err-reply-clause-goes_on : goal.returns-in_err-reply-clause-goes_on
+returns-in_err-reply-clause-goes_on g c =
+    let p = err_from_is_err_and c.from_residual.result c.from_residual.ensures.1 in
+    rw (p.1, p.2) (step_refused_on c.requires.underway g.met.A.Answers.ends c.requires.reads c.in_err-reply.ensures)
 
-pub returns-in-Refused : goal.returns-in-Refused
-returns-in-Refused c =
-    step_refused_on
-    c.requires.underway
-    ends-with_answers
-    (meaning c.args.order)
-    c.requires.reads
-    c.step-stepped.new.t
-    c.in-Refused.number
-    (rw c.in-Refused.is at c.step-stepped.ensures)
-    c.refuse.ensures
+pub shape_after-shape-requires : goal.shape_after-shape-requires
+shape_after-shape-requires g c =
+    let holds = c.requires.underway.going.holds in
+    (few_vertices _ _ holds, few_edges _ _ holds)
 
-pub returns-in-Done : goal.returns-in-Done
-returns-in-Done c =
-    answered_on
-    c.requires.underway
-    c.requires.reads
-    (was_done
-    c.args.p.shape
-    (meaning c.args.order)
-    c.args.work.now
-    c.step-stepped.new.t
-    c.in-Done.reply
-    (rw c.in-Done.is at c.step-stepped.ensures))
-    (rw c.place_after-place.ensures at c.answer.ensures)
-    c.answer.auto.answers
+pub returns-in_err-written-clause-goes_on : goal.returns-in_err-written-clause-goes_on
+returns-in_err-written-clause-goes_on g c =
+    let p = err_from_is_err_and c.from_residual-in_err-written.result c.from_residual-in_err-written.ensures.1 in
+    rw (p.1, p.2)
+    (rw c.in_err-written.was at (g.met.A.Answers.goes_on _ _ _ _ _ _ _ _ _ _ c.requires c.in_ok-reply.ensures (rw c.shape_after-shape.ensures at c.take.ensures)))
+
+pub returns-clause-goes_on : goal.returns-clause-goes_on
+unfolding one_further
+returns-clause-goes_on g c =
+    rw (c.shape_after-shape.ensures, c.further-place.ensures.1, c.new.ensures.1)
+    (rw c.in_ok-written.was at (g.met.A.Answers.goes_on _ _ _ _ _ _ _ _ _ _ c.requires c.in_ok-reply.ensures (rw c.shape_after-shape.ensures at c.take.ensures)))

@@ -1,5 +1,5 @@
 -- The run in code: how far it has come, what it will come to, and what each command does to it. With answers it comes to what it leaves behind.
-use Rattle.std.specs.Prelude.{Bool, cond, ◌&&◌, List, [], ◌∷◌, ◌++◌, map, ◌≡◌, ℕ, suc, ◌+◌, ◌-◌, ◌≤◌, ◌<◌, eqb, ltb, length, take, drop, get_or}
+use Rattle.std.specs.Prelude.{Option, None, Some, Result, Ok, Err, List, [], ◌∷◌, ◌++◌, map, ◌≡◌, ℕ, ◌+◌, ◌-◌, ◌≤◌, ◌<◌, length, take, drop, get_or}
 use Rattle.graph.specs.Network.{Network, edge_count}
 use Rattle.naming.specs.Book.{feed_all}
 use Rattle.naming.specs.State.{State}
@@ -12,6 +12,8 @@ use Rattle.commands.specs.Entry.{over, number_of}
 use Rattle.commands.specs.Register.{register_routes}
 use Rattle.numbers.specs.declared.Limits.{Limits}
 use Rattle.numbers.specs.declared.Shape.{Shape}
+use Rattle.refusals.specs.declared.Refusal.{Refusal}
+use Rattle.refusals.specs.declared.Refusal.TheVariants as R
 use Rattle.forest.specs.Promise.{Holds, state_of, SameBeyond}
 use Rattle.reading.specs.declared.read.Order.{Order}
 use Rattle.reading.specs.Inside.Reads.{meaning}
@@ -20,15 +22,24 @@ use Rattle.step.specs.Promise.{capacities_of, reply_answer, reply_size, ReplyFit
 use Rattle.run.specs.declared.Progress.{Progress}
 use Rattle.run.specs.Promise.{six_numbers}
 
--- The run ended by a refusal of this number.
-unfoldable pub refused_progress : Progress → ℕ → Progress
-refused_progress p number =
-    record { shape = p.shape; place = p.place; commands = p.commands; written = p.written; refusal = number }
+-- The progress of a run that has not begun.
+unfoldable pub at_start : Shape → Progress
+at_start shape = record { shape = shape; place = 0; commands = 0; written = 0; refusal = None }
 
--- The run one answered command further: the network's new size, and the place of the next command.
-unfoldable pub one_further : Progress → Shape → ℕ → Reply → Progress
-one_further p next place reply =
-    record { shape = next; place = place; commands = p.commands + 1; written = p.written + reply_size reply; refusal = 0 }
+-- The run ended by a refusal.
+unfoldable pub refused_progress : Progress → Refusal → Progress
+refused_progress p refusal =
+    record { shape = p.shape; place = p.place; commands = p.commands; written = p.written; refusal = Some refusal }
+
+-- The run one command further: the network's new size, the place of the next command, and the bytes of all answers with this one's.
+unfoldable pub one_further : Progress → Shape → ℕ → ℕ → Progress
+one_further p next place written =
+    record { shape = next; place = place; commands = p.commands + 1; written = written; refusal = None }
+
+-- So it is if the reply is taken; a refusal stays one.
+abbrev pub further : Progress → Shape → ℕ → Result ℕ Refusal → Result Progress Refusal
+further p next place (Ok written) = Ok (one_further p next place written)
+further p next place (Err refusal) = Err refusal
 
 -- The answer buffer with more bytes behind those that are written.
 unfoldable pub written_behind : ℕ → List ℕ → List ℕ → List ℕ
@@ -91,7 +102,7 @@ with_answers = record { here = leaves; later = will_leave; Fits = λ p journal t
 -- A run that can go on, by an account: it is not refused, and the table holds its network; the bytes that are counted fit, and no more
 -- commands are counted than bytes were read.
 pub record Going {E : Type 0} (account : Account E) (p : Progress) (journal t answers : List ℕ) : Type 0 where
-  pub not_refused : p.refusal ≡ 0
+  pub not_refused : p.refusal ≡ None
   pub holds : Holds p.shape t
   pub written_fits : account.Fits p journal t answers
   pub counted : p.commands ≤ p.place
@@ -112,48 +123,50 @@ pub record Ready
   pub underway : Underway account p journal t answers
   pub reads : read_here p journal ≡ command (meaning order) width
 
--- A reply can be answered: its notices can be counted, what is written stands in the buffer, and one more cabinet, span and command can
--- be counted.
+-- A reply can be answered: its notices can be counted, and what is written stands in the buffer.
 pub record Answerable (p : Progress) (reply : Reply) (answers : List ℕ) : Type 0 where
   pub fits : ReplyFits reply
-  pub few_cabinets : p.shape.vertices ≤ 4096
-  pub few_spans : p.shape.edges ≤ 8192
   pub written_fits : p.written ≤ length answers
-  pub counted : p.commands < 65536
 
--- What becomes of a reply: there is no room for it, and the run is refused with 11; or its bytes stand behind those written before.
-pub data Answered (p p' : Progress) (t : List ℕ) (next : Shape) (place : ℕ) (reply : Reply) (old new : List ℕ) : Type 0 where
-  without_room : length old - p.written < reply_size reply → p' ≡ refused_progress p 11 → new ≡ old → Answered p p' t next place reply old new
-  answered : reply_size reply ≤ length old - p.written → p' ≡ one_further p next place reply
-      → new ≡ written_behind p.written (answer_bytes (reply_answer next t reply)) old
-      → Answered p p' t next place reply old new
+-- What becomes of a reply: its bytes stand behind those written before, and are counted with them;
+pub record IsAnswered (p : Progress) (t : List ℕ) (next : Shape) (reply : Reply) (old new : List ℕ) (written : ℕ) : Type 0 where
+  pub room : reply_size reply ≤ length old - p.written
+  pub stands : new ≡ written_behind p.written (answer_bytes (reply_answer next t reply)) old
+  pub counted : written ≡ p.written + reply_size reply
 
--- A run that is to come to this end can go on and will, or is refused and has.
-pub data Leads {E : Type 0} (account : Account E) (end : E) (p : Progress) (journal t answers : List ℕ) : Type 0 where
-  goes_on : Going account p journal t answers → account.later p journal t answers ≡ end → Leads account end p journal t answers
-  is_refused : (p.refusal ≡ 0 → ⊥) → account.here p answers ≡ end → Leads account end p journal t answers
+-- or there is no room for it.
+pub record WithoutRoom (p : Progress) (reply : Reply) (old new : List ℕ) (refusal : Refusal) : Type 0 where
+  pub short : length old - p.written < reply_size reply
+  pub untouched : new ≡ old
+  pub no_room : refusal ≡ R.NoRoom
 
--- From a table and an answer buffer the run has come so far, and is to come to this end.
+abbrev pub Answered : Progress → List ℕ → Shape → Reply → List ℕ → List ℕ → Result ℕ Refusal → Type 0
+Answered p t next reply old new (Ok written) = IsAnswered p t next reply old new written
+Answered p t next reply old new (Err refusal) = WithoutRoom p reply old new refusal
+
+-- From a table and an answer buffer the run has come so far, can go on, and is to come to this end.
 pub record SoFar
     {E : Type 0} (account : Account E) (limits : Limits) (end : E) (p : Progress) (journal old new old_answers new_answers : List ℕ) : Type 0 where
+  pub going : Going account p journal new new_answers
   pub same_limits : p.shape.limits ≡ limits
   pub same_beyond : SameBeyond limits old new
   pub as_long : length new_answers ≡ length old_answers
-  pub leads : Leads account end p journal new new_answers
+  pub will : account.later p journal new new_answers ≡ end
 
--- The run is not refused, and there is more of a journal that ends there.
-abbrev pub goes_further : Progress → ℕ → Bool
-goes_further p end = eqb p.refusal 0 && ltb p.place end
-
--- How many commands the run can still take, at the most: none once it is refused.
-unfoldable pub steps_left : ℕ → Progress → ℕ
-steps_left end p = cond (eqb p.refusal 0) (suc (end - p.place)) 0
+-- From there it has come to this end.
+pub record HasCome
+    {E : Type 0} (account : Account E) (limits : Limits) (end : E) (p : Progress) (old new old_answers new_answers : List ℕ) : Type 0 where
+  pub same_beyond : SameBeyond limits old new
+  pub as_long : length new_answers ≡ length old_answers
+  pub has : account.here p new_answers ≡ end
 
 -- The run is a command further, and is to come to what it was to come to before.
 pub record OneOn {E : Type 0} (account : Account E) (p p' : Progress) (journal old new old_answers new_answers : List ℕ) : Type 0 where
   pub so_far : SoFar account p.shape.limits (account.later p journal old old_answers) p' journal old new old_answers new_answers
-  pub fewer : steps_left (length journal) p' < steps_left (length journal) p
+  pub is_further : p.place < p'.place
 
--- So is the run with answers.
-abbrev pub RunOn : Progress → Progress → List ℕ → List ℕ → List ℕ → List ℕ → List ℕ → Type 0
-RunOn = OneOn with_answers
+-- What a command does to a run: so it is, or it is refused, and has come to that.
+abbrev pub GoesOn : {E : Type 0} → Account E → Progress → List ℕ → List ℕ → List ℕ → List ℕ → List ℕ → Result Progress Refusal → Type 0
+GoesOn account p journal old new old_answers new_answers (Ok p') = OneOn account p p' journal old new old_answers new_answers
+GoesOn account p journal old new old_answers new_answers (Err refusal) =
+    HasCome account p.shape.limits (account.later p journal old old_answers) (refused_progress p refusal) old new old_answers new_answers

@@ -1,13 +1,15 @@
 -- The run without answers in code: what it will come to. No answer buffer is lent: what is said of a run that goes on is said with an empty one.
-use Rattle.std.specs.Prelude.{List, [], ℕ, ◌+◌, ◌<◌, length, drop}
+use Rattle.std.specs.Prelude.{Result, Ok, List, ◌≡◌, ℕ, ◌+◌, ◌<◌, length, drop}
 use Rattle.commands.specs.Text.{text_from}
 use Rattle.commands.specs.Run.{Run, run_text, bytes_of_answers}
 use Rattle.commands.specs.Register.{register_routes}
 use Rattle.forest.specs.Promise.{state_of}
-use Rattle.step.specs.Promise.{capacities_of}
+use Rattle.refusals.specs.declared.Refusal.{Refusal}
+use Rattle.step.specs.declared.Reply.{Reply}
+use Rattle.step.specs.Promise.{capacities_of, reply_size}
 use Rattle.run.specs.declared.Progress.{Progress}
 use Rattle.run.specs.Promise.{six_numbers}
-use Rattle.run.specs.Inside.Runs.{numbers_after, Account, OneOn}
+use Rattle.run.specs.Inside.Runs.{numbers_after, Account}
 
 -- What is left of a run, as if there were always room: the run of the rest of the journal, from the state that the table holds.
 unfoldable pub all_left : Progress → List ℕ → List ℕ → Run
@@ -28,6 +30,9 @@ without_answers =
       Fits = λ p journal t answers. p.written + length (bytes_of_answers (all_left p journal t).accepted) < 4294967296;
     }
 
--- The run without answers is a command further, and is to come to the numbers that it was to come to before.
-abbrev pub WentOn : Progress → Progress → List ℕ → List ℕ → List ℕ → Type 0
-WentOn p p' journal old new = OneOn without_answers p p' journal old new [] []
+-- The bytes of an answer can be counted with those before, and are.
+abbrev pub Countable : Progress → Reply → Type 0
+Countable p reply = p.written + reply_size reply < 4294967296
+
+abbrev pub Counted : Progress → Reply → Result ℕ Refusal → Type 0
+Counted p reply result = result ≡ Ok (p.written + reply_size reply)

@@ -1,7 +1,8 @@
 -- What a run comes to, with answers and without, is the same before and after each of its commands, and once it has ended.
 use mathlib.Core.List.{List, [], ◌++◌, append_assoc, append-nil}
 use mathlib.Core.Option.{Option, none, some}
-use mathlib.Core.Path.{◌≡◌, refl}
+use mathlib.Core.Path.{◌≡◌, refl, ap}
+use Rattle.std.specs.Prelude.{None}
 use Prim.Native.Nat.{ℕ, suc, ◌+◌, ◌-◌, ◌≤◌, ◌<◌}
 use native.Mathlib.Nat.{add-zero, le_refl}
 use native.Mathlib.Omega.{arith}
@@ -9,17 +10,19 @@ use lib.ListN.{length, take, drop, length-append, length-drop, take-append-drop,
 use lib.Seq.{drop-drop, take_all, length-take-le, take-append_seam, drop-append_seam}
 use Rattle.naming.specs.Book.{feed_all}
 use Rattle.naming.specs.State.{State, Agree, after_addition, after_recording}
-use Rattle.commands.specs.Refusal.{Refusal, refusal_number}
+use Rattle.commands.specs.Refusal as Table
 use Rattle.commands.specs.Answer.{answer_bytes}
 use Rattle.commands.specs.Facts.{after}
 use Rattle.commands.specs.Run.{Accepted, Run, stop, and_then, commands_of, bytes_of_answers, place_after}
 use Rattle.commands.specs.Entry.{over, number_of}
+use Rattle.refusals.specs.declared.Refusal.{Refusal}
+use Rattle.refusals.specs.Causes.{cause_of, causes_of}
 use Rattle.forest.specs.Promise.{state_of, vertices_held, edges_held}
 use Rattle.run.specs.declared.Progress.{Progress}
 use Rattle.run.specs.Promise.{six_numbers}
 use Rattle.run.specs.Inside.Runs.{refused_progress, written_behind, left_of, network_after, leaves, numbers_after, leaves_after, will_leave, Account, with_answers}
 use Rattle.run.specs.Inside.Unanswered.{without_answers}
-use Rattle.run.proofs.Left.{RefusedHere, all_at_end, all_refused, left_at_end, left_refused}
+use Rattle.run.specs.Inside.Left.{RefusedHere, all_at_end, all_refused, left_at_end, left_refused}
 
 -- nothing written behind leaves the buffer as it is
 nothing_behind : (written : ℕ) (answers : List ℕ) → written_behind written [] answers ≡ answers
@@ -35,6 +38,20 @@ over_tail written bytes answers tail e =
     let behind = drop written answers in
     let all : length behind ≤ room = rw (length-drop written answers) (le_refl room) in
     rw (e, take_all room behind all, drop_of_length-le behind all, append-nil (over bytes behind))
+
+-- where there is room for them the buffer stays as long
+pub behind_as_long : (written : ℕ) (bytes answers : List ℕ) → written ≤ length answers → length bytes ≤ length answers - written
+    → length (written_behind written bytes answers) ≡ length answers
+unfolding written_behind over
+behind_as_long written bytes answers fits room =
+    omega (
+      arith,
+      length-append (take written answers) (bytes ++ drop (length bytes) (drop written answers)),
+      length-append bytes (drop (length bytes) (drop written answers)),
+      length-take-le written answers fits,
+      length-drop (length bytes) (drop written answers),
+      length-drop written answers,
+    )
 
 -- bytes behind bytes are those of both
 behind_both : (written : ℕ) (bytes more answers : List ℕ) → written ≤ length answers
@@ -63,23 +80,23 @@ unfolding and_then commands_of feed_all after after_addition after_recording
 network_further s s' a rest agrees = rw agrees.same_book
 
 -- the numbers of a run of which nothing is left are those that it has come to
-numbers_here : (p : Progress) (t : List ℕ) (end : Option Refusal) → p.refusal ≡ number_of end
+numbers_here : (p : Progress) (t : List ℕ) (end : Option Table.Refusal) → number_of (causes_of p.refusal) ≡ number_of end
     → six_numbers p ≡ numbers_after p t (record { accepted = []; refusal = end })
 unfolding six_numbers numbers_after place_after bytes_of_answers commands_of feed_all
 numbers_here p t end e =
     rw (e, edges_held p.shape t, vertices_held p.shape t, add-zero p.place, add-zero p.commands, add-zero p.written)
 
 -- and it leaves behind what it has come to
-ends_here : (p : Progress) (t answers : List ℕ) (end : Option Refusal) → p.refusal ≡ number_of end
+ends_here : (p : Progress) (t answers : List ℕ) (end : Option Table.Refusal) → number_of (causes_of p.refusal) ≡ number_of end
     → leaves p answers ≡ leaves_after p t answers (record { accepted = []; refusal = end })
 unfolding leaves leaves_after bytes_of_answers
 ends_here p t answers end e = rw (numbers_here p t end e, nothing_behind p.written answers)
 
 -- where nothing is left but a refusal, a run that is refused here leaves behind what it was to leave behind
-pub stops_here : (p : Progress) (journal t answers : List ℕ) (r : Refusal) → left_of p journal (length answers) t ≡ stop r
-    → leaves (refused_progress p (refusal_number r)) answers ≡ will_leave p journal t answers
-unfolding stop number_of refused_progress leaves_after numbers_after
-stops_here p journal t answers r left = rw left (ends_here (refused_progress p (refusal_number r)) t answers (some r) refl)
+pub stops_here : (p : Progress) (journal t answers : List ℕ) (r : Refusal) → left_of p journal (length answers) t ≡ stop (cause_of r)
+    → leaves (refused_progress p r) answers ≡ will_leave p journal t answers
+unfolding stop refused_progress leaves_after numbers_after
+stops_here p journal t answers r left = rw left (ends_here (refused_progress p r) t answers (some (cause_of r)) refl)
 
 -- A command that is accepted, and a run that is so much further.
 module _ (p p' : Progress) (old new : List ℕ) (a : Accepted) (rest : Run)
@@ -104,27 +121,31 @@ module _ (p p' : Progress) (old new : List ℕ) (a : Accepted) (rest : Run)
   goes_further answers fits =
       rw (numbers_further, written, behind_both p.written (answer_bytes a.answer) (bytes_of_answers rest.accepted) answers fits)
 
+-- the number of no refusal
+none_numbered : (p : Progress) → p.refusal ≡ None → number_of (causes_of p.refusal) ≡ number_of none
+none_numbered p e = ap (λ o. number_of (causes_of o)) e
+
 -- An account that holds where a run ends: at the journal's end, and where it is refused, a run comes to what it was to come to.
 pub record AtEnds {E : Type 0} (account : Account E) : Type 0 where
-  pub at_end : (p : Progress) (journal t answers : List ℕ) → p.refusal ≡ 0 → length journal ≤ p.place
+  pub at_end : (p : Progress) (journal t answers : List ℕ) → p.refusal ≡ None → length journal ≤ p.place
       → account.here p answers ≡ account.later p journal t answers
-  pub at_refusal : (p : Progress) (journal t answers : List ℕ) (r : Refusal) → p.place < length journal → RefusedHere p journal t r
-      → account.here (refused_progress p (refusal_number r)) answers ≡ account.later p journal t answers
+  pub at_refusal : (p : Progress) (journal t answers : List ℕ) (r : Refusal) → p.place < length journal → RefusedHere p journal t (cause_of r)
+      → account.here (refused_progress p r) answers ≡ account.later p journal t answers
 
 -- Both accounts do so.
 pub ends-with_answers : AtEnds with_answers
-unfolding number_of
 ends-with_answers =
     record {
-      at_end = λ p journal t answers z past. rw (left_at_end p journal (length answers) t past) (ends_here p t answers none z);
+      at_end = λ p journal t answers z past.
+          rw (left_at_end p journal (length answers) t past) (ends_here p t answers none (none_numbered p z));
       at_refusal = λ p journal t answers r more f. stops_here p journal t answers r (left_refused p journal (length answers) t more f);
     }
 
 pub ends-without_answers : AtEnds without_answers
-unfolding number_of stop refused_progress numbers_after
+unfolding stop refused_progress numbers_after
 ends-without_answers =
     record {
-      at_end = λ p journal t answers z past. rw (all_at_end p journal t past) (numbers_here p t none z);
+      at_end = λ p journal t answers z past. rw (all_at_end p journal t past) (numbers_here p t none (none_numbered p z));
       at_refusal = λ p journal t answers r more f.
-          rw (all_refused p journal t more f) (numbers_here (refused_progress p (refusal_number r)) t (some r) refl);
+          rw (all_refused p journal t more f) (numbers_here (refused_progress p r) t (some (cause_of r)) refl);
     }
