@@ -13,16 +13,21 @@ use step::Reply;
 use writing::write_reply;
 
 #[derive(Drop)]
-pub struct Buffer<'a> {
+pub(crate) struct Buffer<'a> {
     pub bytes: &'a mut [u8],
 }
 
 impl Answers for Buffer<'_> {
     ghost End = { Behind };
+
     ghost account = { with_answers };
+
     ghost buffer = { λ x. x.bytes.now };
+
     ghost same = { λ x y. y.bytes.ghost_name ≡ x.bytes.ghost_name };
+
     ghost can_take = { λ p reply x. Answerable p reply x.bytes.now };
+
     ghost takes = { λ t shape p reply x y result. Answered p t shape reply x.bytes.now y.bytes.now result × (y.bytes.ghost_name ≡ x.bytes.ghost_name) };
 
     fn take(
@@ -41,9 +46,14 @@ impl Answers for Buffer<'_> {
     }
 
     ghost ends = { ends-with_answers };
+
     ghost is_same = { λ x. refl };
+
     ghost still_same = { λ x y z first later. later ∙ first };
+
     ghost stays_same = { λ t shape p reply x y result taken. taken.1 };
+
     ghost can = { λ p order width journal old new reply x ready done. answerable ready done };
+
     ghost goes_on = { λ p order width journal old new reply x y result ready done taken. answered_on ready done _ _ taken.0 };
 }

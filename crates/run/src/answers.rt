@@ -15,15 +15,19 @@ use numbers::Shape;
 use refusals::Refusal;
 use step::Reply;
 
-pub trait Answers {
+pub(crate) trait Answers {
     // What a run by it comes to, by an account over an answer buffer.
     ghost End: { Type 0 };
+
     ghost account: { Account End };
+
     ghost buffer: { Self → List ℕ };
 
     // It is over the same buffer; a reply can be taken; and what taking one does.
     ghost same: { Self → Self → Type 0 };
+
     ghost can_take: { Progress → Reply → Self → Type 0 };
+
     ghost takes: { List ℕ → Shape → Progress → Reply → Self → Self → Result ℕ Refusal → Type 0 };
 
     // Takes the reply to a command that has left the table and the network's size so, behind those that the run has taken: gives how many
@@ -39,11 +43,15 @@ pub trait Answers {
         ensures { takes work.now shape p reply self.old self.new result };
 
     ghost ends: { AtEnds account };
+
     ghost is_same: { (x : Self) → same x x };
+
     ghost still_same: { (x y z : Self) → same x y → same y z → same x z };
+
     ghost stays_same: { (t : List ℕ) (shape : Shape) (p : Progress) (reply : Reply) (x y : Self) (result : Result ℕ Refusal) → takes t shape p reply x y result → same x y };
 
     // At a command that is carried out its reply can be taken, and so the run goes on.
     ghost can: { (p : Progress) (order : Order) (width : ℕ) (journal old new : List ℕ) (reply : Reply) (x : Self) → Ready account p order width journal old (buffer x) → StepPromise p.shape (meaning order) old new (Ok reply) → can_take p reply x };
+
     ghost goes_on: { (p : Progress) (order : Order) (width : ℕ) (journal old new : List ℕ) (reply : Reply) (x y : Self) (result : Result ℕ Refusal) → Ready account p order width journal old (buffer x) → StepPromise p.shape (meaning order) old new (Ok reply) → takes new (shape_after p.shape reply) p reply x y result → GoesOn account p journal old new (buffer x) (buffer y) (further p (shape_after p.shape reply) (p.place + 1 + width) result) };
 }

@@ -7,8 +7,8 @@ ghost use Rattle.forest.specs.Promise.{words_needed, Holds};
 ghost use Rattle.run.specs.Promise.{capacities_of, whole_of, RunPromise};
 ghost use Rattle.run.specs.Inside.Runs.{at_start, Underway, Ready, GoesOn, HasCome};
 
-pub mod answered;
-pub mod answers;
+mod answered;
+mod answers;
 pub mod unanswered;
 
 use crate::answered::Buffer;
@@ -83,12 +83,7 @@ fn run_one<A: Answers>(
 }
 
 // The run of a journal from a network that the working table holds, as its answers are taken.
-fn run_from<A: Answers>(
-    journal: &[u8],
-    work: &mut [u32],
-    answers: &mut A,
-    shape: Shape,
-) -> Progress
+fn run_from<A: Answers>(journal: &[u8], work: &mut [u32], answers: &mut A, shape: Shape) -> Progress
     requires { Holds shape work.old × (length journal.now ≤ 65536) × A.account.Fits (at_start shape) journal.now work.old (A.buffer answers.old) }
     ensures has_come { HasCome A.account shape.limits (A.account.later (at_start shape) journal.now work.old (A.buffer answers.old)) result work.old work.new (A.buffer answers.old) (A.buffer answers.new) }
     ensures same { A.same answers.old answers.new }
@@ -103,7 +98,10 @@ fn run_from<A: Answers>(
     while p.place < journal.len() {
         match run_one(journal, work, answers, p) {
             Ok(further) => p = further,
-            Err(refusal) => return Progress { refusal: Some(refusal), ..p },
+            Err(refusal) => return Progress {
+                refusal: Some(refusal),
+                ..p
+            },
         }
     }
     p

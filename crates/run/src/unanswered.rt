@@ -15,14 +15,19 @@ use refusals::Refusal;
 use step::Reply;
 
 #[derive(Clone, Copy)]
-pub struct Count;
+pub(crate) struct Count;
 
 impl Answers for Count {
     ghost End = { List ℕ };
+
     ghost account = { without_answers };
+
     ghost buffer = { λ x. [] };
+
     ghost same = { λ x y. Unit {0} };
+
     ghost can_take = { λ p reply x. Countable p reply };
+
     ghost takes = { λ t shape p reply x y result. Counted p reply result };
 
     fn take(
@@ -36,10 +41,15 @@ impl Answers for Count {
     }
 
     ghost ends = { ends-without_answers };
+
     ghost is_same = { λ x. tt };
+
     ghost still_same = { λ x y z first later. tt };
+
     ghost stays_same = { λ t shape p reply x y result taken. tt };
+
     ghost can = { λ p order width journal old new reply x ready done. countable ready done };
+
     ghost goes_on = { λ p order width journal old new reply x y result ready done taken. counted_on ready done taken };
 }
 

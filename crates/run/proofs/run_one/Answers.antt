@@ -1,5 +1,5 @@
 -- `run_one` takes what stands at the run's place: it is refused as unread, or handed on.
-use mathlib.Core.Path.{◌≡◌, sym, ◌∙◌, ap, subst}
+use mathlib.Core.Path.{sym}
 use Rattle.std.proofs.lemmas.Result.{err_from_is_err_and}
 use Rattle.reading.specs.Inside.Reads.{reading_of}
 use Rattle.run.specs.Inside.Further.{unread_on}

@@ -1,12 +1,10 @@
 -- `run_order` hands the command to the step, and its reply to what takes the answers.
-use mathlib.Core.Path.{sym, ◌∙◌}
-use native.Mathlib.Omega.{arith}
 use Rattle.std.proofs.lemmas.Result.{err_from_is_err_and}
 use Rattle.commands.proofs.TextAt.{operands_stand}
 use Rattle.forest.specs.Promise.{few_vertices, few_edges}
 use Rattle.reading.specs.Inside.Reads.{meaning}
 use Rattle.run.specs.Inside.Runs.{one_further}
-use Rattle.run.specs.Inside.Further.{step_refused_on}
+use Rattle.run.specs.Inside.Further.{step_refused_on, at_progress}
 use Rattle.run.proofs.run_order.Goals as goal
 
 pub further-place-requires : goal.further-place-requires
@@ -40,5 +38,5 @@ returns-in_err-written-clause-goes_on g c =
 pub returns-clause-goes_on : goal.returns-clause-goes_on
 unfolding one_further
 returns-clause-goes_on g c =
-    rw (c.shape_after-shape.ensures, c.further-place.ensures.1, c.new.ensures.1)
+    at_progress (cc)
     (rw c.in_ok-written.was at (g.met.A.Answers.goes_on _ _ _ _ _ _ _ _ _ _ c.requires c.in_ok-reply.ensures (rw c.shape_after-shape.ensures at c.take.ensures)))

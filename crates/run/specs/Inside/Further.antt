@@ -4,9 +4,9 @@ use mathlib.Core.Path.{◌≡◌, refl, sym, ◌∙◌, ap, subst}
 use Prim.Native.Nat.{ℕ, ◌+◌, ◌<◌}
 use native.Mathlib.Omega.{arith}
 use lib.ListN.{length}
-use Rattle.std.specs.Prelude.{None, Ok, Err}
+use Rattle.std.specs.Prelude.{None, Err}
 use Rattle.std.proofs.Math.Option as Maybe
-use Rattle.commands.specs.Command.{Command, unknown_byte, cut_off, command}
+use Rattle.commands.specs.Command.{Command, command}
 use Rattle.commands.specs.Answer.{answer_bytes}
 use Rattle.commands.specs.Facts.{answer}
 use Rattle.commands.specs.Refusal.{refusal_of}
@@ -16,8 +16,6 @@ use Rattle.numbers.specs.declared.Shape.{Shape}
 use Rattle.refusals.specs.declared.Refusal.{Refusal}
 use Rattle.refusals.specs.Causes.{cause_of}
 use Rattle.forest.specs.Promise.{Holds, state_of, SameBeyond, same_beyond_refl}
-use Rattle.reading.specs.declared.read.Order.{Order}
-use Rattle.reading.specs.declared.read.Taken.{Taken}
 use Rattle.reading.specs.declared.read.Unread.{Unread}
 use Rattle.reading.specs.declared.read.Unread.TheVariants as U
 use Rattle.reading.specs.Inside.Reads.{reading_of, refused_as}
@@ -90,3 +88,8 @@ module _ {E : Type 0} {account : Account E} {p : Progress} {journal old answers 
             };
         is_further = place;
       }
+
+-- so it does where that is how far it is
+pub at_progress : {E : Type 0} {account : Account E} {p p' p'' : Progress} {journal old new answers new_answers : List ℕ}
+    → p' ≡ p'' → OneOn account p p'' journal old new answers new_answers → OneOn account p p' journal old new answers new_answers
+at_progress e on = rw e on

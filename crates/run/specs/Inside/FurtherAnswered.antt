@@ -1,7 +1,7 @@
 -- One command of the run with answers: its answer is written behind those before it, or there is no room for it.
 use mathlib.Core.List.{List}
 use mathlib.Core.Path.{◌≡◌, refl, ◌∙◌, ap}
-use Prim.Native.Nat.{ℕ, ◌+◌, ◌-◌, ◌≤◌}
+use Prim.Native.Nat.{ℕ, ◌+◌}
 use native.Mathlib.Omega.{arith}
 use lib.ListN.{length}
 use Rattle.std.specs.Prelude.{Result, Ok, Err}
@@ -16,7 +16,7 @@ use Rattle.forest.specs.Promise.{state_of}
 use Rattle.step.specs.declared.Reply.{Reply}
 use Rattle.reading.specs.declared.read.Order.{Order}
 use Rattle.reading.specs.Inside.Reads.{meaning}
-use Rattle.step.specs.Promise.{StepPromise, reply_answer, reply_size, shape_after}
+use Rattle.step.specs.Promise.{StepPromise, reply_answer, shape_after}
 use Rattle.step.proofs.Replies.{limits_after, reply_counted}
 use Rattle.run.specs.declared.Progress.{Progress}
 use Rattle.run.specs.Inside.Runs.{one_further, further, written_behind, left_of, will_leave, with_answers, Ready, Answerable, IsAnswered, Answered, GoesOn}

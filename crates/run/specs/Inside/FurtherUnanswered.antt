@@ -1,17 +1,15 @@
 -- One command of the run without answers: the bytes of its answer are counted, and the run is a command further.
-use mathlib.Core.List.{List, []}
-use mathlib.Core.Path.{◌≡◌, refl, sym, ◌∙◌, ap, subst}
+use mathlib.Core.List.{List}
+use mathlib.Core.Path.{◌≡◌, refl, ap}
 use Prim.Native.Nat.{ℕ, ◌+◌, ◌<◌}
 use native.Mathlib.Omega.{arith}
 use lib.ListN.{length}
 use Rattle.std.specs.Prelude.{Result, Ok}
-use Rattle.naming.specs.State.{Agree}
 use Rattle.commands.specs.Answer.{answer_bytes}
-use Rattle.commands.specs.Facts.{after, answer}
+use Rattle.commands.specs.Facts.{answer}
 use Rattle.commands.specs.Run.{Accepted, Run, and_then, accepted_in, bytes_of_answers}
 use Rattle.commands.specs.Register.{register_routes}
 use Rattle.commands.proofs.Room.{bytes_of_more}
-use Rattle.numbers.specs.declared.Shape.{Shape}
 use Rattle.refusals.specs.declared.Refusal.{Refusal}
 use Rattle.forest.specs.Promise.{state_of}
 use Rattle.step.specs.declared.Reply.{Reply}

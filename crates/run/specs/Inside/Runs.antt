@@ -1,5 +1,5 @@
 -- The run in code: how far it has come, what it will come to, and what each command does to it. With answers it comes to what it leaves behind.
-use Rattle.std.specs.Prelude.{Option, None, Some, Result, Ok, Err, List, [], ◌∷◌, ◌++◌, map, ◌≡◌, ℕ, ◌+◌, ◌-◌, ◌≤◌, ◌<◌, length, take, drop, get_or}
+use Rattle.std.specs.Prelude.{None, Some, Result, Ok, Err, List, [], ◌∷◌, ◌++◌, map, ◌≡◌, ℕ, ◌+◌, ◌-◌, ◌≤◌, ◌<◌, length, take, drop, get_or}
 use Rattle.graph.specs.Network.{Network, edge_count}
 use Rattle.naming.specs.Book.{feed_all}
 use Rattle.naming.specs.State.{State}

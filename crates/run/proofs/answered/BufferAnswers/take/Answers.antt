@@ -5,9 +5,11 @@ use Rattle.run.specs.Inside.Course.{over_tail}
 use Rattle.run.proofs.answered.BufferAnswers.take.Goals as goal
 
 pub returns : goal.returns
-returns c =
-    (record {
-      room = omega (arith, c.if-self-p.false, c.size-size.ensures);
-      stands = over_tail _ _ _ _ c.write_reply.ensures;
-      counted = omega (arith, c.size-size.ensures);
-    }, refl)
+returns c = (
+  record {
+    room = omega (arith, c.if-self-p.false, c.size-size.ensures);
+    stands = over_tail _ _ _ _ c.write_reply.ensures;
+    counted = omega (arith, c.size-size.ensures);
+  },
+  refl,
+)
