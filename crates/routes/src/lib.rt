@@ -4,7 +4,7 @@
 
 ghost use Rattle.std.specs.Prelude.{true, ◌≡◌, ◌<◌};
 ghost use Rattle.graph.specs.Groups.{bridge_block};
-ghost use Rattle.forest.specs.Promise.{Holds, network_in};
+ghost use Rattle.forest.specs.Promise.{IsSame, network_in};
 ghost use Rattle.routes.specs.Promise.{edge_at, RoutesFound};
 ghost use Rattle.routes.specs.Inside.Frame.{column_of};
 ghost use Rattle.routes.specs.Inside.Passes.{PassWritten, PassTaken};
@@ -17,8 +17,8 @@ pub mod walk;
 use crate::lists::build_lists;
 use crate::search::{Allowance, search};
 use crate::walk::{take_way, takes_back, write_way};
-use forest::vertex_scratch;
-use numbers::{Edge, Shape, Vertex};
+use forest::{Network, Table, vertex_scratch};
+use numbers::{Edge, Vertex};
 
 // The vertices' scratch words: the first entry of a vertex's list of edges, its step towards the goal, the vertices in the order in which they
 // were reached, and the first route. The second route stands where the vertices in order stood.
@@ -57,56 +57,52 @@ pub struct Lengths {
 }
 
 // Searches for a way from a to b, and writes it down as a route; gives its length.
-fn find_way(
-    t: &mut [u32],
-    shape: Shape,
-    allowance: Allowance,
-    route: Route,
-    a: Vertex,
-    b: Vertex,
-) -> u32
-    requires { Holds shape t.old × (b.0 < shape.vertices) }
-    ensures { PassWritten shape allowance (column_of route) a.0 b.0 t.old t.new result }
+fn find_way(n: &mut Network, allowance: Allowance, route: Route, a: Vertex, b: Vertex) -> u32
+    requires { b.0 < n.old.table.shape.vertices }
+    ensures written { PassWritten n.old.table.shape allowance (column_of route) a.0 b.0 n.old.table.words.now n.new.table.words.now result }
+    ensures same { IsSame n.old.table n.new.table }
 {
-    search(t, shape, allowance, a, b);
-    write_way(t, shape, route, a, b)
+    search(n, allowance, a, b);
+    write_way(n, route, a, b)
 }
 
 // The same, and the way is taken: its edges that were not used are used, and those that were are so no longer.
-fn find_and_take(t: &mut [u32], shape: Shape, allowance: Allowance, a: Vertex, b: Vertex) -> u32
-    requires { Holds shape t.old × (b.0 < shape.vertices) }
-    ensures { PassTaken shape allowance a.0 b.0 t.old t.new result }
+fn find_and_take(n: &mut Network, allowance: Allowance, a: Vertex, b: Vertex) -> u32
+    requires { b.0 < n.old.table.shape.vertices }
+    ensures taken { PassTaken n.old.table.shape allowance a.0 b.0 n.old.table.words.now n.new.table.words.now result }
+    ensures same { IsSame n.old.table n.new.table }
 {
-    let length = find_way(t, shape, allowance, Route::First, a, b);
-    take_way(t, shape, Route::First, a, length);
+    let length = find_way(n, allowance, Route::First, a, b);
+    take_way(n, Route::First, a, length);
     length
 }
 
 // Writes down two routes between two vertices of one bridge-block; gives their lengths. They are two ways, unless the second goes back along
 // steps of the first: then they are searched for along what the two use.
-pub fn find(t: &mut [u32], shape: Shape, a: Vertex, b: Vertex) -> Lengths
-    requires { Holds shape t.old × (b.0 < shape.vertices) × (bridge_block (network_in shape t.old) a.0 b.0 ≡ true) }
-    ensures { RoutesFound shape a.0 b.0 t.old t.new result }
+pub fn find(n: &mut Network, a: Vertex, b: Vertex) -> Lengths
+    requires { (b.0 < n.old.table.shape.vertices) × (bridge_block (network_in n.old.table.shape n.old.table.words.now) a.0 b.0 ≡ true) }
+    ensures found { RoutesFound n.old.table.shape a.0 b.0 n.old.table.words.now n.new.table.words.now result }
+    ensures same { IsSame n.old.table n.new.table }
 {
-    build_lists(t, shape);
-    let one = find_and_take(t, shape, Allowance::OneMore, a, b);
-    let two = find_way(t, shape, Allowance::OneMore, Route::Second, a, b);
-    if !takes_back(t, shape, Route::Second, two) {
+    build_lists(n);
+    let one = find_and_take(n, Allowance::OneMore, a, b);
+    let two = find_way(n, Allowance::OneMore, Route::Second, a, b);
+    if !takes_back(&n.table, Route::Second, two) {
         return Lengths {
             first: one,
             second: two,
         };
     }
-    take_way(t, shape, Route::Second, a, two);
-    let first = find_and_take(t, shape, Allowance::AlongUsed, a, b);
-    let second = find_way(t, shape, Allowance::AlongUsed, Route::Second, a, b);
+    take_way(n, Route::Second, a, two);
+    let first = find_and_take(n, Allowance::AlongUsed, a, b);
+    let second = find_way(n, Allowance::AlongUsed, Route::Second, a, b);
     Lengths { first, second }
 }
 
 // Edge i of a route that is written down.
 #[tactic(auto, unfolding(crate::specs::Promise::edge_at))]
-pub fn edge_at(t: &[u32], shape: Shape, route: Route, i: u32) -> Edge
-    ensures { result.0 ≡ edge_at shape t.now route i }
+pub fn edge_at(t: &Table, route: Route, i: u32) -> Edge
+    ensures { result.0 ≡ edge_at t.now.shape t.now.words.now route i }
 {
-    Edge(vertex_scratch(t, shape, route.column(), Vertex(i)))
+    Edge(vertex_scratch(t, route.column(), Vertex(i)))
 }

@@ -1,14 +1,14 @@
 // The search for ways to a goal, breadth first from the goal backwards: each vertex that is reached keeps its step towards it.
 ghost use Rattle.std.specs.Prelude.{◌≡◌, ◌<◌};
-ghost use Rattle.forest.specs.Promise.{Holds};
+ghost use Rattle.forest.specs.Promise.{IsSame};
 ghost use Rattle.routes.specs.Inside.Searches.{may_step, Reached, Looked, LookedAll, Turned, Begun, Searched};
 ghost use Rattle.routes.specs.declared.search.Allowance.TheVariants as Variants;
 
 use crate::lists::{clear_column, entry_behind, first_entry, other_end};
 use crate::uses::Use;
 use crate::{NEXT, ORDER};
-use forest::{edge_scratch, ends_of, set_vertex_scratch, vertex_scratch};
-use numbers::{Edge, Shape, Vertex};
+use forest::{Network, edge_scratch, vertex_scratch};
+use numbers::{Edge, Vertex};
 
 // Which steps a search may take: those of one way more, or those along used edges. It is told by a value, and not by a closure, since the
 // definitions decide by it too, and the promises of a search then name it alone.
@@ -54,82 +54,86 @@ fn may_step(allowance: Allowance, used: Use, left: bool) -> bool
 }
 
 // Writes down that vertex x is reached, by a step along edge s; gives how many are reached then.
-fn reach(t: &mut [u32], shape: Shape, x: Vertex, s: Edge, found: u32) -> u32
-    requires { Holds shape t.old × (x.0 < shape.vertices) × (s.0 < shape.edges) }
-    ensures { Reached shape x.0 s.0 found t.old t.new result }
+fn reach(n: &mut Network, x: Vertex, s: Edge, found: u32) -> u32
+    requires { (x.0 < n.old.table.shape.vertices) × (s.0 < n.old.table.shape.edges) }
+    ensures reached { Reached n.old.table.shape x.0 s.0 found n.old.table.words.now n.new.table.words.now result }
+    ensures same { IsSame n.old.table n.new.table }
 {
-    if found < shape.vertices {
-        set_vertex_scratch(t, shape, NEXT, x, s.0 + 1);
-        set_vertex_scratch(t, shape, ORDER, Vertex(found), x.0);
+    if found < n.table.shape.vertices {
+        n.set_vertex_scratch(NEXT, x, s.0 + 1);
+        n.set_vertex_scratch(ORDER, Vertex(found), x.0);
         return found + 1;
     }
     found
 }
 
 // Sees edge s from vertex y: its other end is reached, if it was not and if the step from there may be taken.
-fn look(t: &mut [u32], shape: Shape, allowance: Allowance, y: Vertex, s: Edge, found: u32) -> u32
-    requires { Holds shape t.old × (s.0 < shape.edges) }
-    ensures { Looked shape allowance y.0 s.0 found t.old t.new result }
+fn look(n: &mut Network, allowance: Allowance, y: Vertex, s: Edge, found: u32) -> u32
+    requires { s.0 < n.old.table.shape.edges }
+    ensures looked { Looked n.old.table.shape allowance y.0 s.0 found n.old.table.words.now n.new.table.words.now result }
+    ensures same { IsSame n.old.table n.new.table }
 {
-    let ends = ends_of(t, shape, s);
+    let ends = n.ends_of(s);
     let x = other_end(ends, y);
-    let used = Use::in_word(edge_scratch(t, shape, s));
+    let used = Use::in_word(edge_scratch(&n.table, s));
     if !may_step(allowance, used, ends.left == x) {
         return found;
     }
-    if vertex_scratch(t, shape, NEXT, x) != 0 {
+    if vertex_scratch(&n.table, NEXT, x) != 0 {
         return found;
     }
-    reach(t, shape, x, s, found)
+    reach(n, x, s, found)
 }
 
 // Sees all edges at vertex y, from the last to the first.
-fn look_all(t: &mut [u32], shape: Shape, allowance: Allowance, y: Vertex, found: u32) -> u32
-    requires { Holds shape t.old }
-    ensures { LookedAll shape allowance y.0 found t.old t.new result }
+fn look_all(n: &mut Network, allowance: Allowance, y: Vertex, found: u32) -> u32
+    ensures looked { LookedAll n.old.table.shape allowance y.0 found n.old.table.words.now n.new.table.words.now result }
+    ensures same { IsSame n.old.table n.new.table }
 {
     let mut reached = found;
-    let mut entry = first_entry(t, shape, y);
+    let mut entry = first_entry(&n.table, y);
     while let Some(s) = entry {
-        entry = entry_behind(t, shape, y, s);
-        reached = look(t, shape, allowance, y, s, reached);
+        entry = entry_behind(n, y, s);
+        reached = look(n, allowance, y, s, reached);
     }
     reached
 }
 
 // Turn i: all edges are seen from the vertex that was reached i-th, if so many were.
-fn turn(t: &mut [u32], shape: Shape, allowance: Allowance, i: u32, found: u32) -> u32
-    requires { Holds shape t.old }
-    ensures { Turned shape allowance i found t.old t.new result }
+fn turn(n: &mut Network, allowance: Allowance, i: u32, found: u32) -> u32
+    ensures turned { Turned n.old.table.shape allowance i found n.old.table.words.now n.new.table.words.now result }
+    ensures same { IsSame n.old.table n.new.table }
 {
     if i < found {
-        let y = vertex_scratch(t, shape, ORDER, Vertex(i));
-        return look_all(t, shape, allowance, Vertex(y), found);
+        let y = vertex_scratch(&n.table, ORDER, Vertex(i));
+        return look_all(n, allowance, Vertex(y), found);
     }
     found
 }
 
 // No vertex is reached but the goal.
-fn begin_search(t: &mut [u32], shape: Shape, b: Vertex)
-    requires { Holds shape t.old × (b.0 < shape.vertices) }
-    ensures { Begun shape b.0 t.old t.new }
+fn begin_search(n: &mut Network, b: Vertex)
+    requires { b.0 < n.old.table.shape.vertices }
+    ensures begun { Begun n.old.table.shape b.0 n.old.table.words.now n.new.table.words.now }
+    ensures same { IsSame n.old.table n.new.table }
 {
-    clear_column(t, shape, NEXT);
-    set_vertex_scratch(t, shape, NEXT, b, 1);
-    set_vertex_scratch(t, shape, ORDER, Vertex(0), b.0);
+    clear_column(n, NEXT);
+    n.set_vertex_scratch(NEXT, b, 1);
+    n.set_vertex_scratch(ORDER, Vertex(0), b.0);
 }
 
 // Searches for a way from a to b: as many turns as there are vertices, or fewer where a is reached by then.
-pub(crate) fn search(t: &mut [u32], shape: Shape, allowance: Allowance, a: Vertex, b: Vertex)
-    requires { Holds shape t.old × (b.0 < shape.vertices) }
-    ensures { Searched shape allowance a.0 b.0 t.old t.new }
+pub(crate) fn search(n: &mut Network, allowance: Allowance, a: Vertex, b: Vertex)
+    requires { b.0 < n.old.table.shape.vertices }
+    ensures searched { Searched n.old.table.shape allowance a.0 b.0 n.old.table.words.now n.new.table.words.now }
+    ensures same { IsSame n.old.table n.new.table }
 {
-    begin_search(t, shape, b);
+    begin_search(n, b);
     let mut found: u32 = 1;
-    for i in 0..shape.vertices {
-        if vertex_scratch(t, shape, NEXT, a) != 0 {
+    for i in 0..n.table.shape.vertices {
+        if vertex_scratch(&n.table, NEXT, a) != 0 {
             return;
         }
-        found = turn(t, shape, allowance, i, found);
+        found = turn(n, allowance, i, found);
     }
 }

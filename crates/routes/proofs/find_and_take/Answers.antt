@@ -2,15 +2,15 @@
 use Rattle.routes.proofs.Passes.{pass_taken}
 use Rattle.routes.proofs.find_and_take.Goals as goal
 
-pub returns : goal.returns
-returns c =
+pub returns-clause-taken : goal.returns-clause-taken
+returns-clause-taken c =
     pass_taken
-    c.args.shape
+    c.args.n.now.table.shape
     c.args.allowance
     c.args.a.0
     c.args.b.0
-    c.args.t.now
-    c.requires.0
-    c.requires.1
-    c.find_way-length.ensures
-    c.take_way.ensures
+    c.args.n.now.table.words.now
+    c.args.n.now.holds
+    c.requires
+    c.find_way-length.ensures.written
+    (rw c.find_way-length.ensures.same.shape at c.take_way.ensures.taken)

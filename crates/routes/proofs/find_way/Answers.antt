@@ -2,15 +2,15 @@
 use Rattle.routes.proofs.Passes.{pass_written}
 use Rattle.routes.proofs.find_way.Goals as goal
 
-pub returns : goal.returns
-returns c =
+pub returns-clause-written : goal.returns-clause-written
+returns-clause-written c =
     pass_written
-    c.args.shape
+    c.args.n.now.table.shape
     c.args.allowance
     c.args.a.0
     c.args.b.0
-    c.args.t.now
-    c.requires.0
-    c.requires.1
-    c.search.ensures
-    c.write_way.ensures
+    c.args.n.now.table.words.now
+    c.args.n.now.holds
+    c.requires
+    c.search.ensures.searched
+    (rw c.search.ensures.same.shape at c.write_way.ensures.written)

@@ -5,39 +5,38 @@ use Rattle.routes.specs.Inside.Searches.{may_step}
 use Rattle.routes.proofs.SearchesLook.{other_known, look_reached, look_barred, look-linked}
 use Rattle.routes.proofs.search.look.Goals as goal
 
-pub returns-then-not-may_step : goal.returns-then-not-may_step
-returns-then-not-may_step c =
+pub returns-then-not-may_step-clause-looked : goal.returns-then-not-may_step-clause-looked
+returns-then-not-may_step-clause-looked c =
     let args = c.args in
-    look_barred args.shape args.t.now c.requires.0 args.y.0 args.s.0 c.other_end-x.result.0
-    c.ends_of-ends.result.left.0 c.ends_of-ends.result.right.0 c.requires.1 c.ends_of-ends.ensures
+    look_barred c.args.n.now.table.shape c.args.n.now.table.words.now c.args.n.now.holds args.y.0 args.s.0 c.other_end-x.result.0
+    c.ends_of-ends.result.left.0 c.ends_of-ends.result.right.0 c.requires (c.ends_of-ends.ensures.left, c.ends_of-ends.ensures.right)
     c.other_end-x.ensures args.allowance args.found _
     (sym (c.may_step.ensures ∙ ap (may_step args.allowance c.in_word-used.result) c.eq.ensures) ∙ c.if-not-may_step.true)
     (c.in_word-used.ensures ∙ ap (λ word. word % 4) c.edge_scratch.ensures)
 
-pub returns-then-vertex_scratch-ne0 : goal.returns-then-vertex_scratch-ne0
-returns-then-vertex_scratch-ne0 c =
+pub returns-then-vertex_scratch-ne0-clause-looked : goal.returns-then-vertex_scratch-ne0-clause-looked
+returns-then-vertex_scratch-ne0-clause-looked c =
     let args = c.args in
-    look_reached args.shape args.t.now c.requires.0 args.y.0 args.s.0 c.other_end-x.result.0
-    c.ends_of-ends.result.left.0 c.ends_of-ends.result.right.0 c.requires.1 c.ends_of-ends.ensures
+    look_reached c.args.n.now.table.shape c.args.n.now.table.words.now c.args.n.now.holds args.y.0 args.s.0 c.other_end-x.result.0
+    c.ends_of-ends.result.left.0 c.ends_of-ends.result.right.0 c.requires (c.ends_of-ends.ensures.left, c.ends_of-ends.ensures.right)
     c.other_end-x.ensures args.allowance args.found
     c.vertex_scratch.result c.vertex_scratch.ensures c.if-vertex_scratch-ne0.true
 
 pub reach-requires : goal.reach-requires
 reach-requires c =
     let args = c.args in (
-      c.requires.0,
-      other_known args.shape args.t.now c.requires.0 args.y.0 args.s.0 c.other_end-x.result.0
-          c.ends_of-ends.result.left.0 c.ends_of-ends.result.right.0 c.requires.1 c.ends_of-ends.ensures
+      other_known c.args.n.now.table.shape c.args.n.now.table.words.now c.args.n.now.holds args.y.0 args.s.0 c.other_end-x.result.0
+          c.ends_of-ends.result.left.0 c.ends_of-ends.result.right.0 c.requires (c.ends_of-ends.ensures.left, c.ends_of-ends.ensures.right)
           c.other_end-x.ensures,
-      c.requires.1,
+      c.requires,
     )
 
-pub returns : goal.returns
-returns c =
+pub returns-clause-looked : goal.returns-clause-looked
+returns-clause-looked c =
     let args = c.args in
-    look-linked args.shape args.t.now c.requires.0 args.y.0 args.s.0 c.other_end-x.result.0
-    c.ends_of-ends.result.left.0 c.ends_of-ends.result.right.0 c.requires.1 c.ends_of-ends.ensures
+    look-linked c.args.n.now.table.shape c.args.n.now.table.words.now c.args.n.now.holds args.y.0 args.s.0 c.other_end-x.result.0
+    c.ends_of-ends.result.left.0 c.ends_of-ends.result.right.0 c.requires (c.ends_of-ends.ensures.left, c.ends_of-ends.ensures.right)
     c.other_end-x.ensures args.allowance args.found
     c.vertex_scratch.result c.vertex_scratch.ensures c.in_word-used.result c.if-vertex_scratch-ne0.false
     (sym (c.may_step.ensures ∙ ap (may_step args.allowance c.in_word-used.result) c.eq.ensures) ∙ c.if-not-may_step.false)
-    (c.in_word-used.ensures ∙ ap (λ word. word % 4) c.edge_scratch.ensures) c.reach.ensures
+    (c.in_word-used.ensures ∙ ap (λ word. word % 4) c.edge_scratch.ensures) c.reach.ensures.reached

@@ -2,6 +2,7 @@
 -- what all edges give.
 use mathlib.Core.Path.{ap}
 use native.Mathlib.Omega.{arith}
+use Rattle.std.proofs.Common.{rules}
 use Rattle.routes.specs.Inside.Lists.{entry_number}
 use Rattle.routes.proofs.ListsWords.{behind_small}
 use Rattle.routes.proofs.SearchesLooks.{looking_first, looking_next, looking_last}
@@ -9,18 +10,7 @@ use Rattle.routes.proofs.search.look_all.Goals as goal
 
 pub loop-entry-init : goal.loop-entry-init
 loop-entry-init c =
-    looking_first c.args.shape c.args.t.now c.requires c.args.allowance c.args.y.0 c.args.found _
-    c.first_entry-entry.ensures
-
-pub entry_behind-entry-requires : goal.entry_behind-entry-requires
-entry_behind-entry-requires c =
-    let now = c.loop-entry in
-    (now.invariant.only.holds, omega (arith, now.invariant.small, ap entry_number c.in-Some.is))
-
-pub look-reached-requires : goal.look-reached-requires
-look-reached-requires c =
-    let now = c.loop-entry in
-    (now.invariant.only.holds, omega (arith, now.invariant.small, ap entry_number c.in-Some.is))
+    (looking_first c.args.n.now.table.shape c.args.n.now.table.words.now c.args.n.now.holds c.args.allowance c.args.y.0 c.args.found _ c.first_entry-entry.ensures, search rules)
 
 pub loop-entry-smaller : goal.loop-entry-smaller
 loop-entry-smaller c =
@@ -28,13 +18,16 @@ loop-entry-smaller c =
       arith,
       c.entry_behind-entry.ensures,
       ap entry_number c.in-Some.is,
-      behind_small c.args.shape c.loop-entry.t c.args.y.0 c.in-Some.s.0,
+      behind_small c.loop-entry.n.table.shape c.loop-entry.n.table.words.now c.args.y.0 c.in-Some.s.0,
     )
 
 pub loop-entry-preserved : goal.loop-entry-preserved
 loop-entry-preserved c =
-    looking_next c.in-Some.s.0 c.loop-entry.invariant (ap entry_number c.in-Some.is) c.entry_behind-entry.ensures
-    c.look-reached.ensures
+    let now = c.loop-entry in (
+      looking_next c.in-Some.s.0 now.invariant.0 (ap entry_number c.in-Some.is)
+          (rw now.invariant.1.shape at c.entry_behind-entry.ensures) (rw now.invariant.1.shape at c.look-reached.ensures.looked),
+      search rules,
+    )
 
-pub returns : goal.returns
-returns c = looking_last c.loop-entry.invariant (ap entry_number c.in_default.is)
+pub returns-clause-looked : goal.returns-clause-looked
+returns-clause-looked c = looking_last c.loop-entry.invariant.0 (ap entry_number c.in_default.is)

@@ -8,9 +8,9 @@ use Rattle.routes.proofs.WalksUses.{use_stored}
 use Rattle.routes.proofs.walk.set_use.Goals as goal
 
 pub set_edge_scratch-requires : goal.set_edge_scratch-requires
-set_edge_scratch-requires c = (c.requires.0, omega (arith, c.requires.1, edges_fit c.args.shape c.args.t.now c.requires.0))
+set_edge_scratch-requires c = omega (arith, c.requires, edges_fit _ _ c.args.n.now.holds)
 
-pub returns : goal.returns
+pub returns-clause-set : goal.returns-clause-set
 unfolding with_use
-returns c =
-    use_stored c.set_edge_scratch.ensures (ap₂ (λ word bits. word / 4 * 4 + bits) c.edge_scratch-word.ensures c.from.ensures)
+returns-clause-set c =
+    use_stored c.set_edge_scratch.ensures.stored (ap₂ (λ word bits. word / 4 * 4 + bits) c.edge_scratch-word.ensures c.from.ensures)

@@ -6,9 +6,6 @@ use Rattle.routes.specs.Promise.{edge_at}
 use Rattle.routes.proofs.WalksBack.{none_goes_on, none_told, one_told}
 use Rattle.routes.proofs.walk.takes_back.Goals as goal
 
-pub loop-i-init : goal.loop-i-init
-loop-i-init c = record { low = λ k h. absurd (omega arith) }
-
 pub returns-then-is_own : goal.returns-then-is_own
 unfolding edge_at
 returns-then-is_own c =

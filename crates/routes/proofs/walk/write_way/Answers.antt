@@ -2,6 +2,7 @@
 -- goes on from x.
 use mathlib.Core.Path.{sym, ◌∙◌, ap}
 use native.Mathlib.Omega.{arith}
+use Rattle.std.proofs.Common.{rules}
 use Rattle.graph.proofs.Truth.{eqb_eq, eqb_ne}
 use Rattle.forest.specs.Promise.{vertices_held, vertices_fit}
 use Rattle.routes.specs.Inside.Frame.{column_of, column_only}
@@ -11,49 +12,55 @@ use Rattle.routes.proofs.walk.write_way.Goals as goal
 
 pub loop-i-init : goal.loop-i-init
 loop-i-init c = (
-  only_refl c.args.shape (column_only (column_of c.args.route)) c.args.t.now c.requires,
-  λ g f is o n e. write_begins c.args.t.now e,
+  only_refl c.args.n.now.table.shape (column_only (column_of c.args.route)) c.args.n.now.table.words.now c.args.n.now.holds,
+  λ g f is o n e. write_begins c.args.n.now.table.words.now e,
+  search rules,
 )
 
-pub returns-then-eq : goal.returns-then-eq
-returns-then-eq c =
+pub returns-then-eq-clause-written : goal.returns-then-eq-clause-written
+returns-then-eq-clause-written c =
     let now = c.loop-i in
-    record { only = now.invariant.0; written = λ g f is o n e short. write_ends o (now.invariant.1 g f is o n e) (eqb_eq _ _ (sym c.eq.ensures ∙ c.if-eq.true)) }
+    record {
+      only = now.invariant.0;
+      written = λ g f is o n e short. write_ends o (now.invariant.1 g f is o n e) (eqb_eq _ _ (sym c.eq.ensures ∙ c.if-eq.true));
+    }
 
-pub returns-in_default : goal.returns-in_default
-returns-in_default c =
+pub returns-in_default-clause-written : goal.returns-in_default-clause-written
+returns-in_default-clause-written c =
     let now = c.loop-i in
     record {
       only = now.invariant.0;
       written = λ g f is o n e short.
-          absurd (step_stands o (now.invariant.1 g f is o n e) c.args.t.now is n (column_above c.args.route) now.invariant.0
-          (eqb_ne _ _ (sym c.eq.ensures ∙ c.if-eq.false)) (sym c.vertex_scratch.ensures ∙ sym c.in_default.ensures));
+          absurd (step_stands o (now.invariant.1 g f is o n e) c.args.n.now.table.words.now is n (column_above c.args.route) now.invariant.0
+          (eqb_ne _ _ (sym c.eq.ensures ∙ c.if-eq.false))
+          (sym (rw now.invariant.2.shape at c.vertex_scratch.ensures) ∙ sym c.in_default.ensures));
     }
 
 pub set_vertex_scratch-requires : goal.set_vertex_scratch-requires
 set_vertex_scratch-requires c =
     let now = c.loop-i in
-    let holds = now.invariant.0.holds in
-    (holds, rw c.column.ensures (column_known c.args.route), omega (arith, vertices_fit c.args.shape now.t holds))
+    (rw c.column.ensures (column_known c.args.route), rw now.invariant.2.shape (omega (arith, vertices_fit _ _ c.args.n.now.holds)))
 
 pub loop-i-preserved : goal.loop-i-preserved
 loop-i-preserved c =
     let now = c.loop-i in
-    let stored = rw c.column.ensures at c.set_vertex_scratch.ensures in (
+    let same = now.invariant.2.shape in
+    let stored = rw (c.column.ensures, same) at c.set_vertex_scratch.ensures.stored in (
       only_trans now.invariant.0 (only_vertex stored),
       λ g f is o n e.
-          write_goes_on o (now.invariant.1 g f is o n e) c.args.t.now _ c.in-Some.s.0 is n (column_above c.args.route) (column_known c.args.route)
-          (omega arith) now.invariant.0 (eqb_ne _ _ (sym c.eq.ensures ∙ c.if-eq.false)) (c.in-Some.ensures ∙ c.vertex_scratch.ensures) stored
-          c.far_end-x.result.0 c.far_end-x.ensures,
+          write_goes_on o (now.invariant.1 g f is o n e) c.args.n.now.table.words.now _ c.in-Some.s.0 is n (column_above c.args.route) (column_known c.args.route)
+          (omega arith) now.invariant.0 (eqb_ne _ _ (sym c.eq.ensures ∙ c.if-eq.false))
+          (c.in-Some.ensures ∙ rw same at c.vertex_scratch.ensures) stored
+          c.far_end-x.result.0 (rw (c.set_vertex_scratch.ensures.same.shape ∙ same) at c.far_end-x.ensures),
+      search rules,
     )
 
-pub returns : goal.returns
-returns c =
+pub returns-clause-written : goal.returns-clause-written
+returns-clause-written c =
     let now = c.loop-i in
-    let args = c.args in
     record {
       only = now.invariant.0;
       written = λ g f is o n e short.
           let fits = written_fits o (now.invariant.1 g f is o n e) in
-          absurd (omega (arith, short, fits, ap (λ h. h.vertices) is, vertices_held args.shape args.t.now));
+          absurd (omega (arith, short, fits, ap (λ h. h.vertices) is, vertices_held c.args.n.now.table.shape c.args.n.now.table.words.now));
     }

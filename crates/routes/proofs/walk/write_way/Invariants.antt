@@ -1,3 +1,4 @@
+use Rattle.forest.specs.Promise.{IsSame}
 use mathlib.Core.Bool.{true}
 use mathlib.Core.Path.{◌≡◌}
 use Rattle.graph.specs.Lists.{is_in}
@@ -10,7 +11,7 @@ use Rattle.routes.proofs.WalksWritten.{WrittenTo}
 use Rattle.routes.proofs.walk.write_way.Given as goal
 
 abbrev pub invariant-loop-i : goal.invariant-loop-i
-invariant-loop-i l =
-    Only l.shape (column_only (column_of l.route)) l.initial.t l.t
-    × ((g : Network) (f : Found) → network_in l.shape l.initial.t ≡ g → Orderly g l.b.0 f → NextIs l.shape l.b.0 f l.initial.t → is_in l.initial.x.0 f.order ≡ true
-    → WrittenTo l.shape (column_of l.route) l.initial.x.0 f l.t l.x.0 l.i)
+invariant-loop-i l = Only l.initial.n.table.shape (column_only (column_of l.route)) l.initial.n.table.words.now l.n.table.words.now
+    × ((g : Network) (f : Found) → network_in l.initial.n.table.shape l.initial.n.table.words.now ≡ g → Orderly g l.b.0 f → NextIs l.initial.n.table.shape l.b.0 f l.initial.n.table.words.now → is_in l.initial.x.0 f.order ≡ true
+    → WrittenTo l.initial.n.table.shape (column_of l.route) l.initial.x.0 f l.n.table.words.now l.x.0 l.i)
+    × IsSame l.initial.n.table l.n.table
