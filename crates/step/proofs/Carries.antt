@@ -25,15 +25,15 @@ use Rattle.commands.specs.Facts.{Demand, adds_span, asks, mesh_answer, routes_an
 use Rattle.commands.specs.Register.{register_routes}
 use Rattle.std.specs.Prelude as P
 use Rattle.numbers.specs.declared.Duct.{Duct}
+use Rattle.numbers.specs.declared.Edge.{Edge}
 use Rattle.reading.specs.Inside.Reads.{span_command}
 use Rattle.forest.specs.declared.Group.{Group}
 use Rattle.forest.specs.declared.Growth.{Growth}
-use Rattle.forest.specs.declared.Length.{Length}
 use Rattle.numbers.specs.declared.Shape.{Shape}
-use Rattle.forest.specs.declared.Shared.{Shared}
+use Rattle.forest.specs.declared.Network.{Network}
 use Rattle.forest.specs.declared.VertexGroups.{VertexGroups}
 use Rattle.forest.specs.declared.VertexGroups.TheVariants as G
-use Rattle.forest.specs.Promise.{Holds, state_of, book_in, network_in, vertices_held, edges_held, few_vertices, few_edges, same_beyond_refl, one_edge_more, VertexAdded, EdgeAdded, VertexMarked, SurveyEntered, ListWritten, vertex_names, vertex_groups, length_given, shared_name}
+use Rattle.forest.specs.Promise.{IsSame, Holds, state_of, book_in, network_in, vertices_held, edges_held, few_vertices, few_edges, same_beyond_refl, one_edge_more, VertexAdded, EdgeAdded, VertexMarked, SurveyEntered, ListWritten, vertex_names, vertex_groups, length_given, shared_name}
 use Rattle.routes.specs.declared.Lengths.{Lengths}
 use Rattle.routes.specs.Promise.{RoutesFound}
 use Rattle.step.specs.declared.Listed.{Listed}
@@ -41,13 +41,23 @@ use Rattle.step.specs.declared.Listed.TheVariants as M
 use Rattle.step.specs.declared.Finding.{Finding}
 use Rattle.step.specs.declared.Finding.TheVariants as F
 use Rattle.step.specs.declared.Reply.TheVariants as R
-use Rattle.step.specs.Promise.{notice_at, notice_count, growth_notices, item_at, group_told, group_answer, shared_answer, list_answer, length_told, finding_answer, reply_answer, shape_after, Carried}
+use Rattle.step.specs.Promise.{notice_at, notice_count, growth_notices, item_at, group_told, group_answer, shared_answer, list_answer, length_told, finding_answer, reply_answer, Carried, CarriedIn}
 use Rattle.step.specs.Inside.Asked.{asks_group, duct_of}
+
+-- A command that adds nothing leaves the network's size as it is.
+pub same_in : {c : Command} {old new : Network} {finding : Finding}
+    → Carried old.table.shape c old.table.words.now new.table.words.now (R.Found finding) → IsSame old.table new.table
+    → CarriedIn c old new (R.Found finding)
+same_in carried same = record { carried = carried; shape = same.shape; reference = same.words }
+
+pub asked_in : {c : Command} {n : Network} {finding : Finding}
+    → Carried n.table.shape c n.table.words.now n.table.words.now (R.Found finding) → CarriedIn c n n (R.Found finding)
+asked_in carried = record { carried = carried; shape = refl; reference = refl }
 
 -- a cabinet more
 pub cabinet_carried : {shape : Shape} {old new : List ℕ} → VertexAdded shape old new
     → Carried shape add_cabinet old new (R.Cabinet (record { 0 = shape.vertices }))
-unfolding after after_addition after_recording marks_after surveys_after addition addition_of recording recording_of facts reply_answer shape_after answer answer_to
+unfolding after after_addition after_recording marks_after surveys_after addition addition_of recording recording_of facts reply_answer answer answer_to
 cabinet_carried {shape} {old} a =
     record {
       holds = a.holds;
@@ -68,7 +78,7 @@ module _ (shape : Shape) (c : Command) (adds_nothing : addition c ≡ neither) (
   pub question_carried : (t : List ℕ) (finding : Finding) → Holds shape t
       → plain (finding_answer shape t finding) ≡ answer register_routes (state_of shape t) c
       → Carried shape c t t (R.Found finding)
-  unfolding reply_answer shape_after
+  unfolding reply_answer
   question_carried t finding holds e =
       record {
         holds = holds;
@@ -83,7 +93,7 @@ module _ (shape : Shape) (c : Command) (adds_nothing : addition c ≡ neither) (
       → ListWritten shape old new (item_at kind shape new) count list
       → plain (list_answer kind list) ≡ answer register_routes (state_of shape old) c
       → Carried shape c old new (R.Found (F.List kind count))
-  unfolding reply_answer finding_answer shape_after
+  unfolding reply_answer finding_answer
   list_carried old new kind count list w e =
       record {
         holds = w.holds;
@@ -120,13 +130,13 @@ mesh_answer_lem b none = refl
 mesh_answer_lem b (some s) = refl
 
 -- 05: the name of the mesh that two cabinets share
-pub shared_carried : {shape : Shape} {a b : ℕ} {t : List ℕ} {shared : Shared} → Holds shape t
+pub shared_carried : {shape : Shape} {a b : ℕ} {t : List ℕ} {shared : P.Option Edge} → Holds shape t
     → shared ≡ shared_name (book_in shape t).blocks (shared_block (network_in shape t) a b)
     → Carried shape (shared_mesh a b) t t (R.Found (F.Mesh shared))
 unfolding addition addition_of recording recording_of facts asks finding_answer answer answer_to
 shared_carried {shape} {a} {b} {t} {shared} holds e =
     question_carried shape (shared_mesh a b) refl refl t (F.Mesh shared) holds
-    (ap (λ (x : Shared). plain (shared_answer x)) e ∙ ap plain (mesh_answer_lem (book_in shape t) (shared_block (network_in shape t) a b)))
+    (ap (λ (x : P.Option Edge). plain (shared_answer x)) e ∙ ap plain (mesh_answer_lem (book_in shape t) (shared_block (network_in shape t) a b)))
 
 -- 06: the sole spans between two cabinets
 pub sole_spans_carried : {shape : Shape} {a b : ℕ} {old new : List ℕ} {count : ℕ}
@@ -152,7 +162,7 @@ sole_carried {shape} {s} {t} {sole} holds e =
 -- 09: the cabinet is marked
 pub mark_carried : {shape : Shape} {a : ℕ} {old new : List ℕ} → VertexMarked shape a old new
     → Carried shape (mark_exchange a) old new (R.Found F.Marked)
-unfolding after after_addition feed addition addition_of recording recording_of facts finding_answer reply_answer shape_after answer answer_to
+unfolding after after_addition feed addition addition_of recording recording_of facts finding_answer reply_answer answer answer_to
 mark_carried m =
     record { holds = m.holds; agrees = agree_of_equal m.state_is; answer_is = refl; fits = tt; same_beyond = m.same_beyond }
 
@@ -166,7 +176,7 @@ held_carried {shape} {a} {t} {held} holds e =
 -- 0C: the two routes
 pub routes_carried : {shape : Shape} {a b : ℕ} {old new : List ℕ} {lengths : Lengths} → RoutesFound shape a b old new lengths
     → Carried shape (routes_between a b) old new (R.Found (F.Routes lengths))
-unfolding addition addition_of recording recording_of facts routes_answer register_routes finding_answer reply_answer shape_after answer answer_to
+unfolding addition addition_of recording recording_of facts routes_answer register_routes finding_answer reply_answer answer answer_to
 routes_carried {shape} {a} {b} {old} found =
     record {
       holds = found.holds;
@@ -180,7 +190,7 @@ routes_carried {shape} {a} {b} {old} found =
 pub survey_carried : {shape : Shape} {s day metres : ℕ} {old new : List ℕ}
     → SurveyEntered shape (record { measured = s; day = day; metres = metres }) old new
     → Carried shape (record_length s day metres) old new (R.Found F.Recorded)
-unfolding after after_addition feed addition addition_of recording recording_of facts finding_answer reply_answer shape_after answer answer_to
+unfolding after after_addition feed addition addition_of recording recording_of facts finding_answer reply_answer answer answer_to
 survey_carried entered =
     record { holds = entered.holds; agrees = entered.agrees; answer_is = refl; fits = tt; same_beyond = entered.same_beyond }
 
@@ -191,13 +201,13 @@ length_answer_lem none = refl
 length_answer_lem (some r) = refl
 
 -- 0E: the length of the span
-pub length_carried : {shape : Shape} {s : ℕ} {t : List ℕ} {length : Length} → Holds shape t
+pub length_carried : {shape : Shape} {s : ℕ} {t : List ℕ} {length : P.Option ℕ} → Holds shape t
     → length ≡ length_given (holding (state_of shape t).surveys s)
     → Carried shape (span_length s) t t (R.Found (F.Measured length))
 unfolding addition addition_of recording recording_of facts asks finding_answer answer answer_to
 length_carried {shape} {s} {t} {length} holds e =
     question_carried shape (span_length s) refl refl t (F.Measured length) holds
-    (ap (λ (x : Length). plain (length_told x)) e ∙ ap plain (length_answer_lem (holding (state_of shape t).surveys s)))
+    (ap (λ (x : P.Option ℕ). plain (length_told x)) e ∙ ap plain (length_answer_lem (holding (state_of shape t).surveys s)))
 
 -- 0F: the share of the cabinets whose ring holds one
 pub share_carried : {shape : Shape} {t : List ℕ} {share : ℕ} → Holds shape t → share ≡ share_with_exchange (state_of shape t)
@@ -246,7 +256,7 @@ module _ (shape : Shape) (a b d : ℕ) (old new : List ℕ) (growth : Growth) (a
   span_done : Holds shape old → (c : Command) {operands : List Field} {demands : List Demand}
       → facts c ≡ adds_span (edge_in_duct a b d) operands demands
       → Carried shape c old new (R.Span (record { 0 = shape.edges }) growth)
-  unfolding after after_addition after_recording marks_after surveys_after addition addition_of recording recording_of answer answer_to shape_after
+  unfolding after after_addition after_recording marks_after surveys_after addition addition_of recording recording_of answer answer_to
   span_done holds c is =
       record {
         holds = added.holds;

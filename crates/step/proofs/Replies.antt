@@ -1,6 +1,7 @@
 -- What a reply says: how many bytes the answer has, and that the limits stay.
 use mathlib.Core.List.{List, ◌++◌}
 use mathlib.Core.Path.{◌≡◌, refl, ◌∙◌, ap, ap₂}
+use Rattle.std.specs.Prelude.{Option, None, Some}
 use Prim.Native.Nat.{ℕ, ◌+◌, ◌*◌}
 use native.Mathlib.Omega.{arith}
 use lib.ListN.{length, length-append}
@@ -13,11 +14,8 @@ use Rattle.commands.proofs.NoticeBytes.{length_notices_bytes}
 use Rattle.commands.proofs.AnswerLength.{routes_length}
 use Rattle.forest.specs.declared.Group.{Group}
 use Rattle.forest.specs.declared.Growth.{Growth}
-use Rattle.forest.specs.declared.Length.{Length}
-use Rattle.forest.specs.declared.Length.TheVariants as H
+use Rattle.numbers.specs.declared.Edge.{Edge}
 use Rattle.numbers.specs.declared.Shape.{Shape}
-use Rattle.forest.specs.declared.Shared.{Shared}
-use Rattle.forest.specs.declared.Shared.TheVariants as Q
 use Rattle.forest.specs.declared.VertexGroups.{VertexGroups}
 use Rattle.forest.specs.declared.VertexGroups.TheVariants as G
 use Rattle.routes.specs.declared.Route.TheVariants as W
@@ -32,7 +30,6 @@ use Rattle.step.specs.Promise.{notice_at, notices_of, notice_count, growth_notic
 
 -- no answer changes the limits
 pub limits_after : (shape : Shape) (reply : Reply) → (shape_after shape reply).limits ≡ shape.limits
-unfolding shape_after
 limits_after shape (R.Cabinet a) = refl
 limits_after shape (R.Span s growth) = refl
 limits_after shape (R.Found finding) = refl
@@ -62,16 +59,16 @@ unfolding group_answer group_told answer_bytes answer_fields plain_fields fields
 length-group G.Components group = refl
 length-group G.BridgeBlocks group = refl
 
-length_shared : (shared : Shared) → length (answer_bytes (plain (shared_answer shared))) ≡ 4
+length_shared : (shared : Option Edge) → length (answer_bytes (plain (shared_answer shared))) ≡ 4
 unfolding shared_answer answer_bytes answer_fields plain_fields fields_bytes field_bytes two_bytes
-length_shared (Q.Block name) = refl
-length_shared Q.Nothing = refl
+length_shared (Some name) = refl
+length_shared None = refl
 
 -- the answer to 0E has four bytes, with a length or without
-length_told_lem : (kept : Length) → length (answer_bytes (plain (length_told kept))) ≡ 4
+length_told_lem : (kept : Option ℕ) → length (answer_bytes (plain (length_told kept))) ≡ 4
 unfolding length_told answer_bytes answer_fields plain_fields fields_bytes field_bytes two_bytes
-length_told_lem (H.Metres metres) = refl
-length_told_lem H.Nothing = refl
+length_told_lem (Some metres) = refl
+length_told_lem None = refl
 
 finding_counted : (shape : Shape) (t : List ℕ) (finding : Finding)
     → length (answer_bytes (plain (finding_answer shape t finding))) ≡ finding_size finding

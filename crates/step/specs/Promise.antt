@@ -1,5 +1,5 @@
 -- What a step promises: the paper's answer for each reply, and what becomes of a command.
-use Rattle.std.specs.Prelude.{Result, Ok, Err, List, ◌++◌, ◌≡◌, ℕ, ◌+◌, ◌*◌, ◌<◌}
+use Rattle.std.specs.Prelude.{Option, None, Some, Result, Ok, Err, List, ◌++◌, ◌≡◌, ℕ, ◌+◌, ◌*◌, ◌<◌}
 use Rattle.std.proofs.Math.Option as Maybe
 use Rattle.graph.specs.Below.{tabulate}
 use Rattle.naming.specs.Lookup as Paper
@@ -11,16 +11,14 @@ use Rattle.commands.specs.Facts.{after, answer}
 use Rattle.commands.specs.Refusal as Table
 use Rattle.commands.specs.Refusal.{Capacities, refusal_of}
 use Rattle.commands.specs.Register.{register_routes}
+use Rattle.numbers.specs.declared.Edge.{Edge}
 use Rattle.numbers.specs.declared.Limits.{Limits}
 use Rattle.numbers.specs.declared.Shape.{Shape}
 use Rattle.refusals.specs.declared.Refusal.{Refusal}
 use Rattle.refusals.specs.Causes.{cause_of}
 use Rattle.forest.specs.declared.Group.{Group}
 use Rattle.forest.specs.declared.Growth.{Growth}
-use Rattle.forest.specs.declared.Length.{Length}
-use Rattle.forest.specs.declared.Length.TheVariants as H
-use Rattle.forest.specs.declared.Shared.{Shared}
-use Rattle.forest.specs.declared.Shared.TheVariants as Q
+use Rattle.forest.specs.declared.Network.{Network}
 use Rattle.forest.specs.declared.VertexGroups.{VertexGroups}
 use Rattle.forest.specs.declared.VertexGroups.TheVariants as G
 use Rattle.forest.specs.Promise.{Holds, state_of, SameBeyond, one_vertex_more, one_edge_more, vertex_change_at, edge_change_at, bridge_at, cut_at}
@@ -73,9 +71,9 @@ unfoldable pub group_answer : VertexGroups → Group → Plain
 group_answer G.Components group = district_is (group_told group)
 group_answer G.BridgeBlocks group = ring_is (group_told group)
 
-unfoldable pub shared_answer : Shared → Plain
-shared_answer (Q.Block name) = mesh_shared name.0
-shared_answer Q.Nothing = no_mesh_shared
+unfoldable pub shared_answer : Option Edge → Plain
+shared_answer (Some name) = mesh_shared name.0
+shared_answer None = no_mesh_shared
 
 unfoldable pub list_answer : Listed → List ℕ → Plain
 list_answer L.Spans ss = sole_spans_are ss
@@ -87,9 +85,9 @@ routes_told shape t lengths =
     routes_are (tabulate lengths.first (edge_at shape t W.First)) (tabulate lengths.second (edge_at shape t W.Second))
 
 -- The answer to 0E.
-unfoldable pub length_told : Length → Plain
-length_told (H.Metres metres) = length_is metres
-length_told H.Nothing = no_length
+unfoldable pub length_told : Option ℕ → Plain
+length_told (Some metres) = length_is metres
+length_told None = no_length
 
 -- The paper's answer for each finding and for each reply, with what the table has written down.
 unfoldable pub finding_answer : Shape → List ℕ → Finding → Plain
@@ -128,7 +126,7 @@ reply_size (R.Span s growth) = 7 + 5 * notice_count growth
 reply_size (R.Found finding) = finding_size finding
 
 -- The shape of the network after the command that is answered so.
-unfoldable pub shape_after : Shape → Reply → Shape
+abbrev pub shape_after : Shape → Reply → Shape
 shape_after shape (R.Cabinet a) = one_vertex_more shape
 shape_after shape (R.Span s growth) = one_edge_more shape
 shape_after shape (R.Found finding) = shape
@@ -146,6 +144,17 @@ pub record Carried (shape : Shape) (c : Command) (old new : List ℕ) (reply : R
   pub answer_is : reply_answer (shape_after shape reply) new reply ≡ answer register_routes (state_of shape old) c
   pub fits : ReplyFits reply
   pub same_beyond : SameBeyond shape.limits old new
+
+-- So it is in a working table, whose network has the size after the command; the words are those that the table had.
+pub record CarriedIn (c : Command) (old new : Network) (reply : Reply) : Type 0 where
+  pub carried : Carried old.table.shape c old.table.words.now new.table.words.now reply
+  pub shape : new.table.shape ≡ shape_after old.table.shape reply
+  pub reference : new.table.words.ghost_name ≡ old.table.words.ghost_name
+
+-- The shape of the network after a step: after a command that is done, or as before.
+abbrev pub shape_stepped : Shape → Result Reply Refusal → Shape
+shape_stepped shape (Ok reply) = shape_after shape reply
+shape_stepped shape (Err refusal) = shape
 
 -- What a step gives, where the table of causes says this of the command. It is refused for the table's cause; the table is as before beyond its
 -- words.

@@ -1,27 +1,26 @@
 // Exchanges: the rings that hold one, and the share of the cabinets whose ring does.
 ghost use Rattle.std.specs.Prelude.{◌≡◌, ◌<◌, ◌≤◌};
 ghost use Rattle.commands.specs.Exchange.{ring_holds_exchange, with_exchange, thousandths, share_with_exchange};
-ghost use Rattle.forest.specs.Promise.{Holds, state_of};
+ghost use Rattle.forest.specs.Promise.{state_of};
 
-use forest::marks_with;
-use numbers::{Shape, Vertex};
+use forest::Network;
+use numbers::Vertex;
 
 // Whether a cabinet's ring holds an exchange: the ring's count of exchanges is not 0.
-pub(crate) fn ring_holds_exchange(t: &[u32], shape: Shape, a: Vertex) -> bool
-    requires { Holds shape t.now × (a.0 < shape.vertices) }
-    ensures { result ≡ ring_holds_exchange (state_of shape t.now) a.0 }
+pub(crate) fn ring_holds_exchange(n: &Network, a: Vertex) -> bool
+    requires { a.0 < n.now.table.shape.vertices }
+    ensures { result ≡ ring_holds_exchange (state_of n.now.table.shape n.now.table.words.now) a.0 }
 {
-    0 < marks_with(t, shape, a)
+    0 < n.marks_with(a)
 }
 
 // How many cabinets have a ring that holds an exchange: one pass over them.
-fn with_exchange(t: &[u32], shape: Shape) -> u32
-    requires { Holds shape t.now }
-    ensures { result ≡ with_exchange (state_of shape t.now) }
+fn with_exchange(n: &Network) -> u32
+    ensures { result ≡ with_exchange (state_of n.now.table.shape n.now.table.words.now) }
 {
     let mut found: u32 = 0;
-    for i in 0..shape.vertices {
-        let held = ring_holds_exchange(t, shape, Vertex(i));
+    for i in 0..n.table.shape.vertices {
+        let held = ring_holds_exchange(n, Vertex(i));
         found += held as u32;
     }
     found
@@ -47,9 +46,8 @@ fn thousandths_of(part: u32, whole: u32) -> u32
 }
 
 // The share of all cabinets whose ring holds an exchange.
-pub(crate) fn share_with_exchange(t: &[u32], shape: Shape) -> u32
-    requires { Holds shape t.now }
-    ensures { result ≡ share_with_exchange (state_of shape t.now) }
+pub(crate) fn share_with_exchange(n: &Network) -> u32
+    ensures { result ≡ share_with_exchange (state_of n.now.table.shape n.now.table.words.now) }
 {
-    thousandths_of(with_exchange(t, shape), shape.vertices)
+    thousandths_of(with_exchange(n), n.table.shape.vertices)
 }

@@ -1,10 +1,9 @@
 // The refusal that a command meets, room apart. Each function tests lines of the table of causes in their order.
 ghost use Rattle.std.specs.Prelude.{◌≡◌};
-ghost use Rattle.forest.specs.Promise.{Holds};
 ghost use Rattle.step.specs.Inside.Judged.{demand, cabinet_known, span_known, cabinets_known, differ, no_exchange, some_duct, room_for_cabinet, new_span, share_district, share_ring, judgement};
 
-use forest::{is_marked, same_bridge_block, same_component};
-use numbers::{Duct, Edge, Shape, Vertex};
+use forest::{Network, VertexGroups};
+use numbers::{Duct, Edge, Vertex};
 use reading::read::Order;
 use refusals::Refusal;
 
@@ -16,42 +15,41 @@ fn demand(is_met: bool, refusal: Refusal) -> Result<(), Refusal>
 }
 
 // 6: the cabinet is not known.
-fn cabinet_known(shape: Shape, a: Vertex) -> Result<(), Refusal>
-    ensures { result ≡ cabinet_known shape a.0 }
+fn cabinet_known(n: &Network, a: Vertex) -> Result<(), Refusal>
+    ensures { result ≡ cabinet_known n.now.table.shape a.0 }
 {
-    demand(a.0 < shape.vertices, Refusal::UnknownCabinet)
+    demand(a.0 < n.table.shape.vertices, Refusal::UnknownCabinet)
 }
 
 // 7: the span is not known.
-fn span_known(shape: Shape, s: Edge) -> Result<(), Refusal>
-    ensures { result ≡ span_known shape s.0 }
+fn span_known(n: &Network, s: Edge) -> Result<(), Refusal>
+    ensures { result ≡ span_known n.now.table.shape s.0 }
 {
-    demand(s.0 < shape.edges, Refusal::UnknownSpan)
+    demand(s.0 < n.table.shape.edges, Refusal::UnknownSpan)
 }
 
 // 6: one of the two cabinets is not known.
-fn cabinets_known(shape: Shape, a: Vertex, b: Vertex) -> Result<(), Refusal>
-    ensures { result ≡ cabinets_known shape a.0 b.0 }
+fn cabinets_known(n: &Network, a: Vertex, b: Vertex) -> Result<(), Refusal>
+    ensures { result ≡ cabinets_known n.now.table.shape a.0 b.0 }
 {
-    cabinet_known(shape, a)?;
-    cabinet_known(shape, b)
+    cabinet_known(n, a)?;
+    cabinet_known(n, b)
 }
 
 // 6, then 8: the two cabinets are one.
-fn differ(shape: Shape, a: Vertex, b: Vertex) -> Result<(), Refusal>
-    ensures { result ≡ differ shape a.0 b.0 }
+fn differ(n: &Network, a: Vertex, b: Vertex) -> Result<(), Refusal>
+    ensures { result ≡ differ n.now.table.shape a.0 b.0 }
 {
-    cabinets_known(shape, a, b)?;
+    cabinets_known(n, a, b)?;
     demand(a != b, Refusal::EqualCabinets)
 }
 
 // 6, then 12: the cabinet is an exchange already.
-fn no_exchange(t: &[u32], shape: Shape, a: Vertex) -> Result<(), Refusal>
-    requires { Holds shape t.now }
-    ensures { result ≡ no_exchange shape t.now a.0 }
+fn no_exchange(n: &Network, a: Vertex) -> Result<(), Refusal>
+    ensures { result ≡ no_exchange n.now.table.shape n.now.table.words.now a.0 }
 {
-    cabinet_known(shape, a)?;
-    demand(!is_marked(t, shape, a), Refusal::AlreadyExchange)
+    cabinet_known(n, a)?;
+    demand(!n.is_marked(a), Refusal::AlreadyExchange)
 }
 
 // 13: the duct is 0.
@@ -62,59 +60,68 @@ fn some_duct(duct: Option<Duct>) -> Result<(), Refusal>
 }
 
 // 9: there are as many cabinets as there may be.
-fn room_for_cabinet(shape: Shape) -> Result<(), Refusal>
-    ensures { result ≡ room_for_cabinet shape }
+fn room_for_cabinet(n: &Network) -> Result<(), Refusal>
+    ensures { result ≡ room_for_cabinet n.now.table.shape }
 {
-    demand(shape.vertices < shape.limits.vertices as u32, Refusal::Full)
+    demand(
+        n.table.shape.vertices < u32::from(n.table.shape.limits.vertices),
+        Refusal::Full,
+    )
 }
 
 // 6, then 8, then 13, then 9: there are as many spans as there may be.
-fn new_span(shape: Shape, a: Vertex, b: Vertex, duct: Option<Duct>) -> Result<(), Refusal>
-    ensures { result ≡ new_span shape a.0 b.0 duct }
+fn new_span(n: &Network, a: Vertex, b: Vertex, duct: Option<Duct>) -> Result<(), Refusal>
+    ensures { result ≡ new_span n.now.table.shape a.0 b.0 duct }
 {
-    differ(shape, a, b)?;
+    differ(n, a, b)?;
     some_duct(duct)?;
-    demand(shape.edges < shape.limits.edges as u32, Refusal::Full)
+    demand(
+        n.table.shape.edges < u32::from(n.table.shape.limits.edges),
+        Refusal::Full,
+    )
 }
 
 // 6, then 10: the two cabinets are in two districts.
-fn share_district(t: &[u32], shape: Shape, a: Vertex, b: Vertex) -> Result<(), Refusal>
-    requires { Holds shape t.now }
-    ensures { result ≡ share_district shape t.now a.0 b.0 }
+fn share_district(n: &Network, a: Vertex, b: Vertex) -> Result<(), Refusal>
+    ensures { result ≡ share_district n.now.table.shape n.now.table.words.now a.0 b.0 }
 {
-    cabinets_known(shape, a, b)?;
-    demand(same_component(t, shape, a, b), Refusal::TwoDistricts)
+    cabinets_known(n, a, b)?;
+    demand(
+        n.same_group(VertexGroups::Components, a, b),
+        Refusal::TwoDistricts,
+    )
 }
 
 // 6, then 8, then 14: the two cabinets share no ring.
-fn share_ring(t: &[u32], shape: Shape, a: Vertex, b: Vertex) -> Result<(), Refusal>
-    requires { Holds shape t.now }
-    ensures { result ≡ share_ring shape t.now a.0 b.0 }
+fn share_ring(n: &Network, a: Vertex, b: Vertex) -> Result<(), Refusal>
+    ensures { result ≡ share_ring n.now.table.shape n.now.table.words.now a.0 b.0 }
 {
-    differ(shape, a, b)?;
-    demand(same_bridge_block(t, shape, a, b), Refusal::NoSharedRing)
+    differ(n, a, b)?;
+    demand(
+        n.same_group(VertexGroups::BridgeBlocks, a, b),
+        Refusal::NoSharedRing,
+    )
 }
 
 // The refusal of a command.
 #[tactic(auto, unfolding(crate::specs::Inside::Judged::judgement))]
-pub(crate) fn judge(t: &[u32], shape: Shape, order: Order) -> Result<(), Refusal>
-    requires { Holds shape t.now }
-    ensures { result ≡ judgement shape t.now order }
+pub(crate) fn judge(n: &Network, order: Order) -> Result<(), Refusal>
+    ensures { result ≡ judgement n.now.table.shape n.now.table.words.now order }
 {
     match order {
-        Order::AddCabinet => room_for_cabinet(shape),
-        Order::AddSpan(a, b, duct) => new_span(shape, a, b, duct),
-        Order::DistrictName(a) => cabinet_known(shape, a),
-        Order::RingName(a) => cabinet_known(shape, a),
-        Order::SharedMesh(a, b) => differ(shape, a, b),
-        Order::SoleSpans(a, b) => share_district(t, shape, a, b),
-        Order::CutCabinets(a, b) => share_district(t, shape, a, b),
-        Order::IsSole(s) => span_known(shape, s),
-        Order::MarkExchange(a) => no_exchange(t, shape, a),
-        Order::HoldsExchange(a) => cabinet_known(shape, a),
-        Order::RoutesBetween(a, b) => share_ring(t, shape, a, b),
-        Order::RecordLength(s, _measure) => span_known(shape, s),
-        Order::SpanLength(s) => span_known(shape, s),
+        Order::AddCabinet => room_for_cabinet(n),
+        Order::AddSpan(a, b, duct) => new_span(n, a, b, duct),
+        Order::DistrictName(a) => cabinet_known(n, a),
+        Order::RingName(a) => cabinet_known(n, a),
+        Order::SharedMesh(a, b) => differ(n, a, b),
+        Order::SoleSpans(a, b) => share_district(n, a, b),
+        Order::CutCabinets(a, b) => share_district(n, a, b),
+        Order::IsSole(s) => span_known(n, s),
+        Order::MarkExchange(a) => no_exchange(n, a),
+        Order::HoldsExchange(a) => cabinet_known(n, a),
+        Order::RoutesBetween(a, b) => share_ring(n, a, b),
+        Order::RecordLength(s, _measure) => span_known(n, s),
+        Order::SpanLength(s) => span_known(n, s),
         Order::ExchangeShare => Ok(()),
     }
 }

@@ -2,10 +2,9 @@
 // here, and the room for the answer is not looked at.
 #![tactic(auto)]
 
-ghost use Rattle.std.specs.Prelude.{◌≡◌, ◌≤◌};
-ghost use Rattle.forest.specs.Promise.{Holds};
+ghost use Rattle.std.specs.Prelude.{◌≡◌};
 ghost use Rattle.reading.specs.Inside.Reads.{meaning};
-ghost use Rattle.step.specs.Promise.{finding_size, reply_size, shape_after, StepPromise};
+ghost use Rattle.step.specs.Promise.{finding_size, reply_size, shape_stepped, StepPromise};
 
 pub mod carry;
 pub mod exchange;
@@ -13,8 +12,8 @@ pub mod judge;
 
 use crate::carry::carry_out;
 use crate::judge::judge;
-use forest::{Group, Growth, Length, Shared, VertexGroups};
-use numbers::{Edge, Shape, Vertex};
+use forest::{Group, Growth, Network, VertexGroups};
+use numbers::{Edge, Vertex};
 use reading::read::Order;
 use refusals::Refusal;
 use routes::Lengths;
@@ -32,14 +31,14 @@ pub enum Listed {
 #[derive(Clone, Copy)]
 pub enum Finding {
     Group(VertexGroups, Group),
-    Mesh(Shared),
+    Mesh(Option<Edge>),
     List(Listed, u32),
     Sole(bool),
     Marked,
     Held(bool),
     Routes(Lengths),
     Recorded,
-    Measured(Length),
+    Measured(Option<u32>),
     Share(u32),
 }
 
@@ -93,30 +92,12 @@ impl Reply {
     }
 }
 
-// The network's size after the command that is answered so.
-#[tactic(auto, unfolding(crate::specs::Promise::shape_after))]
-pub fn shape_after(shape: Shape, reply: Reply) -> Shape
-    requires { (shape.vertices ≤ 4096) × (shape.edges ≤ 8192) }
-    ensures { result ≡ shape_after shape reply }
-{
-    match reply {
-        Reply::Cabinet(_) => Shape {
-            vertices: shape.vertices + 1,
-            ..shape
-        },
-        Reply::Span(_, _) => Shape {
-            edges: shape.edges + 1,
-            ..shape
-        },
-        Reply::Found(_) => shape,
-    }
-}
-
 // One command.
-pub fn step(t: &mut [u32], shape: Shape, order: Order) -> Result<Reply, Refusal>
-    requires { Holds shape t.old }
-    ensures { StepPromise shape (meaning order) t.old t.new result }
+pub fn step(n: &mut Network, order: Order) -> Result<Reply, Refusal>
+    ensures stepped { StepPromise n.old.table.shape (meaning order) n.old.table.words.now n.new.table.words.now result }
+    ensures shape { n.new.table.shape ≡ shape_stepped n.old.table.shape result }
+    ensures reference { n.new.table.words.ghost_name ≡ n.old.table.words.ghost_name }
 {
-    judge(t, shape, order)?;
-    Ok(carry_out(t, shape, order))
+    judge(n, order)?;
+    Ok(carry_out(n, order))
 }

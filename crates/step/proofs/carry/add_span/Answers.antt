@@ -15,4 +15,8 @@ duct_told (Some d) nought e = refl
 pub returns : goal.returns
 returns c =
     let lies : c.unwrap_or.result.0 ≡ duct_of c.args.duct = ap (λ (d : Duct). d.0) c.unwrap_or.ensures ∙ duct_told c.args.duct _ refl in
-    span_carried _ (rw lies at c.add_edge-growth.ensures) c.requires.0
+    record {
+      carried = span_carried _ (rw lies at c.add_edge-growth.ensures.added) c.args.n.now.holds;
+      shape = c.add_edge-growth.ensures.shape;
+      reference = c.add_edge-growth.ensures.reference;
+    }

@@ -5,4 +5,4 @@ use Rattle.forest.specs.Promise.{state_of}
 use Rattle.step.proofs.exchange.ring_holds_exchange.Goals as goal
 
 pub returns : goal.returns
-returns c = rw c.marks_with.ensures (sym (holds_exchange_counted (state_of c.args.shape c.args.t.now) c.args.a.0))
+returns c = rw c.marks_with.ensures (sym (holds_exchange_counted (state_of c.args.n.now.table.shape c.args.n.now.table.words.now) c.args.a.0))

@@ -5,4 +5,4 @@ use Rattle.forest.specs.Promise.{state_of}
 use Rattle.step.proofs.exchange.with_exchange.Given as goal
 
 abbrev pub invariant-loop-i : goal.invariant-loop-i
-invariant-loop-i l = l.found ≡ count l.i (ring_holds_exchange (state_of l.shape l.t))
+invariant-loop-i l = l.found ≡ count l.i (ring_holds_exchange (state_of l.n.table.shape l.n.table.words.now))
