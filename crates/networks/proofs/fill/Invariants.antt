@@ -1,10 +1,9 @@
--- `fill` adds one vertex after another: the table holds a network throughout. The measure is the room that is left.
-use Rattle.std.proofs.Common.{◌-◌}
-use Rattle.forest.specs.Promise.{Holds}
+-- `fill` has added as many vertices as it has gone on, and may add as many as there is room for.
+use Rattle.std.proofs.Common.{◌≡◌}
 use Rattle.networks.proofs.fill.Given as goal
 
-abbrev pub invariant-loop-shape : goal.invariant-loop-shape
-invariant-loop-shape l = Holds l.shape l.t
-
-abbrev pub decreases-loop-shape : goal.decreases-loop-shape
-decreases-loop-shape l = l.shape.limits.vertices - l.shape.vertices
+abbrev pub invariant-loop : goal.invariant-loop
+invariant-loop l = record {
+  added : l.n.table.shape.vertices ≡ l.counter;
+  most : l.n.table.shape.limits.vertices ≡ l.end;
+}
