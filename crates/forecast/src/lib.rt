@@ -104,7 +104,7 @@ impl Tally {
 
 // The command at the reader's place, the operands passed over; or why none can be read there, with the place.
 #[tactic(auto, unfolding(reading::specs::Inside::Reads::passing_of))]
-fn command_at<'a>(reader: Reader<'a>) -> Result<Taken<u8>, RefusedAt>
+fn command_at(reader: Reader<'_>) -> Result<Taken<u8>, RefusedAt>
     requires { (reader.place < length reader.journal.now) × (reader.place ≤ 65536) }
     ensures { PassedAt (get_or reader.entry.journal.now reader.entry.place 0) (drop (reader.entry.place + 1) reader.entry.journal.now) reader.entry.place result }
 {
@@ -116,6 +116,7 @@ fn command_at<'a>(reader: Reader<'a>) -> Result<Taken<u8>, RefusedAt>
 }
 
 // A journal that is not too long, up to its end or to the first command that cannot be read.
+#[tactic(auto, using(reading::proofs::PassedAt::operands_here, crate::proofs::Scanning::unread_here, crate::proofs::Scanning::byte_here_lem, crate::proofs::Scanning::length_fits, crate::proofs::Scanning::counted_to_end))]
 fn scan(journal: &[u8]) -> Result<u32, RefusedAt>
     requires { length journal.now ≤ 65536 }
     ensures { foretold (length journal.now) result ≡ forecast journal.now }

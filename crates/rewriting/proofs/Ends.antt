@@ -60,11 +60,12 @@ module _ {journal lent : List ℕ} where
       p
 
   -- a 0B
-  pub refused_as_told : Readable journal → (refused : RefusedAt) → Measures journal (Err refused) → Rewrote journal lent lent (Err refused)
-  unfolding refusal_number
-  refused_as_told read refused told =
+  pub refused_as_told : (refused : RefusedAt) (n : ℕ) → foretold (length journal) (Ok n) ≡ forecast journal → Measures journal (Err refused)
+      → Rewrote journal lent lent (Err refused)
+  unfolding refusal_number foretold
+  refused_as_told refused n read told =
       refused_with_lem
-      (rewrite_of_told (length lent) journal (accepted read) told.0)
+      (rewrite_of_told (length lent) journal (sym (ap (λ f. f.number) read)) told.0)
       (ap (λ q. refusal_number (cause_of q)) told.1)
       refl
 

@@ -9,7 +9,7 @@ use native.Mathlib.Numerals.{add-one}
 use native.Mathlib.Omega.{arith}
 use lib.Dec.{eqb}
 use lib.ListN.{length, get_or, take, drop, length-append}
-use lib.Seq.{sets, slice, slice-cons, length-slice}
+use lib.Seq.{slice, slice-cons, length-slice}
 use Rattle.graph.specs.Network.{edge_between, edge_in_duct}
 use Rattle.graph.proofs.Truth.{true_or_false, eq-eqb, ne_eqb}
 use Rattle.commands.specs.Bytes.{two_bytes, all_bytes}
@@ -67,19 +67,6 @@ spans_at_most byte spans = go (eqb byte 2)
     go : (b : Bool) → cond b (spans + 1) spans ≤ spans + 1
     go true = omega arith
     go false = omega arith
-
--- what is stored for a 02 is that, rewritten
-pub stored_for_02 : (journal : List ℕ) (place byte width spans : ℕ) (out : List ℕ) (at : ℕ) {new : List ℕ} {duct : ℕ}
-    → new ≡ sets out at (0x0B ∷ slice (place + 1) (place + 1 + width) journal ++ two_bytes duct) → byte ≡ 2 → duct ≡ spans + 1
-    → new ≡ sets out at (rewritten_at journal place byte width spans)
-unfolding rewritten_at
-stored_for_02 journal place byte width spans out at stored is_02 own = stored ∙ rw (eq-eqb byte 2 is_02, own) refl
-
--- and what is stored for another command is as it stands
-pub stored_for_other : (journal : List ℕ) (place byte width spans : ℕ) (out : List ℕ) (at : ℕ) {new : List ℕ}
-    → new ≡ sets out at (slice place (place + 1 + width) journal) → byte ≢ 2 → new ≡ sets out at (rewritten_at journal place byte width spans)
-unfolding rewritten_at
-stored_for_other journal place byte width spans out at stored other = stored ∙ rw (ne_eqb byte 2 other) refl
 
 -- A journal of bytes, and a command that stands at a place of it.
 module _ (journal : List ℕ) (are : all_bytes journal ≡ true) (place : ℕ) (at_byte : place < length journal) (byte width : ℕ)

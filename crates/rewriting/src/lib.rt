@@ -22,7 +22,8 @@ use refusals::{Refusal, RefusedAt};
 use storing::{copy, put_byte, put_two};
 
 // The command at a place from which the journal is read to its end. (So one stands there, and the other value is never taken.)
-fn head_at<'a>(reader: Reader<'a>) -> Taken<u8>
+#[tactic(auto, using(crate::proofs::Going::one_passed))]
+fn head_at(reader: Reader<'_>) -> Taken<u8>
     requires { (reader.place < length reader.journal.now) × ((text_from reader.place 0 (drop reader.place reader.journal.now)).refusal ≡ none) }
     ensures { whole result.command result.width ≡ pass_over (get_or reader.entry.journal.now reader.entry.place 0) (read_command (get_or reader.entry.journal.now reader.entry.place 0) (drop (reader.entry.place + 1) reader.entry.journal.now)) }
 {
@@ -56,6 +57,7 @@ fn spans_behind(byte: u8, spans: u32) -> u32
 }
 
 // The length of the result of a journal that is read to its end; or its first 0B, for which it is refused.
+#[tactic(auto, using(reading::proofs::PassedAt::operands_here, crate::proofs::Going::size_at_most))]
 fn measure(journal: &[u8]) -> Result<usize, RefusedAt>
     requires { Readable journal.now }
     ensures { Measures journal.now result }
@@ -77,7 +79,7 @@ fn measure(journal: &[u8]) -> Result<usize, RefusedAt>
 }
 
 // Stores a 0B from a place of the buffer on: the operands of the 02 at the reader's place, and a duct behind them.
-fn put_span<'a>(reader: Reader<'a>, width: usize, duct: u32, out: &mut [u8], at: usize)
+fn put_span(reader: Reader<'_>, width: usize, duct: u32, out: &mut [u8], at: usize)
     requires { (reader.place + 1 + width ≤ length reader.journal.now) × (at + (3 + width) ≤ length out.old) }
     ensures { out.new ≡ sets out.old at (0x0B ∷ slice (reader.entry.place + 1) (reader.entry.place + 1 + width) reader.entry.journal.now ++ two_bytes duct) }
 {
@@ -89,7 +91,8 @@ fn put_span<'a>(reader: Reader<'a>, width: usize, duct: u32, out: &mut [u8], at:
 
 // Stores the command at the reader's place, rewritten, from a place of the buffer on; so many spans are before it. (A place, and not the buffer's
 // tail: what is stored by and by is one run of stores into one buffer.)
-fn put_command<'a>(reader: Reader<'a>, head: Taken<u8>, spans: u32, out: &mut [u8], at: usize)
+#[tactic(auto, unfolding(crate::specs::Inside::Measures::size_of, crate::specs::Inside::Writes::rewritten_at))]
+fn put_command(reader: Reader<'_>, head: Taken<u8>, spans: u32, out: &mut [u8], at: usize)
     requires { (reader.place + 1 + head.width ≤ length reader.journal.now) × (spans ≤ 65536) × (at + size_of head.command head.width ≤ length out.old) }
     ensures { out.new ≡ sets out.old at (rewritten_at reader.entry.journal.now reader.entry.place head.command head.width spans) }
 {
@@ -107,6 +110,7 @@ fn put_command<'a>(reader: Reader<'a>, head: Taken<u8>, spans: u32, out: &mut [u
 }
 
 // Stores the result of a journal without 0B that is read to its end, where there is room for it.
+#[tactic(auto, using(reading::proofs::PassedAt::operands_here, crate::proofs::Writing::room_here, crate::proofs::Writing::written_to_end))]
 fn write(journal: &[u8], out: &mut [u8])
     requires { Writable journal.now out.old }
     ensures { out.new ≡ result_stored journal.now out.old }
@@ -139,6 +143,7 @@ fn write_within(journal: &[u8], out: &mut [u8], length: usize) -> Result<u32, Re
 }
 
 // The rewriting of a journal into a buffer: the length of the result. What the forecast refuses is refused alike.
+#[tactic(auto, using(crate::proofs::Ends::readable, crate::proofs::Ends::refused_as_foretold))]
 pub fn rewrite_into(journal: &[u8], out: &mut [u8]) -> Result<u32, RefusedAt>
     ensures { Rewrote journal.now out.old out.new result }
 {

@@ -1,12 +1,15 @@
 use Prim.Native.Nat.{◌-◌}
+use mathlib.Core.Bool.{true}
 use mathlib.Core.Path.{◌≡◌}
 use lib.ListN.{length}
+use Rattle.commands.specs.Bytes.{all_bytes}
 use Rattle.rewriting.specs.Inside.Writes.{WrittenTo}
 use Rattle.rewriting.proofs.write.Given as goal
 
 abbrev pub invariant-loop-reader : goal.invariant-loop-reader
 invariant-loop-reader l = record {
   same : l.reader.journal.now ≡ l.journal;
+  bytes : all_bytes l.reader.journal.now ≡ true;
   so_far : WrittenTo l.reader.journal.now l.initial.out l.out l.spans l.at l.reader.place;
 }
 
