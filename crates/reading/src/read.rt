@@ -60,7 +60,8 @@ fn operand(journal: &[u8], from: usize) -> u16
     u16::from_be_bytes([journal[from], journal[from + 1]])
 }
 
-// The N operands that stand from a place on.
+// The N operands that stand from a place on. (By their index: of an element of `array::from_fn` its contract does not tell which journal the closure
+// read.)
 fn operands<const N: usize>(journal: &[u8], from: usize) -> Result<[u16; N], Unread>
     requires { (from ≤ length journal.now) × (N ≤ 3) }
     ensures { MatchResult result (λ x. OperandsAre N x (drop from journal.now)) (λ e. TooShort N e (drop from journal.now)) }
@@ -170,7 +171,7 @@ pub fn entry_of(table: u64, k: u8) -> u8
     requires { k ≤ 15 }
     ensures { result ≡ entry_of table k }
 {
-    let low = (k as u32) * 4;
+    let low = u32::from(k) * 4;
     ((table >> low) % 16) as u8
 }
 
