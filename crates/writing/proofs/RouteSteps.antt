@@ -1,7 +1,7 @@
 -- The answer to 0C as it is written: span by span, and the one route behind the other.
 use mathlib.Core.List.{List, [], ◌∷◌, ◌++◌, map}
 use mathlib.Core.Path.{◌≡◌, refl, sym, ◌∙◌, ap}
-use Prim.Native.Nat.{ℕ, suc, ◌+◌, ◌*◌}
+use Prim.Native.Nat.{ℕ, ◌+◌, ◌*◌}
 use native.Mathlib.Omega.{arith}
 use lib.Seq.{sets}
 use Rattle.graph.specs.Below.{tabulate, length_tabulate}
@@ -9,17 +9,8 @@ use Rattle.commands.specs.Bytes.{two_bytes}
 use Rattle.commands.specs.Field.{span, field_bytes, fields_bytes}
 use Rattle.commands.specs.Answer.{plain_fields, plain, routes_are, answer_fields, answer_bytes}
 use Rattle.commands.proofs.Bytes.{spans_in_two_bytes, bytes_then_counted, length_two_bytes_each}
-use Rattle.step.specs.declared.Listed.TheVariants as L
-use Rattle.writing.specs.Inside.Writes.{list_field, route_bytes}
+use Rattle.writing.specs.Inside.Writes.{route_bytes}
 use Rattle.storing.proofs.Sets.{sets_behind}
-use Rattle.writing.proofs.WriteSteps.{items_more}
-
--- one span more
-pub spans_more : (l : List ℕ) (start at i : ℕ) (f : ℕ → ℕ) → at ≡ start + 2 * i
-    → sets (sets l start (fields_bytes (map span (tabulate i f)))) at (two_bytes (f i))
-    ≡ sets l start (fields_bytes (map span (tabulate (suc i) f)))
-unfolding list_field
-spans_more = items_more L.Spans
 
 -- the count of a route's spans and then the spans are the route
 pub route_written : (l : List ℕ) (from place count : ℕ) (f : ℕ → ℕ) → place ≡ from + 2

@@ -1,19 +1,21 @@
 -- Laws of the writers: the bytes of one item more, how many bytes there are, and the answers that they are.
 use mathlib.Core.Bool.{Bool, true, false}
-use mathlib.Core.List.{List, [], ◌∷◌, ◌++◌, map}
-use mathlib.Core.Path.{◌≡◌, refl, sym, ◌∙◌, ap}
+use mathlib.Core.List.{List, ◌∷◌, ◌++◌, map}
+use mathlib.Core.Path.{◌≡◌, refl, ◌∙◌, ap}
 use mir.Val as Machine
-use Prim.Native.Nat.{ℕ, suc, ◌+◌, ◌*◌, ◌≤◌}
+use Prim.Native.Nat.{ℕ, ◌+◌, ◌*◌, ◌≤◌}
 use native.Mathlib.Omega.{arith}
-use lib.ListN.{length}
+use lib.ListN.{length, set}
 use lib.Seq.{sets}
+use Rattle.std.specs.Prelude.{Option, None, Some}
 use Rattle.graph.specs.Below.{tabulate, length_tabulate}
 use Rattle.commands.specs.Bytes.{two_bytes}
 use Rattle.commands.specs.Field.{Kind, district, ring, mesh, field_bytes, fields_bytes}
-use Rattle.commands.specs.Answer.{notice_fields, notices_fields, bool_byte, plain_fields, span_added, plain, answer_fields, answer_bytes}
+use Rattle.commands.specs.Answer.{notices_fields, bool_byte, plain_fields, span_added, plain, answer_fields, answer_bytes}
 use Rattle.commands.specs.Entry.{over}
-use Rattle.commands.proofs.Bytes.{InTwoBytes, cabinets_in_two_bytes, spans_in_two_bytes, bytes_of-one_more, length_two_bytes_each}
-use Rattle.commands.proofs.NoticeBytes.{length_notices_bytes, notices_bytes_append, bytes_of-one_more-notice}
+use Rattle.commands.proofs.Bytes.{InTwoBytes, cabinets_in_two_bytes, spans_in_two_bytes}
+use Rattle.commands.proofs.NoticeBytes.{length_notices_bytes, notices_bytes_append}
+use Rattle.numbers.specs.declared.Edge.{Edge}
 use Rattle.numbers.specs.declared.Shape.{Shape}
 use Rattle.forest.specs.declared.Group.{Group}
 use Rattle.forest.specs.declared.Growth.{Growth}
@@ -22,55 +24,19 @@ use Rattle.forest.specs.declared.VertexGroups.TheVariants as G
 use Rattle.step.specs.declared.Listed.{Listed}
 use Rattle.step.specs.declared.Listed.TheVariants as L
 use Rattle.step.specs.declared.Reply.{Reply}
-use Rattle.step.specs.Promise.{notice_at, notices_of, notice_count, growth_notices, group_told, group_answer, list_answer, reply_answer, reply_size}
+use Rattle.step.specs.Promise.{notice_at, notices_of, notice_count, growth_notices, group_told, group_answer, shared_answer, list_answer, length_told, reply_answer, reply_size}
 use Rattle.step.proofs.Replies.{count_notices_lem, reply_counted}
+use Rattle.writing.specs.Inside.Items.{each_bytes}
 use Rattle.writing.specs.Inside.Notices.{head_bytes}
-use Rattle.writing.specs.Inside.Writes.{group_code, list_code, list_field}
-use Rattle.storing.proofs.Sets.{sets_behind, sets_four, sets_front}
-
--- items of a kind: `each` gives the bytes of a list of them, `one` those of one, which are `width` many
-module _
-    {A : Type 0}
-    (each : List A → List ℕ)
-    (one : A → List ℕ)
-    (width : ℕ)
-    (more : (xs : List A) (x : A) → each (xs ++ x ∷ []) ≡ each xs ++ one x)
-    (counted : (xs : List A) → length (each xs) ≡ width * length xs)
-  where
-    length_written : (n : ℕ) (f : ℕ → A) → length (each (tabulate n f)) ≡ width * n
-    length_written n f = counted (tabulate n f) ∙ ap (λ (k : ℕ). width * k) (length_tabulate n f)
-
-    written_more : (l : List ℕ) (start at i : ℕ) (f : ℕ → A) → at ≡ start + width * i
-        → sets (sets l start (each (tabulate i f))) at (one (f i)) ≡ sets l start (each (tabulate (suc i) f))
-    unfolding tabulate
-    written_more l start at i f e =
-        sets_behind l start at (each (tabulate i f)) (one (f i)) (omega (arith, length_written i f))
-        ∙ ap (λ (b : List ℕ). sets l start b) (sym (more (tabulate i f) (f i)))
+use Rattle.writing.specs.Inside.Writes.{group_code, list_code, list_field, number_of, option_bytes}
+use Rattle.storing.proofs.Sets.{sets_four, sets_front}
+use Rattle.writing.proofs.ItemSteps.{each_number}
 
 -- the items of the lists have two bytes
 listed_in_two_bytes : (list : Listed) → InTwoBytes (list_field list)
 unfolding list_field
 listed_in_two_bytes L.Spans = spans_in_two_bytes
 listed_in_two_bytes L.Cabinets = cabinets_in_two_bytes
-
--- one item more
-pub items_more : (list : Listed) (l : List ℕ) (start at i : ℕ) (f : ℕ → ℕ) → at ≡ start + 2 * i
-    → sets (sets l start (fields_bytes (map (list_field list) (tabulate i f)))) at (two_bytes (f i))
-    ≡ sets l start (fields_bytes (map (list_field list) (tabulate (suc i) f)))
-items_more list l start at i f e =
-    let two = listed_in_two_bytes list in
-    written_more
-    (λ ns. fields_bytes (map (list_field list) ns))
-    two_bytes
-    2
-    (bytes_of-one_more (list_field list) two)
-    (length_two_bytes_each (list_field list) two)
-    l
-    start
-    at
-    i
-    f
-    e
 
 -- a test as a byte
 pub flag_byte : (b : Bool) → Machine.bool_byte b ≡ bool_byte b
@@ -92,36 +58,34 @@ unfolding list_answer list_code list_field answer_bytes answer_fields plain_fiel
 list_bytes L.Spans items = refl
 list_bytes L.Cabinets items = refl
 
-module _ (kind : Kind) (shape : Shape) (t : List ℕ) where
-  -- how many bytes the first n notices of a kind have
-  length_told_lem : (n : ℕ) → length (fields_bytes (notices_fields (notices_of kind shape t n))) ≡ 5 * n
-  length_told_lem n =
-      length_written
-      (λ ts. fields_bytes (notices_fields ts))
-      (λ u. fields_bytes (notice_fields u))
-      5
-      bytes_of-one_more-notice
-      length_notices_bytes
-      n
-      (notice_at kind shape t)
+-- which are written one behind another
+pub list_written : (list : Listed) (l : List ℕ) (count : ℕ) (f : ℕ → ℕ)
+    → sets (sets (set l 0 (list_code list)) 1 (two_bytes count)) 3 (each_bytes (λ i. two_bytes (f i)) count)
+    ≡ sets l 0 (answer_bytes (plain (list_answer list (tabulate count f))))
+unfolding two_bytes
+list_written list l count f =
+    rw (
+      list_bytes list (tabulate count f),
+      length_tabulate count f,
+      each_number (list_field list) (listed_in_two_bytes list) f count,
+    )
 
-  -- one notice more
-  pub told_more : (l : List ℕ) (start at i : ℕ) → at ≡ start + 5 * i
-      → sets (sets l start (fields_bytes (notices_fields (notices_of kind shape t i)))) at (fields_bytes (notice_fields (notice_at kind shape t i)))
-      ≡ sets l start (fields_bytes (notices_fields (notices_of kind shape t (suc i))))
-  told_more l start at i e =
-      written_more
-      (λ ts. fields_bytes (notices_fields ts))
-      (λ u. fields_bytes (notice_fields u))
-      5
-      bytes_of-one_more-notice
-      length_notices_bytes
-      l
-      start
-      at
-      i
-      (notice_at kind shape t)
-      e
+-- how many bytes the first n notices of a kind have
+length_told_lem : (kind : Kind) (shape : Shape) (t : List ℕ) (n : ℕ)
+    → length (fields_bytes (notices_fields (notices_of kind shape t n))) ≡ 5 * n
+length_told_lem kind shape t n =
+    length_notices_bytes (notices_of kind shape t n) ∙ ap (λ (k : ℕ). 5 * k) (length_tabulate n (notice_at kind shape t))
+
+-- the answers to 05 and 0E are a byte and a number, if there is one
+pub shared_bytes : (shared : Option Edge) → answer_bytes (plain (shared_answer shared)) ≡ option_bytes 0x85 (number_of shared)
+unfolding shared_answer option_bytes answer_bytes answer_fields plain_fields fields_bytes field_bytes two_bytes
+shared_bytes (Some name) = refl
+shared_bytes None = refl
+
+pub length_bytes : (kept : Option ℕ) → answer_bytes (plain (length_told kept)) ≡ option_bytes 0x8E kept
+unfolding length_told option_bytes answer_bytes answer_fields plain_fields fields_bytes field_bytes two_bytes
+length_bytes (Some metres) = refl
+length_bytes None = refl
 
 -- The answer to an added span.
 module _ (shape : Shape) (t : List ℕ) (growth : Growth) where

@@ -8,6 +8,7 @@ ghost use Rattle.commands.specs.Entry.{over};
 ghost use Rattle.step.specs.Promise.{finding_answer, reply_answer, finding_size, reply_size, ReplyFits};
 ghost use Rattle.writing.specs.Inside.Writes.{group_code};
 
+pub mod items;
 pub mod notice;
 pub mod route;
 pub mod write;
@@ -15,14 +16,13 @@ pub mod write;
 use crate::notice::write_span;
 use crate::route::write_routes;
 use crate::write::{
-    write_cabinet, write_code, write_flag, write_group, write_length, write_list, write_number,
-    write_shared,
+    write_cabinet, write_code, write_flag, write_group, write_list, write_number, write_option,
 };
-use forest::VertexGroups;
-use numbers::Shape;
+use forest::{Table, VertexGroups};
 use step::{Finding, Reply};
 
 // The code of the answer to 03 or 04.
+#[tactic(auto, unfolding(crate::specs::Inside::Writes::group_code))]
 fn group_code(groups: VertexGroups) -> u8
     ensures { result ≡ group_code groups }
 {
@@ -33,32 +33,34 @@ fn group_code(groups: VertexGroups) -> u8
 }
 
 // The answer with a finding: each kind by its own writer.
-fn write_finding(t: &[u32], shape: Shape, out: &mut [u8], finding: Finding)
+#[tactic(auto, unfolding(step::specs::Promise::finding_size, step::specs::Promise::finding_answer, commands::specs::Answer::answer_bytes, commands::specs::Answer::answer_fields, commands::specs::Answer::plain_fields, commands::specs::Field::fields_bytes, commands::specs::Field::field_bytes, commands::specs::Bytes::two_bytes), using(crate::proofs::WriteSteps::group_bytes, crate::proofs::WriteSteps::shared_bytes, crate::proofs::WriteSteps::length_bytes))]
+fn write_finding(t: &Table, out: &mut [u8], finding: Finding)
     requires { finding_size finding ≤ length out.old }
-    ensures { out.new ≡ sets out.old 0 (answer_bytes (plain (finding_answer shape t.now finding))) }
+    ensures { out.new ≡ sets out.old 0 (answer_bytes (plain (finding_answer t.now.shape t.now.words.now finding))) }
 {
     match finding {
         Finding::Group(groups, group) => write_group(out, group_code(groups), group),
-        Finding::Mesh(shared) => write_shared(out, shared),
-        Finding::List(list, count) => write_list(t, shape, out, list, count),
-        Finding::Sole(sole) => write_flag(out, 0x88, sole as u8),
+        Finding::Mesh(shared) => write_option(out, 0x85, shared.map(|name| name.0)),
+        Finding::List(list, count) => write_list(t, out, list, count),
+        Finding::Sole(sole) => write_flag(out, 0x88, sole),
         Finding::Marked => write_code(out, 0x89),
-        Finding::Held(held) => write_flag(out, 0x8A, held as u8),
-        Finding::Routes(lengths) => write_routes(t, shape, out, lengths),
+        Finding::Held(held) => write_flag(out, 0x8A, held),
+        Finding::Routes(lengths) => write_routes(t, out, lengths),
         Finding::Recorded => write_code(out, 0x8D),
-        Finding::Measured(length) => write_length(out, length),
+        Finding::Measured(length) => write_option(out, 0x8E, length),
         Finding::Share(share) => write_number(out, 0x8F, share),
     }
 }
 
 // The answer, at the front of what is left of the answer buffer: each kind by its own writer.
-pub fn write_reply(t: &[u32], shape: Shape, out: &mut [u8], reply: Reply)
+#[tactic(auto, unfolding(step::specs::Promise::reply_size, step::specs::Promise::reply_answer, commands::specs::Answer::answer_bytes, commands::specs::Answer::answer_fields, commands::specs::Field::fields_bytes, commands::specs::Field::field_bytes, commands::specs::Bytes::two_bytes), using(crate::proofs::WriteSteps::reply_written))]
+pub fn write_reply(t: &Table, out: &mut [u8], reply: Reply)
     requires { (reply_size reply ≤ length out.old) × ReplyFits reply }
-    ensures { out.new ≡ over (answer_bytes (reply_answer shape t.now reply)) out.old }
+    ensures { out.new ≡ over (answer_bytes (reply_answer t.now.shape t.now.words.now reply)) out.old }
 {
     match reply {
         Reply::Cabinet(a) => write_cabinet(out, 0x81, a),
-        Reply::Span(span, growth) => write_span(t, shape, out, span, growth),
-        Reply::Found(finding) => write_finding(t, shape, out, finding),
+        Reply::Span(span, growth) => write_span(t, out, span, growth),
+        Reply::Found(finding) => write_finding(t, out, finding),
     }
 }

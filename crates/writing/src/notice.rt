@@ -3,81 +3,105 @@ ghost use Rattle.std.specs.Prelude.{◌∷◌, ◌++◌, ◌≡◌, ◌+◌, ◌
 ghost use Rattle.std.proofs.lemmas.List.Edits.{sets};
 ghost use Rattle.commands.specs.Bytes.{two_bytes};
 ghost use Rattle.commands.specs.Field.{fields_bytes};
-ghost use Rattle.commands.specs.Answer.{notice_fields, notices_fields, span_added, answer_bytes};
+ghost use Rattle.commands.specs.Answer.{kind_byte, notice_fields, notices_fields, span_added, answer_bytes};
 ghost use Rattle.step.specs.Promise.{notice_at, notices_of, notice_count, growth_notices};
-ghost use Rattle.writing.specs.Inside.Notices.{kind_of, notice_of, head_bytes};
+ghost use Rattle.writing.specs.Inside.Notices.{kind_of, notice_of, length_notice, head_bytes};
 
-use forest::{EdgeChange, Growth, VertexChange, VertexGroups, edge_change_at, vertex_change_at};
-use numbers::{Edge, Shape};
+use crate::items::{Item, put_items};
+use forest::{Growth, Table, VertexGroups, edge_change_at, vertex_change_at};
+use numbers::Edge;
 use storing::{put_byte, put_two};
 
-// The kinds of notices.
-#[derive(Clone, Copy)]
-pub enum Told {
-    Districts,
-    Rings,
-    Meshes,
+// The kinds of names that notices tell.
+#[derive(Clone, Copy, PartialEq, Eq)]
+pub enum Kind {
+    District,
+    Ring,
+    Mesh,
 }
 
 // A notice: a cabinet's new district or ring name, or a span's new mesh name.
 #[derive(Clone, Copy)]
-pub enum Notice {
-    District(VertexChange),
-    Ring(VertexChange),
-    Mesh(EdgeChange),
+pub struct Notice {
+    pub kind: Kind,
+    pub item: u32,
+    pub name: u32,
 }
 
-// Notice i of a kind, as the table has it written down.
-fn notice_at(t: &[u32], shape: Shape, told: Told, i: u32) -> Notice
-    ensures { notice_of result ≡ notice_at (kind_of told) shape t.now i }
-{
-    match told {
-        Told::Districts => {
-            Notice::District(vertex_change_at(t, shape, VertexGroups::Components, i))
+impl From<Kind> for u8 {
+    ghost from_gives = { λ kind byte. byte ≡ kind_byte (kind_of kind) };
+
+    #[tactic(auto, unfolding(commands::specs::Answer::kind_byte, crate::specs::Inside::Notices::kind_of))]
+    fn from(kind: Kind) -> u8 {
+        match kind {
+            Kind::District => 1,
+            Kind::Ring => 2,
+            Kind::Mesh => 3,
         }
-        Told::Rings => Notice::Ring(vertex_change_at(t, shape, VertexGroups::BridgeBlocks, i)),
-        Told::Meshes => Notice::Mesh(edge_change_at(t, shape, i)),
     }
 }
 
-// The byte of a kind, an item and its new name.
-fn put_change(out: &mut [u8], at: usize, kind: u8, item: u32, name: u32)
-    requires { at + 5 ≤ length out.old }
-    ensures { out.new ≡ sets out.old at (kind ∷ two_bytes item ++ two_bytes name) }
-{
-    put_byte(out, at, kind);
-    put_two(out, at + 1, item);
-    put_two(out, at + 3, name);
+// The byte of its kind, its item and its name.
+impl Item for Notice {
+    ghost bytes = { λ n. fields_bytes (notice_fields (notice_of n)) };
+
+    ghost WIDTH = { 5 };
+
+    const WIDTH: usize = 5;
+
+    ghost counted = { length_notice };
+
+    #[tactic(auto, unfolding(crate::specs::Inside::Notices::notice_of, commands::specs::Bytes::two_bytes), using(commands::proofs::NoticeBytes::notice_bytes))]
+    fn put(self, out: &mut [u8], at: usize) {
+        put_byte(out, at, self.kind.into());
+        put_two(out, at + 1, self.item);
+        put_two(out, at + 3, self.name);
+    }
 }
 
-// One notice.
-fn put_notice(out: &mut [u8], at: usize, n: Notice)
-    requires { at + 5 ≤ length out.old }
-    ensures { out.new ≡ sets out.old at (fields_bytes (notice_fields (notice_of n))) }
+// Notice i of a kind, as the table has it written down.
+#[tactic(auto, unfolding(crate::specs::Inside::Notices::kind_of, crate::specs::Inside::Notices::notice_of, step::specs::Promise::notice_at, commands::specs::Answer::change_notice))]
+fn notice_at(t: &Table, kind: Kind, i: u32) -> Notice
+    ensures { notice_of result ≡ notice_at (kind_of kind) t.now.shape t.now.words.now i }
 {
-    match n {
-        Notice::District(c) => put_change(out, at, 1, c.item.0, c.name.0),
-        Notice::Ring(c) => put_change(out, at, 2, c.item.0, c.name.0),
-        Notice::Mesh(c) => put_change(out, at, 3, c.item.0, c.name.0),
+    match kind {
+        Kind::District => {
+            let change = vertex_change_at(t, VertexGroups::Components, i);
+            Notice {
+                kind,
+                item: change.item.0,
+                name: change.name.0,
+            }
+        }
+        Kind::Ring => {
+            let change = vertex_change_at(t, VertexGroups::BridgeBlocks, i);
+            Notice {
+                kind,
+                item: change.item.0,
+                name: change.name.0,
+            }
+        }
+        Kind::Mesh => {
+            let change = edge_change_at(t, i);
+            Notice {
+                kind,
+                item: change.item.0,
+                name: change.name.0,
+            }
+        }
     }
 }
 
 // The notices of a kind, one after another, from a place on.
-fn put_notices(t: &[u32], shape: Shape, out: &mut [u8], at: usize, told: Told, count: u32)
+fn put_notices(t: &Table, out: &mut [u8], at: usize, kind: Kind, count: u32)
     requires { at + 5 * count ≤ length out.old }
-    ensures { out.new ≡ sets out.old at (fields_bytes (notices_fields (notices_of (kind_of told) shape t.now count))) }
+    ensures { out.new ≡ sets out.old at (fields_bytes (notices_fields (notices_of (kind_of kind) t.now.shape t.now.words.now count))) }
 {
-    let mut i: u32 = 0;
-    let mut next: usize = at;
-    while i < count {
-        let n = notice_at(t, shape, told, i);
-        put_notice(out, next, n);
-        next += 5;
-        i += 1;
-    }
+    put_items(out, at, count, |i| notice_at(t, kind, i));
 }
 
 // The number of the span, its mesh name and the count of notices.
+#[tactic(auto, unfolding(crate::specs::Inside::Notices::head_bytes, commands::specs::Bytes::two_bytes))]
 fn put_head(out: &mut [u8], span: Edge, name: Edge, total: u32)
     requires { 7 ≤ length out.old }
     ensures { out.new ≡ sets out.old 0 (head_bytes span.0 name.0 total) }
@@ -89,29 +113,28 @@ fn put_head(out: &mut [u8], span: Edge, name: Edge, total: u32)
 }
 
 // The answer to an added span.
-pub(crate) fn write_span(t: &[u32], shape: Shape, out: &mut [u8], span: Edge, growth: Growth)
+#[tactic(auto, unfolding(crate::specs::Inside::Notices::kind_of), using(crate::proofs::WriteSteps::span_written))]
+pub(crate) fn write_span(t: &Table, out: &mut [u8], span: Edge, growth: Growth)
     requires { (notice_count growth < 65536) × (7 + 5 * notice_count growth ≤ length out.old) }
-    ensures { out.new ≡ sets out.old 0 (answer_bytes (span_added span.0 growth.block.0 (growth_notices shape t.now growth))) }
+    ensures { out.new ≡ sets out.old 0 (answer_bytes (span_added span.0 growth.block.0 (growth_notices t.now.shape t.now.words.now growth))) }
 {
     let block = growth.block;
     let of_cabinets = growth.components + growth.bridge_blocks;
     let total = of_cabinets + growth.blocks;
     put_head(out, span, block, total);
-    put_notices(t, shape, out, 7, Told::Districts, growth.components);
+    put_notices(t, out, 7, Kind::District, growth.components);
     put_notices(
         t,
-        shape,
         out,
         7 + 5 * (growth.components as usize),
-        Told::Rings,
+        Kind::Ring,
         growth.bridge_blocks,
     );
     put_notices(
         t,
-        shape,
         out,
         7 + 5 * (of_cabinets as usize),
-        Told::Meshes,
+        Kind::Mesh,
         growth.blocks,
     );
 }

@@ -2,49 +2,36 @@
 ghost use Rattle.std.specs.Prelude.{map, ◌≡◌, ◌+◌, ◌*◌, ◌≤◌, length};
 ghost use Rattle.std.proofs.lemmas.List.Edits.{sets};
 ghost use Rattle.graph.specs.Below.{tabulate};
-ghost use Rattle.commands.specs.Field.{span, fields_bytes};
+ghost use Rattle.commands.specs.Field.{span};
 ghost use Rattle.commands.specs.Answer.{plain, answer_bytes};
 ghost use Rattle.routes.specs.Promise.{edge_at};
 ghost use Rattle.step.specs.Promise.{routes_told};
 ghost use Rattle.writing.specs.Inside.Writes.{route_bytes};
 
-use numbers::Shape;
+use crate::items::put_items;
+use forest::Table;
 use routes::{Lengths, Route, edge_at};
 use storing::{put_byte, put_two};
 
-// The spans of a route, one after another, from a place on.
-fn put_spans(t: &[u32], shape: Shape, out: &mut [u8], route: Route, count: u32, from: usize)
-    requires { from + 2 * count ≤ length out.old }
-    ensures { out.new ≡ sets out.old from (fields_bytes (map span (tabulate count (edge_at shape t.now route)))) }
-{
-    let mut i: u32 = 0;
-    let mut at: usize = from;
-    while i < count {
-        put_two(out, at, edge_at(t, shape, route, i).0);
-        at += 2;
-        i += 1;
-    }
-}
-
 // The count of a route's spans, and the spans, from a place on.
-fn put_route(t: &[u32], shape: Shape, out: &mut [u8], route: Route, count: u32, from: usize)
+fn put_route(t: &Table, out: &mut [u8], route: Route, count: u32, from: usize)
     requires { from + 2 + 2 * count ≤ length out.old }
-    ensures { out.new ≡ sets out.old from (route_bytes (tabulate count (edge_at shape t.now route))) }
+    ensures { out.new ≡ sets out.old from (route_bytes (tabulate count (edge_at t.now.shape t.now.words.now route))) }
 {
     put_two(out, from, count);
-    put_spans(t, shape, out, route, count, from + 2);
+    put_items(out, from + 2, count, |i| edge_at(t, route, i).0);
 }
 
 // The answer to 0C: the one route behind the other.
-pub(crate) fn write_routes(t: &[u32], shape: Shape, out: &mut [u8], lengths: Lengths)
+#[tactic(auto, using(crate::proofs::RouteSteps::routes_written))]
+pub(crate) fn write_routes(t: &Table, out: &mut [u8], lengths: Lengths)
     requires { 5 + 2 * (lengths.first + lengths.second) ≤ length out.old }
-    ensures { out.new ≡ sets out.old 0 (answer_bytes (plain (routes_told shape t.now lengths))) }
+    ensures { out.new ≡ sets out.old 0 (answer_bytes (plain (routes_told t.now.shape t.now.words.now lengths))) }
 {
     put_byte(out, 0, 0x8C);
-    put_route(t, shape, out, Route::First, lengths.first, 1);
+    put_route(t, out, Route::First, lengths.first, 1);
     put_route(
         t,
-        shape,
         out,
         Route::Second,
         lengths.second,

@@ -1,7 +1,8 @@
 -- The codes and fields of answers without notices.
-use Rattle.std.specs.Prelude.{List, map, ◌++◌, ℕ, length}
+use Rattle.std.specs.Prelude.{Option, None, Some, List, ◌∷◌, map, ◌++◌, ℕ, length}
 use Rattle.commands.specs.Bytes.{two_bytes}
 use Rattle.commands.specs.Field.{Field, cabinet, span, fields_bytes}
+use Rattle.numbers.specs.declared.Edge.{Edge}
 use Rattle.forest.specs.declared.VertexGroups.{VertexGroups}
 use Rattle.forest.specs.declared.VertexGroups.TheVariants as G
 use Rattle.step.specs.declared.Listed.{Listed}
@@ -20,6 +21,16 @@ list_code L.Cabinets = 0x87
 unfoldable pub list_field : Listed → ℕ → Field
 list_field L.Spans n = span n
 list_field L.Cabinets n = cabinet n
+
+-- The number of an edge, if there is one.
+abbrev pub number_of : Option Edge → Option ℕ
+number_of (Some e) = Some e.0
+number_of None = None
+
+-- The answers to 05 and 0E: a byte, and a number if there is one.
+unfoldable pub option_bytes : ℕ → Option ℕ → List ℕ
+option_bytes code (Some n) = code ∷ 1 ∷ two_bytes n
+option_bytes code None = code ∷ 0 ∷ two_bytes 0
 
 -- A route in the answer to 0C: the count of its spans, and the spans.
 unfoldable pub route_bytes : List ℕ → List ℕ

@@ -1,13 +1,19 @@
 -- `route::put_route` writes the count of a route's spans, and the spans.
+use mathlib.Core.Path.{◌∙◌, ap}
 use Prim.Native.Nat.{◌+◌}
 use native.Mathlib.Omega.{arith}
+use Rattle.std.proofs.Common.{rules}
+use Rattle.commands.specs.Bytes.{two_bytes}
+use Rattle.commands.specs.Field.{span}
+use Rattle.commands.proofs.Bytes.{spans_in_two_bytes}
 use Rattle.routes.specs.Promise.{edge_at}
+use Rattle.writing.proofs.ItemSteps.{each_number}
 use Rattle.writing.proofs.RouteSteps.{route_written}
 use Rattle.writing.proofs.route.put_route.Goals as goal
 
 pub returns : goal.returns
 returns c =
-    let at = edge_at c.args.shape c.args.t.now c.args.route in
-    rw
-    (c.put_spans.ensures, c.put_two.ensures)
+    let at = edge_at c.args.t.now.shape c.args.t.now.words.now c.args.route in
+    c.put_items.ensures (λ i. two_bytes (at i)) (λ i h x given. ap two_bytes (search rules))
+    ∙ rw (each_number span spans_in_two_bytes at c.args.count, c.put_two.ensures)
     (route_written c.args.out.now c.args.from (c.args.from + 2) c.args.count at (omega arith))
