@@ -1,10 +1,10 @@
 -- How many words a run uses, and what clearing them leaves.
 use mathlib.Core.List.{List, ◌++◌}
-use mathlib.Core.Path.{◌≡◌}
+use mathlib.Core.Path.{◌≡◌, ◌∙◌}
 use Prim.Native.Nat.{ℕ, ◌+◌, ◌≤◌, min}
 use native.Mathlib.Omega.{arith}
-use lib.ListN.{length, drop, replicate, length-replicate}
-use lib.Seq.{drop-drop}
+use lib.ListN.{length, length-append, length-drop, take, drop, replicate, length-replicate}
+use lib.Seq.{drop-drop, drop-append_seam, length-take-le}
 use Rattle.commands.specs.Entry.{work_needed, over}
 use Rattle.numbers.specs.declared.Limits.{Limits}
 use Rattle.forest.specs.Promise.{words_needed, words_needed_lem, SameBeyond}
@@ -33,3 +33,13 @@ cleared_over limits old new same long =
       ← drop-drop 64 used old,
       same.beyond,
     )
+
+-- where only the table's own words are lent, those beyond are as before
+pub own_lent : {limits : Limits} (old front : List ℕ) (own : ℕ) → own ≡ words_needed limits → own ≤ length old → length front ≡ length (take own old)
+    → SameBeyond limits old (front ++ drop own old)
+own_lent {limits} old front own e fits long =
+    let all : length front ≡ own = long ∙ length-take-le own old fits in
+    record {
+      as_long = omega (arith, all, fits, length-append front (drop own old), length-drop own old);
+      beyond = rw (← e) (rw (← all) (drop-append_seam front (drop (length front) old)));
+    }

@@ -15,7 +15,7 @@ use Rattle.commands.proofs.ForecastRoom.{run_answers_fit}
 use Rattle.commands.proofs.WholeRun.{register-mates, register_serves}
 use Rattle.numbers.specs.declared.Limits.{Limits}
 use Rattle.numbers.specs.declared.Shape.{Shape}
-use Rattle.forest.specs.Promise.{Begun}
+use Rattle.forest.specs.Promise.{SameBeyond, Begun}
 use Rattle.step.specs.Promise.{capacities_of}
 use Rattle.run.specs.declared.Progress.{Progress}
 use Rattle.run.specs.Promise.{whole_of, six_numbers, RunPromise}
@@ -23,15 +23,15 @@ use Rattle.run.specs.Inside.Runs.{at_start, written_behind, left_of, Behind, lea
 use Rattle.run.proofs.Whole.{same_rule, begun_limits}
 
 -- The run of a journal, from a table and an answer buffer.
-module _ {limits : Limits} {old : List ℕ} (journal old_answers : List ℕ) where
+module _ {limits : Limits} {t : List ℕ} (journal old_answers : List ℕ) where
   -- what a run that begins will leave behind is what the whole run does
-  will_leave_whole : {shape : Shape} → Begun limits old shape
-      → will_leave (at_start shape) journal old old_answers
+  will_leave_whole : {shape : Shape} → Begun limits t shape
+      → will_leave (at_start shape) journal t old_answers
       ≡ record {
         numbers = report_of register_rule (whole_of (capacities_of limits) journal old_answers);
         answers = over (bytes_of_answers (whole_of (capacities_of limits) journal old_answers).accepted) old_answers;
       }
-  unfolding at_start leaves_after numbers_after left_of written_behind report_of book_after text_of empty_state
+  unfolding leaves_after numbers_after left_of written_behind report_of book_after text_of empty_state
   will_leave_whole begun =
       let done = (whole_of (capacities_of limits) journal old_answers).accepted in
       rw (
@@ -44,11 +44,13 @@ module _ {limits : Limits} {old : List ℕ} (journal old_answers : List ℕ) whe
       )
 
   -- the code has come to that
-  pub run_promised : length journal ≤ 65536 → {shape : Shape} → Begun limits old shape → {p : Progress} {new answers new_answers : List ℕ}
-      → HasCome with_answers shape.limits (will_leave (at_start shape) journal old old_answers) p old new old_answers answers
-      → new_answers ≡ answers → RunPromise limits (whole_of (capacities_of limits) journal old_answers) p old new old_answers new_answers
+  pub run_promised : length journal ≤ 65536 → {shape : Shape} → Begun limits t shape → {old new : List ℕ} → SameBeyond limits old new
+      → {p : Progress} {answers new_answers : List ℕ}
+      → HasCome with_answers (will_leave (at_start shape) journal t old_answers) p old_answers answers
+      → new_answers ≡ answers
+      → RunPromise limits (whole_of (capacities_of limits) journal old_answers) p old new old_answers new_answers
   unfolding leaves six_numbers report_of capacities_of
-  run_promised short begun {p = p} come same =
+  run_promised short begun beyond {p = p} come same =
       let whole = whole_of (capacities_of limits) journal old_answers in
       let left = come.has ∙ will_leave_whole begun in
       let numbers : six_numbers p ≡ report_of register_rule whole = ap (λ (b : Behind). b.numbers) left in
@@ -59,7 +61,7 @@ module _ {limits : Limits} {old : List ℕ} (journal old_answers : List ℕ) whe
       record {
         numbers_are = numbers;
         answers_are = same ∙ ap (λ (b : Behind). b.answers) left;
-        same_beyond = rw (begun_limits begun) at come.same_beyond;
+        same_beyond = beyond;
         place_fits = omega (arith, place, within);
         written_fits = omega (arith, written, bound);
       }

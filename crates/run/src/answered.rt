@@ -5,9 +5,9 @@ ghost use Rattle.run.specs.Inside.Runs.{Behind, with_answers, Answerable, Answer
 ghost use Rattle.run.specs.Inside.Course.{ends-with_answers};
 ghost use Rattle.run.specs.Inside.FurtherAnswered.{answerable, answered_on};
 
-use crate::Progress;
+use crate::Pace;
 use crate::answers::Answers;
-use numbers::Shape;
+use forest::Table;
 use refusals::Refusal;
 use step::Reply;
 use writing::write_reply;
@@ -26,23 +26,17 @@ impl Answers for Buffer<'_> {
 
     ghost same = { λ x y. y.bytes.ghost_name ≡ x.bytes.ghost_name };
 
-    ghost can_take = { λ p reply x. Answerable p reply x.bytes.now };
+    ghost can_take = { λ written reply x. Answerable written reply x.bytes.now };
 
-    ghost takes = { λ t shape p reply x y result. Answered p t shape reply x.bytes.now y.bytes.now result × (y.bytes.ghost_name ≡ x.bytes.ghost_name) };
+    ghost takes = { λ t shape written reply x y result. Answered written t shape reply x.bytes.now y.bytes.now result × (y.bytes.ghost_name ≡ x.bytes.ghost_name) };
 
-    fn take(
-        &mut self,
-        work: &[u32],
-        shape: Shape,
-        p: Progress,
-        reply: Reply,
-    ) -> Result<usize, Refusal> {
+    fn take(&mut self, t: &Table, pace: Pace, reply: Reply) -> Result<usize, Refusal> {
         let size = reply.size();
-        if self.bytes.len() - p.written < size {
+        if self.bytes.len() - pace.written < size {
             return Err(Refusal::NoRoom);
         }
-        write_reply(work, shape, &mut self.bytes[p.written..], reply);
-        Ok(p.written + size)
+        write_reply(t, &mut self.bytes[pace.written..], reply);
+        Ok(pace.written + size)
     }
 
     ghost ends = { ends-with_answers };
@@ -51,7 +45,7 @@ impl Answers for Buffer<'_> {
 
     ghost still_same = { λ x y z first later. later ∙ first };
 
-    ghost stays_same = { λ t shape p reply x y result taken. taken.1 };
+    ghost stays_same = { λ t shape written reply x y result taken. taken.1 };
 
     ghost can = { λ p order width journal old new reply x ready done. answerable ready done };
 

@@ -10,8 +10,8 @@ ghost use Rattle.run.specs.declared.Progress.{Progress};
 ghost use Rattle.run.specs.Inside.Runs.{Account, Ready, GoesOn, further};
 ghost use Rattle.run.specs.Inside.Course.{AtEnds};
 
-use crate::Progress;
-use numbers::Shape;
+use crate::Pace;
+use forest::Table;
 use refusals::Refusal;
 use step::Reply;
 
@@ -26,21 +26,15 @@ pub(crate) trait Answers {
     // It is over the same buffer; a reply can be taken; and what taking one does.
     ghost same: { Self → Self → Type 0 };
 
-    ghost can_take: { Progress → Reply → Self → Type 0 };
+    ghost can_take: { ℕ → Reply → Self → Type 0 };
 
-    ghost takes: { List ℕ → Shape → Progress → Reply → Self → Self → Result ℕ Refusal → Type 0 };
+    ghost takes: { List ℕ → Shape → ℕ → Reply → Self → Self → Result ℕ Refusal → Type 0 };
 
-    // Takes the reply to a command that has left the table and the network's size so, behind those that the run has taken: gives how many
-    // bytes all their answers have, or refuses it.
-    fn take(
-        &mut self,
-        work: &[u32],
-        shape: Shape,
-        p: Progress,
-        reply: Reply,
-    ) -> Result<usize, Refusal>
-        requires { can_take p reply self.old }
-        ensures { takes work.now shape p reply self.old self.new result };
+    // Takes the reply to a command, which has left the table so, behind those that the run has taken: gives how many bytes all their answers
+    // have, or refuses it.
+    fn take(&mut self, t: &Table, pace: Pace, reply: Reply) -> Result<usize, Refusal>
+        requires { can_take pace.written reply self.old }
+        ensures { takes t.now.words.now t.now.shape pace.written reply self.old self.new result };
 
     ghost ends: { AtEnds account };
 
@@ -48,10 +42,10 @@ pub(crate) trait Answers {
 
     ghost still_same: { (x y z : Self) → same x y → same y z → same x z };
 
-    ghost stays_same: { (t : List ℕ) (shape : Shape) (p : Progress) (reply : Reply) (x y : Self) (result : Result ℕ Refusal) → takes t shape p reply x y result → same x y };
+    ghost stays_same: { (t : List ℕ) (shape : Shape) (written : ℕ) (reply : Reply) (x y : Self) (result : Result ℕ Refusal) → takes t shape written reply x y result → same x y };
 
     // At a command that is carried out its reply can be taken, and so the run goes on.
-    ghost can: { (p : Progress) (order : Order) (width : ℕ) (journal old new : List ℕ) (reply : Reply) (x : Self) → Ready account p order width journal old (buffer x) → StepPromise p.shape (meaning order) old new (Ok reply) → can_take p reply x };
+    ghost can: { (p : Progress) (order : Order) (width : ℕ) (journal old new : List ℕ) (reply : Reply) (x : Self) → Ready account p order width journal old (buffer x) → StepPromise p.shape (meaning order) old new (Ok reply) → can_take p.written reply x };
 
-    ghost goes_on: { (p : Progress) (order : Order) (width : ℕ) (journal old new : List ℕ) (reply : Reply) (x y : Self) (result : Result ℕ Refusal) → Ready account p order width journal old (buffer x) → StepPromise p.shape (meaning order) old new (Ok reply) → takes new (shape_after p.shape reply) p reply x y result → GoesOn account p journal old new (buffer x) (buffer y) (further p (shape_after p.shape reply) (p.place + 1 + width) result) };
+    ghost goes_on: { (p : Progress) (order : Order) (width : ℕ) (journal old new : List ℕ) (reply : Reply) (x y : Self) (result : Result ℕ Refusal) → Ready account p order width journal old (buffer x) → StepPromise p.shape (meaning order) old new (Ok reply) → takes new (shape_after p.shape reply) p.written reply x y result → GoesOn account p journal old new (buffer x) (buffer y) (further p (shape_after p.shape reply) (p.place + 1 + width) result) };
 }

@@ -3,9 +3,9 @@
 
 ghost use Rattle.std.specs.Prelude.{◌≡◌, ◌≤◌, length};
 ghost use Rattle.commands.specs.Entry.{work_needed};
-ghost use Rattle.forest.specs.Promise.{words_needed, Holds};
+ghost use Rattle.forest.specs.Promise.{words_needed};
 ghost use Rattle.run.specs.Promise.{capacities_of, whole_of, RunPromise};
-ghost use Rattle.run.specs.Inside.Runs.{at_start, Underway, Ready, GoesOn, HasCome};
+ghost use Rattle.run.specs.Inside.Runs.{ended, going, at_start, comes_to, Underway, Ready, GoesOn, HasCome};
 
 mod answered;
 mod answers;
@@ -13,12 +13,12 @@ pub mod unanswered;
 
 use crate::answered::Buffer;
 use crate::answers::Answers;
-use forest::{begin, words_needed};
+use forest::{Network, words_needed};
 use numbers::{Limits, Shape};
 use reading::read::Order;
 use reading::reader::Reader;
 use refusals::Refusal;
-use step::{shape_after, step};
+use step::step;
 
 // How far a run has come: the network's size, the place of the next command, the commands accepted, the bytes of their answers, and the
 // refusal that ended the run, if one did.
@@ -29,6 +29,29 @@ pub struct Progress {
     pub commands: u32,
     pub written: usize,
     pub refusal: Option<Refusal>,
+}
+
+// How far a run has come in its journal: the place of the next command, the commands accepted, and the bytes of their answers.
+#[derive(Clone, Copy)]
+pub(crate) struct Pace {
+    pub(crate) place: usize,
+    pub(crate) commands: u32,
+    pub(crate) written: usize,
+}
+
+impl Pace {
+    // A run that has ended so.
+    fn end(self, shape: Shape, refusal: Option<Refusal>) -> Progress
+        ensures { result ≡ ended shape self refusal }
+    {
+        Progress {
+            shape,
+            place: self.place,
+            commands: self.commands,
+            written: self.written,
+            refusal,
+        }
+    }
 }
 
 // How many words a run uses beside those that the table takes.
@@ -44,75 +67,70 @@ pub fn work_needed(limits: Limits) -> usize
 // One command read whole, with so many bytes of operands: carried out, and its reply taken; or refused.
 fn run_order<A: Answers>(
     journal: &[u8],
-    work: &mut [u32],
+    n: &mut Network,
     answers: &mut A,
-    p: Progress,
+    pace: Pace,
     order: Order,
     width: usize,
-) -> Result<Progress, Refusal>
-    requires { Ready A.account p order width journal.now work.old (A.buffer answers.old) }
-    ensures goes_on { GoesOn A.account p journal.now work.old work.new (A.buffer answers.old) (A.buffer answers.new) result }
+) -> Result<Pace, Refusal>
+    requires { Ready A.account (going n.old.table.shape pace) order width journal.now n.old.table.words.now (A.buffer answers.old) }
+    ensures goes_on { GoesOn A.account (going n.old.table.shape pace) journal.now n.old.table.words.now n.new.table.words.now (A.buffer answers.old) (A.buffer answers.new) (comes_to n.new.table.shape result) }
     ensures same { A.same answers.old answers.new }
 {
-    let place = Reader::new(journal, p.place).further(width).place;
-    let reply = step(work, p.shape, order)?;
-    let shape = shape_after(p.shape, reply);
-    let written = answers.take(work, shape, p, reply)?;
-    Ok(Progress {
-        shape,
+    let place = Reader::new(journal, pace.place).further(width).place;
+    let reply = step(n, order)?;
+    let written = answers.take(&n.table, pace, reply)?;
+    Ok(Pace {
         place,
-        commands: p.commands + 1,
+        commands: pace.commands + 1,
         written,
-        refusal: None,
     })
 }
 
 // What stands at the run's place.
 fn run_one<A: Answers>(
     journal: &[u8],
-    work: &mut [u32],
+    n: &mut Network,
     answers: &mut A,
-    p: Progress,
-) -> Result<Progress, Refusal>
-    requires { Underway A.account p journal.now work.old (A.buffer answers.old) }
-    ensures goes_on { GoesOn A.account p journal.now work.old work.new (A.buffer answers.old) (A.buffer answers.new) result }
+    pace: Pace,
+) -> Result<Pace, Refusal>
+    requires { Underway A.account (going n.old.table.shape pace) journal.now n.old.table.words.now (A.buffer answers.old) }
+    ensures goes_on { GoesOn A.account (going n.old.table.shape pace) journal.now n.old.table.words.now n.new.table.words.now (A.buffer answers.old) (A.buffer answers.new) (comes_to n.new.table.shape result) }
     ensures same { A.same answers.old answers.new }
 {
-    let taken = Reader::new(journal, p.place).take()?;
-    run_order(journal, work, answers, p, taken.command, taken.width)
+    let taken = Reader::new(journal, pace.place).take()?;
+    run_order(journal, n, answers, pace, taken.command, taken.width)
 }
 
-// The run of a journal from a network that the working table holds, as its answers are taken.
-fn run_from<A: Answers>(journal: &[u8], work: &mut [u32], answers: &mut A, shape: Shape) -> Progress
-    requires { Holds shape work.old × (length journal.now ≤ 65536) × A.account.Fits (at_start shape) journal.now work.old (A.buffer answers.old) }
-    ensures has_come { HasCome A.account shape.limits (A.account.later (at_start shape) journal.now work.old (A.buffer answers.old)) result work.old work.new (A.buffer answers.old) (A.buffer answers.new) }
+// The run of a journal from a network, as its answers are taken. A command that is refused for want of room has been carried out: the size
+// that is told is the one before it.
+fn run_from<A: Answers>(journal: &[u8], n: &mut Network, answers: &mut A) -> Progress
+    requires { (length journal.now ≤ 65536) × A.account.Fits (at_start n.old.table.shape) journal.now n.old.table.words.now (A.buffer answers.old) }
+    ensures has_come { HasCome A.account (A.account.later (at_start n.old.table.shape) journal.now n.old.table.words.now (A.buffer answers.old)) result (A.buffer answers.old) (A.buffer answers.new) }
     ensures same { A.same answers.old answers.new }
 {
-    let mut p = Progress {
-        shape,
+    let mut pace = Pace {
         place: 0,
         commands: 0,
         written: 0,
-        refusal: None,
     };
-    while p.place < journal.len() {
-        match run_one(journal, work, answers, p) {
-            Ok(further) => p = further,
-            Err(refusal) => return Progress {
-                refusal: Some(refusal),
-                ..p
-            },
+    while pace.place < journal.len() {
+        let shape = n.table.shape;
+        match run_one(journal, n, answers, pace) {
+            Ok(further) => pace = further,
+            Err(refusal) => return pace.end(shape, Some(refusal)),
         }
     }
-    p
+    pace.end(n.table.shape, None)
 }
 
-// The whole run.
+// The whole run. The network is lent its own words alone, so those beyond them stay as they are.
 pub fn run(journal: &[u8], work: &mut [u32], answers: &mut [u8], limits: Limits) -> Progress
     requires { (limits.vertices ≤ 4096) × (limits.edges ≤ 8192) × (words_needed limits ≤ length work.old) × (length journal.now ≤ 65536) }
     ensures { RunPromise limits (whole_of (capacities_of limits) journal.now answers.old) result work.old work.new answers.old answers.new }
 {
-    let empty = begin(work, limits);
+    let own = words_needed(limits);
+    let mut n = Network::new(&mut work[..own], limits);
     let mut buffer = Buffer { bytes: answers };
-    run_from(journal, work, &mut buffer, empty)
+    run_from(journal, &mut n, &mut buffer)
 }

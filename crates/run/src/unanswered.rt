@@ -8,9 +8,9 @@ ghost use Rattle.run.specs.Inside.Course.{ends-without_answers};
 ghost use Rattle.run.specs.Inside.FurtherUnanswered.{countable, counted_on};
 
 use crate::answers::Answers;
-use crate::{Progress, run_from};
-use forest::begin;
-use numbers::{Limits, Shape};
+use crate::{Pace, Progress, run_from};
+use forest::{Network, Table, words_needed};
+use numbers::Limits;
 use refusals::Refusal;
 use step::Reply;
 
@@ -26,18 +26,12 @@ impl Answers for Count {
 
     ghost same = { λ x y. Unit {0} };
 
-    ghost can_take = { λ p reply x. Countable p reply };
+    ghost can_take = { λ written reply x. Countable written reply };
 
-    ghost takes = { λ t shape p reply x y result. Counted p reply result };
+    ghost takes = { λ t shape written reply x y result. Counted written reply result };
 
-    fn take(
-        &mut self,
-        _work: &[u32],
-        _shape: Shape,
-        p: Progress,
-        reply: Reply,
-    ) -> Result<usize, Refusal> {
-        Ok(p.written + reply.size())
+    fn take(&mut self, _t: &Table, pace: Pace, reply: Reply) -> Result<usize, Refusal> {
+        Ok(pace.written + reply.size())
     }
 
     ghost ends = { ends-without_answers };
@@ -46,7 +40,7 @@ impl Answers for Count {
 
     ghost still_same = { λ x y z first later. tt };
 
-    ghost stays_same = { λ t shape p reply x y result taken. tt };
+    ghost stays_same = { λ t shape written reply x y result taken. tt };
 
     ghost can = { λ p order width journal old new reply x ready done. countable ready done };
 
@@ -58,6 +52,7 @@ pub fn run_unanswered(journal: &[u8], work: &mut [u32], limits: Limits) -> Progr
     requires { (limits.vertices ≤ 4096) × (limits.edges ≤ 8192) × (words_needed limits ≤ length work.old) × (length journal.now ≤ 65536) }
     ensures { UnansweredPromise limits (ample_run register_routes (capacities_of limits) journal.now) result work.old work.new }
 {
-    let empty = begin(work, limits);
-    run_from(journal, work, &mut Count, empty)
+    let own = words_needed(limits);
+    let mut n = Network::new(&mut work[..own], limits);
+    run_from(journal, &mut n, &mut Count)
 }

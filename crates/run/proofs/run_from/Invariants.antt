@@ -1,17 +1,18 @@
 use lib.ListN.{length}
 use Prim.Native.Nat.{◌-◌}
-use Rattle.run.specs.Inside.Runs.{at_start, SoFar}
+use Rattle.run.specs.Inside.Runs.{going, at_start, SoFar}
 use Rattle.run.proofs.run_from.Given as goal
 
-abbrev pub invariant-loop-p : goal.invariant-loop-p
-invariant-loop-p g l =
+abbrev pub invariant-loop-pace : goal.invariant-loop-pace
+invariant-loop-pace g l =
     let A = g.A.Answers in
+    let n = l.fn.n.table in
     record {
       so_far :
-          SoFar A.account l.fn.shape.limits (A.account.later (at_start l.fn.shape) l.journal l.fn.work (A.buffer l.fn.answers))
-          l.p l.journal l.fn.work l.work (A.buffer l.fn.answers) (A.buffer l.answers);
+          SoFar A.account n.shape.limits (A.account.later (at_start n.shape) l.journal n.words.now (A.buffer l.fn.answers))
+          (going l.n.table.shape l.pace) l.journal l.n.table.words.now (A.buffer l.fn.answers) (A.buffer l.answers);
       same : A.same l.fn.answers l.answers;
     }
 
-abbrev pub decreases-loop-p : goal.decreases-loop-p
-decreases-loop-p g l = length l.journal - l.p.place
+abbrev pub decreases-loop-pace : goal.decreases-loop-pace
+decreases-loop-pace g l = length l.journal - l.pace.place

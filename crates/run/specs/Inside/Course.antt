@@ -95,7 +95,7 @@ ends_here p t answers end e = rw (numbers_here p t end e, nothing_behind p.writt
 -- where nothing is left but a refusal, a run that is refused here leaves behind what it was to leave behind
 pub stops_here : (p : Progress) (journal t answers : List ℕ) (r : Refusal) → left_of p journal (length answers) t ≡ stop (cause_of r)
     → leaves (refused_progress p r) answers ≡ will_leave p journal t answers
-unfolding stop refused_progress leaves_after numbers_after
+unfolding stop leaves_after numbers_after
 stops_here p journal t answers r left = rw left (ends_here (refused_progress p r) t answers (some (cause_of r)) refl)
 
 -- A command that is accepted, and a run that is so much further.
@@ -142,7 +142,7 @@ ends-with_answers =
     }
 
 pub ends-without_answers : AtEnds without_answers
-unfolding stop refused_progress numbers_after
+unfolding stop numbers_after
 ends-without_answers =
     record {
       at_end = λ p journal t answers z past. rw (all_at_end p journal t past) (numbers_here p t none (none_numbered p z));

@@ -26,7 +26,7 @@ use Rattle.run.specs.Inside.Further.{size_is, further_on_lem}
 
 -- A reply to a command can be answered.
 pub answerable : {p : Progress} {order : Order} {width : ℕ} {journal old new answers : List ℕ} {reply : Reply}
-    → Ready with_answers p order width journal old answers → StepPromise p.shape (meaning order) old new (Ok reply) → Answerable p reply answers
+    → Ready with_answers p order width journal old answers → StepPromise p.shape (meaning order) old new (Ok reply) → Answerable p.written reply answers
 answerable ready done = record { fits = done.carried.fits; written_fits = ready.underway.going.written_fits }
 
 -- The run at a command of the journal, which is carried out.
@@ -43,15 +43,15 @@ module _
     on written = one_further p next (p.place + 1 + width) written
 
     -- the answer buffer stays as long
-    as_long : (new_answers : List ℕ) (total : ℕ) → IsAnswered p new next reply answers new_answers total → length new_answers ≡ length answers
+    as_long : (new_answers : List ℕ) (total : ℕ) → IsAnswered p.written new next reply answers new_answers total → length new_answers ≡ length answers
     as_long new_answers total w =
         let bytes = answer_bytes (reply_answer next new reply) in
         ap length w.stands ∙ behind_as_long p.written bytes answers ready.underway.going.written_fits (omega (arith, w.room, reply_counted next new reply))
 
     -- once it is written, what is left from one command further on leaves behind the same
-    further_leaves : (new_answers : List ℕ) (total : ℕ) → IsAnswered p new next reply answers new_answers total
+    further_leaves : (new_answers : List ℕ) (total : ℕ) → IsAnswered p.written new next reply answers new_answers total
         → will_leave (on total) journal new new_answers ≡ will_leave p journal old answers
-    unfolding one_further accepted_in
+    unfolding accepted_in
     further_leaves new_answers total w =
         let carried = done.carried in
         let s = state_of p.shape old in
@@ -73,15 +73,14 @@ module _
         ready.underway.going.written_fits)
 
     -- what becomes of the reply becomes of the run
-    pub answered_on : (new_answers : List ℕ) (result : Result ℕ Refusal) → Answered p new next reply answers new_answers result
+    pub answered_on : (new_answers : List ℕ) (result : Result ℕ Refusal) → Answered p.written new next reply answers new_answers result
         → GoesOn with_answers p journal old new answers new_answers (further p next (p.place + 1 + width) result)
-    unfolding one_further
     answered_on new_answers (Ok total) w =
-        further_on_lem ready.underway (further_leaves new_answers total w) done.carried refl (as_long new_answers total w) refl (omega arith) refl
+        further_on_lem ready.underway (further_leaves new_answers total w) done.carried refl (as_long new_answers total w) (omega arith) refl
         (omega (arith, w.counted, w.room, as_long new_answers total w, ready.underway.going.written_fits))
     answered_on new_answers (Err refusal) w =
         let left =
         left_no_room p journal (length answers) old ready.underway.at_command (meaning order) width ready.reads done.not_refused
         (omega (arith, w.short, size_is done.carried)) in
         rw (w.no_room, w.untouched)
-        (record { same_beyond = done.carried.same_beyond; as_long = refl; has = stops_here p journal old answers R.NoRoom left })
+        (record { as_long = refl; has = stops_here p journal old answers R.NoRoom left })

@@ -40,7 +40,6 @@ module _
 
     -- the command is followed by what is left from there
     left_from : (written : ℕ) → all_left p journal old ≡ and_then here (all_left (on written) journal new)
-    unfolding one_further
     left_from written =
         all_accepted p journal old ready.underway.at_command (meaning order) width ready.reads done.not_refused (on written) new (limits_after p.shape reply) refl
         done.carried.agrees
@@ -58,13 +57,13 @@ module _
         )
 
     -- So the bytes of the answer can be counted,
-    pub countable : Countable p reply
+    pub countable : Countable p.written reply
     countable = omega (arith, still_fits 0)
 
     -- and once they are the run is a command further.
-    pub counted_on : {result : Result ℕ Refusal} → Counted p reply result
+    pub counted_on : {result : Result ℕ Refusal} → Counted p.written reply result
         → GoesOn without_answers p journal old new answers answers (further p (shape_after p.shape reply) (p.place + 1 + width) result)
-    unfolding accepted_in one_further
+    unfolding accepted_in
     counted_on e =
         let total = p.written + reply_size reply in
         let written : total ≡ p.written + length (answer_bytes (answer register_routes (state_of p.shape old) (meaning order))) = omega (arith, size_is done.carried) in
@@ -72,7 +71,6 @@ module _
         (further_on_lem ready.underway
         (rw (left_from total) (numbers_further p (on total) old new here (all_left (on total) journal new) refl refl written done.carried.agrees))
         done.carried
-        refl
         refl
         refl
         (omega arith)

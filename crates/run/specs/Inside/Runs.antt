@@ -1,5 +1,5 @@
 -- The run in code: how far it has come, what it will come to, and what each command does to it. With answers it comes to what it leaves behind.
-use Rattle.std.specs.Prelude.{None, Some, Result, Ok, Err, List, [], ◌∷◌, ◌++◌, map, ◌≡◌, ℕ, ◌+◌, ◌-◌, ◌≤◌, ◌<◌, length, take, drop, get_or}
+use Rattle.std.specs.Prelude.{Option, None, Some, Result, Ok, Err, List, [], ◌∷◌, ◌++◌, map, ◌≡◌, ℕ, ◌+◌, ◌-◌, ◌≤◌, ◌<◌, length, take, drop, get_or}
 use Rattle.graph.specs.Network.{Network, edge_count}
 use Rattle.naming.specs.Book.{feed_all}
 use Rattle.naming.specs.State.{State}
@@ -14,25 +14,33 @@ use Rattle.numbers.specs.declared.Limits.{Limits}
 use Rattle.numbers.specs.declared.Shape.{Shape}
 use Rattle.refusals.specs.declared.Refusal.{Refusal}
 use Rattle.refusals.specs.declared.Refusal.TheVariants as R
-use Rattle.forest.specs.Promise.{Holds, state_of, SameBeyond}
+use Rattle.forest.specs.Promise.{state_of}
 use Rattle.reading.specs.declared.read.Order.{Order}
 use Rattle.reading.specs.Inside.Reads.{meaning}
 use Rattle.step.specs.declared.Reply.{Reply}
 use Rattle.step.specs.Promise.{capacities_of, reply_answer, reply_size, ReplyFits}
+use Rattle.run.specs.declared.Pace.{Pace}
 use Rattle.run.specs.declared.Progress.{Progress}
 use Rattle.run.specs.Promise.{six_numbers}
 
--- The progress of a run that has not begun.
-unfoldable pub at_start : Shape → Progress
-at_start shape = record { shape = shape; place = 0; commands = 0; written = 0; refusal = None }
+-- The progress of a run that has come so far in its journal, with a network of this size: one that goes on, and one that has ended.
+abbrev pub ended : Shape → Pace → Option Refusal → Progress
+ended shape pace refusal =
+    record { shape = shape; place = pace.place; commands = pace.commands; written = pace.written; refusal = refusal }
+
+abbrev pub going : Shape → Pace → Progress
+going shape pace = ended shape pace None
+
+abbrev pub at_start : Shape → Progress
+at_start shape = going shape (record { place = 0; commands = 0; written = 0 })
 
 -- The run ended by a refusal.
-unfoldable pub refused_progress : Progress → Refusal → Progress
+abbrev pub refused_progress : Progress → Refusal → Progress
 refused_progress p refusal =
     record { shape = p.shape; place = p.place; commands = p.commands; written = p.written; refusal = Some refusal }
 
 -- The run one command further: the network's new size, the place of the next command, and the bytes of all answers with this one's.
-unfoldable pub one_further : Progress → Shape → ℕ → ℕ → Progress
+abbrev pub one_further : Progress → Shape → ℕ → ℕ → Progress
 one_further p next place written =
     record { shape = next; place = place; commands = p.commands + 1; written = written; refusal = None }
 
@@ -40,6 +48,11 @@ one_further p next place written =
 abbrev pub further : Progress → Shape → ℕ → Result ℕ Refusal → Result Progress Refusal
 further p next place (Ok written) = Ok (one_further p next place written)
 further p next place (Err refusal) = Err refusal
+
+-- What becomes of a run with a network of this size, where that is how far it comes.
+abbrev pub comes_to : Shape → Result Pace Refusal → Result Progress Refusal
+comes_to shape (Ok pace) = Ok (going shape pace)
+comes_to shape (Err refusal) = Err refusal
 
 -- The answer buffer with more bytes behind those that are written.
 unfoldable pub written_behind : ℕ → List ℕ → List ℕ → List ℕ
@@ -99,11 +112,8 @@ pub record Account (E : Type 0) : Type 1 where
 abbrev pub with_answers : Account Behind
 with_answers = record { here = leaves; later = will_leave; Fits = λ p journal t answers. p.written ≤ length answers }
 
--- A run that can go on, by an account: it is not refused, and the table holds its network; the bytes that are counted fit, and no more
--- commands are counted than bytes were read.
+-- A run that can go on, by an account: the bytes that are counted fit, and no more commands are counted than bytes were read.
 pub record Going {E : Type 0} (account : Account E) (p : Progress) (journal t answers : List ℕ) : Type 0 where
-  pub not_refused : p.refusal ≡ None
-  pub holds : Holds p.shape t
   pub written_fits : account.Fits p journal t answers
   pub counted : p.commands ≤ p.place
 
@@ -124,49 +134,46 @@ pub record Ready
   pub reads : read_here p journal ≡ command (meaning order) width
 
 -- A reply can be answered: its notices can be counted, and what is written stands in the buffer.
-pub record Answerable (p : Progress) (reply : Reply) (answers : List ℕ) : Type 0 where
+pub record Answerable (written : ℕ) (reply : Reply) (answers : List ℕ) : Type 0 where
   pub fits : ReplyFits reply
-  pub written_fits : p.written ≤ length answers
+  pub written_fits : written ≤ length answers
 
 -- What becomes of a reply: its bytes stand behind those written before, and are counted with them;
-pub record IsAnswered (p : Progress) (t : List ℕ) (next : Shape) (reply : Reply) (old new : List ℕ) (written : ℕ) : Type 0 where
-  pub room : reply_size reply ≤ length old - p.written
-  pub stands : new ≡ written_behind p.written (answer_bytes (reply_answer next t reply)) old
-  pub counted : written ≡ p.written + reply_size reply
+pub record IsAnswered (written : ℕ) (t : List ℕ) (next : Shape) (reply : Reply) (old new : List ℕ) (all : ℕ) : Type 0 where
+  pub room : reply_size reply ≤ length old - written
+  pub stands : new ≡ written_behind written (answer_bytes (reply_answer next t reply)) old
+  pub counted : all ≡ written + reply_size reply
 
 -- or there is no room for it.
-pub record WithoutRoom (p : Progress) (reply : Reply) (old new : List ℕ) (refusal : Refusal) : Type 0 where
-  pub short : length old - p.written < reply_size reply
+pub record WithoutRoom (written : ℕ) (reply : Reply) (old new : List ℕ) (refusal : Refusal) : Type 0 where
+  pub short : length old - written < reply_size reply
   pub untouched : new ≡ old
   pub no_room : refusal ≡ R.NoRoom
 
-abbrev pub Answered : Progress → List ℕ → Shape → Reply → List ℕ → List ℕ → Result ℕ Refusal → Type 0
-Answered p t next reply old new (Ok written) = IsAnswered p t next reply old new written
-Answered p t next reply old new (Err refusal) = WithoutRoom p reply old new refusal
+abbrev pub Answered : ℕ → List ℕ → Shape → Reply → List ℕ → List ℕ → Result ℕ Refusal → Type 0
+Answered written t next reply old new (Ok all) = IsAnswered written t next reply old new all
+Answered written t next reply old new (Err refusal) = WithoutRoom written reply old new refusal
 
--- From a table and an answer buffer the run has come so far, can go on, and is to come to this end.
+-- From an answer buffer the run has come so far with a table, can go on, and is to come to this end.
 pub record SoFar
-    {E : Type 0} (account : Account E) (limits : Limits) (end : E) (p : Progress) (journal old new old_answers new_answers : List ℕ) : Type 0 where
-  pub going : Going account p journal new new_answers
+    {E : Type 0} (account : Account E) (limits : Limits) (end : E) (p : Progress) (journal t old_answers new_answers : List ℕ) : Type 0 where
+  pub going : Going account p journal t new_answers
   pub same_limits : p.shape.limits ≡ limits
-  pub same_beyond : SameBeyond limits old new
   pub as_long : length new_answers ≡ length old_answers
-  pub will : account.later p journal new new_answers ≡ end
+  pub will : account.later p journal t new_answers ≡ end
 
 -- From there it has come to this end.
-pub record HasCome
-    {E : Type 0} (account : Account E) (limits : Limits) (end : E) (p : Progress) (old new old_answers new_answers : List ℕ) : Type 0 where
-  pub same_beyond : SameBeyond limits old new
+pub record HasCome {E : Type 0} (account : Account E) (end : E) (p : Progress) (old_answers new_answers : List ℕ) : Type 0 where
   pub as_long : length new_answers ≡ length old_answers
   pub has : account.here p new_answers ≡ end
 
 -- The run is a command further, and is to come to what it was to come to before.
 pub record OneOn {E : Type 0} (account : Account E) (p p' : Progress) (journal old new old_answers new_answers : List ℕ) : Type 0 where
-  pub so_far : SoFar account p.shape.limits (account.later p journal old old_answers) p' journal old new old_answers new_answers
+  pub so_far : SoFar account p.shape.limits (account.later p journal old old_answers) p' journal new old_answers new_answers
   pub is_further : p.place < p'.place
 
 -- What a command does to a run: so it is, or it is refused, and has come to that.
 abbrev pub GoesOn : {E : Type 0} → Account E → Progress → List ℕ → List ℕ → List ℕ → List ℕ → List ℕ → Result Progress Refusal → Type 0
 GoesOn account p journal old new old_answers new_answers (Ok p') = OneOn account p p' journal old new old_answers new_answers
 GoesOn account p journal old new old_answers new_answers (Err refusal) =
-    HasCome account p.shape.limits (account.later p journal old old_answers) (refused_progress p refusal) old new old_answers new_answers
+    HasCome account (account.later p journal old old_answers) (refused_progress p refusal) old_answers new_answers

@@ -31,8 +31,8 @@ without_answers =
     }
 
 -- The bytes of an answer can be counted with those before, and are.
-abbrev pub Countable : Progress → Reply → Type 0
-Countable p reply = p.written + reply_size reply < 4294967296
+abbrev pub Countable : ℕ → Reply → Type 0
+Countable written reply = written + reply_size reply < 4294967296
 
-abbrev pub Counted : Progress → Reply → Result ℕ Refusal → Type 0
-Counted p reply result = result ≡ Ok (p.written + reply_size reply)
+abbrev pub Counted : ℕ → Reply → Result ℕ Refusal → Type 0
+Counted written reply result = result ≡ Ok (written + reply_size reply)

@@ -7,7 +7,7 @@ use Rattle.run.proofs.answered.BufferAnswers.take.Goals as goal
 pub returns : goal.returns
 returns c = (
   record {
-    room = omega (arith, c.if-self-p.false, c.size-size.ensures);
+    room = omega (arith, c.if-self-pace.false, c.size-size.ensures);
     stands = over_tail _ _ _ _ c.write_reply.ensures;
     counted = omega (arith, c.size-size.ensures);
   },
