@@ -35,11 +35,10 @@ module _ (t : List ℕ) (limits : Limits) (r : Trail) where
   climb_root zero e = refl
   climb_root (suc k) e = rw (eq-eqb (up_of t limits (climbing t limits r)) 0 e) (cond_same (eqb r.a.0 r.b.0) _)
 
-  -- what stands above the vertex on the deeper side
-  pub climber_up : (right : Bool) (up : ℕ) → right ≡ right_deeper t limits r → up ≡ up_of t limits (cond right r.b.0 r.a.0) →
-      up ≡ up_of t limits (climbing t limits r)
+  -- the vertex to climb from, by which side is the deeper one
+  pub climbing_is : (right : Bool) → right ≡ right_deeper t limits r → climbing t limits r ≡ cond right r.b.0 r.a.0
   unfolding climbing
-  climber_up right up d h = rw (← d) h
+  climbing_is right d = rw d
 
   -- any other climb goes on with one step written down, along the edge above the vertex to climb from
   climb_suc : (k : ℕ) → r.a.0 ≢ r.b.0 → up_of t limits (climbing t limits r) ≢ 0 →
@@ -52,11 +51,13 @@ module _ (t : List ℕ) (limits : Limits) (r : Trail) where
   climb_suc k d n = rw (ne_eqb r.a.0 r.b.0 d, ne_eqb (up_of t limits (climbing t limits r)) 0 n)
 
   -- so it does what the climb from the block of that edge does
-  pub climb_by_block : (k : ℕ) → k ≢ 0 → r.a.0 ≢ r.b.0 → up_of t limits (climbing t limits r) ≢ 0 →
-      climb_from k t limits r ≡ climb_from_block (k - 1) t limits r (up_of t limits (climbing t limits r) - 1) (right_deeper t limits r)
+  pub climb_by_block : (k e : ℕ) → k ≢ 0 → r.a.0 ≢ r.b.0 → up_of t limits (climbing t limits r) ≡ e + 1 →
+      climb_from k t limits r ≡ climb_from_block (k - 1) t limits r e (right_deeper t limits r)
   unfolding climb_from_block
-  climb_by_block zero z d n = absurd (z refl)
-  climb_by_block (suc k) z d n = rw (climb_suc k d n, sub-one (suc k))
+  climb_by_block zero e z d up = absurd (z refl)
+  climb_by_block (suc k) e z d up =
+      let edge : up_of t limits (climbing t limits r) - 1 ≡ e = omega arith in
+      rw (climb_suc k d (λ root. omega arith), sub-one (suc k), edge)
 
   -- the left side keeps all its steps where a side has none
   pub kept_no_left : r.left ≡ 0 → r.left ≡ kept_left t limits r

@@ -1,8 +1,8 @@
 // Climbing the block forest: from vertex to block and from block to vertex, turn about, until two vertices' ways up meet.
-ghost use Rattle.std.specs.Prelude.{◌≡◌, ◌+◌, ◌<◌, ◌≤◌, min, cond, not, ◌&&◌, ◌==◌, nat_lt};
+ghost use Rattle.std.specs.Prelude.{MatchOption, ◌≡◌, ◌+◌, ◌<◌, ◌≤◌, min, cond, not, ◌&&◌, ◌==◌, nat_lt};
 ghost use Rattle.table.specs.Same.{IsSame};
 ghost use Rattle.forest.specs.Inside.Climb.{up_of, depth_of, block_of, top_of, above_edge, right_deeper, record_table, record_trail};
-ghost use Rattle.forest.specs.Inside.Climb.{nested_most, climb_from, climb_from_block, kept_left, join_one, join_from, reach, climb_table, climb_route};
+ghost use Rattle.forest.specs.Inside.Climb.{nested_most, climb_from, climb_from_block, kept_left, join_from, reach, climb_table, climb_route};
 
 use numbers::{Edge, Vertex};
 use table::words::{DEPTH, NAME, PATH_EDGE, PATH_VERTEX, RIGHT_EDGE, RIGHT_VERTEX, TOP, Table, UP};
@@ -26,11 +26,13 @@ pub struct Route {
     pub top: Vertex,
 }
 
-// 0 at a root, else one more than an edge of the block above the vertex.
-pub(crate) fn up(t: &Table, x: Vertex) -> u32
-    ensures { result ≡ up_of t.now.words.now t.now.shape.limits x.0 }
+// An edge of the block above the vertex; none at a root. The table has one more than the edge's number, and 0 at a root.
+pub(crate) fn up(t: &Table, x: Vertex) -> Option<Edge>
+    ensures { MatchOption result (up_of t.now.words.now t.now.shape.limits x.0 ≡ 0) (λ e. up_of t.now.words.now t.now.shape.limits x.0 ≡ e.0 + 1) }
 {
     t.word(t.vertex_area(), UP, x.0)
+        .checked_sub(1)
+        .map(|e| Edge(e))
 }
 
 // A number that falls on the way up.
@@ -71,10 +73,11 @@ fn right_deeper(t: &Table, r: Trail) -> bool
 }
 
 // What stands above the vertex on the side that climbs.
-fn climber_up(t: &Table, r: Trail, on_right: bool) -> u32
-    ensures { result ≡ up_of t.now.words.now t.now.shape.limits (cond on_right r.b.0 r.a.0) }
+fn climber_up(t: &Table, r: Trail, on_right: bool) -> Option<Edge>
+    ensures { MatchOption result (up_of t.now.words.now t.now.shape.limits (cond on_right r.b.0 r.a.0) ≡ 0) (λ e. up_of t.now.words.now t.now.shape.limits (cond on_right r.b.0 r.a.0) ≡ e.0 + 1) }
 {
-    up(t, if on_right { r.b } else { r.a })
+    // Two calls, since one call at a vertex that is chosen before has to wait for both depths.
+    if on_right { up(t, r.b) } else { up(t, r.a) }
 }
 
 // Writes down a step along an edge to the vertex v above its block.
@@ -86,17 +89,18 @@ fn record_step(t: &mut Table, r: Trail, e: Edge, v: Vertex, on_right: bool) -> T
     ensures longer { result.left + result.right ≡ r.left + r.right + 1 }
     ensures same { IsSame t.old t.new }
 {
+    let area = t.vertex_area();
     if on_right {
-        t.set_word(t.vertex_area(), RIGHT_EDGE, r.right, e.0);
-        t.set_word(t.vertex_area(), RIGHT_VERTEX, r.right, r.b.0);
+        t.set_word(area, RIGHT_EDGE, r.right, e.0);
+        t.set_word(area, RIGHT_VERTEX, r.right, r.b.0);
         Trail {
             b: v,
             right: r.right + 1,
             ..r
         }
     } else {
-        t.set_word(t.vertex_area(), PATH_EDGE, r.left, e.0);
-        t.set_word(t.vertex_area(), PATH_VERTEX, r.left + 1, v.0);
+        t.set_word(area, PATH_EDGE, r.left, e.0);
+        t.set_word(area, PATH_VERTEX, r.left + 1, v.0);
         Trail {
             a: v,
             left: r.left + 1,
@@ -107,7 +111,7 @@ fn record_step(t: &mut Table, r: Trail, e: Edge, v: Vertex, on_right: bool) -> T
 
 // From the deeper of two vertices to the block above it, and on from there: until the two are one, or a root is reached, or as many steps
 // are made as remain. The numbers of a trail come apart, since they are passed at every step.
-#[tactic(auto, unfolding(crate::specs::Inside::Climb::climb_from_block), using(crate::proofs::ClimbSteps::climb_met, crate::proofs::ClimbSteps::climb_none, crate::proofs::ClimbSteps::climb_root, crate::proofs::ClimbSteps::climber_up, crate::proofs::ClimbSteps::climb_by_block))]
+#[tactic(auto, unfolding(crate::specs::Inside::Climb::climb_from_block), using(crate::proofs::ClimbSteps::climb_met, crate::proofs::ClimbSteps::climb_none, crate::proofs::ClimbSteps::climb_root, crate::proofs::ClimbSteps::climbing_is, crate::proofs::ClimbSteps::climb_by_block))]
 #[cycle(from_block_from_vertex)]
 fn from_vertex(t: &mut Table, a: Vertex, b: Vertex, left: u32, right: u32, remaining: u32) -> Trail
     requires { left + right + remaining < 4294967295 }
@@ -124,15 +128,14 @@ fn from_vertex(t: &mut Table, a: Vertex, b: Vertex, left: u32, right: u32, remai
         return r;
     }
     let on_right = right_deeper(t, r);
-    let edge = climber_up(t, r, on_right);
-    if edge == 0 {
+    let Some(e) = climber_up(t, r, on_right) else {
         return r;
-    }
-    from_block(t, r, Edge(edge - 1), on_right, remaining - 1)
+    };
+    from_block(t, r, e, on_right, remaining - 1)
 }
 
 // From the block of an edge to the vertex above it, which is a step, and on from there with as many steps as remain.
-#[tactic(auto, unfolding(crate::specs::Inside::Climb::climb_from_block), using(crate::proofs::ClimbSteps::climb_met, crate::proofs::ClimbSteps::climb_none, crate::proofs::ClimbSteps::climb_root, crate::proofs::ClimbSteps::climber_up, crate::proofs::ClimbSteps::climb_by_block))]
+#[tactic(auto, unfolding(crate::specs::Inside::Climb::climb_from_block), using(crate::proofs::ClimbSteps::climb_met, crate::proofs::ClimbSteps::climb_none, crate::proofs::ClimbSteps::climb_root, crate::proofs::ClimbSteps::climbing_is, crate::proofs::ClimbSteps::climb_by_block))]
 #[cycle(from_block_from_vertex)]
 fn from_block(t: &mut Table, r: Trail, e: Edge, on_right: bool, remaining: u32) -> Trail
     requires { r.left + r.right + remaining + 1 < 4294967295 }
@@ -189,28 +192,21 @@ fn kept_left(t: &Table, r: Trail) -> u32
     }
 }
 
-// One step of the right side, turned round, behind the first `at` steps of the path.
-#[tactic(auto, unfolding(crate::specs::Inside::Climb::join_one))]
-fn join_one(t: &mut Table, k: u32, at: u32)
-    requires { at < 4294967295 }
-    ensures words { t.new.words.now ≡ join_one t.old.words.now t.old.shape.limits k at }
-    ensures same { IsSame t.old t.new }
-{
-    let e = t.word(t.vertex_area(), RIGHT_EDGE, k);
-    let v = t.word(t.vertex_area(), RIGHT_VERTEX, k);
-    t.set_word(t.vertex_area(), PATH_EDGE, at, e);
-    t.set_word(t.vertex_area(), PATH_VERTEX, at + 1, v);
-}
-
-// The steps of the right side, turned round, behind the first `kept` steps of the path.
-#[tactic(auto, using(crate::proofs::ClimbSteps::join_step, crate::proofs::ClimbSteps::join_end))]
+// The steps of the right side, turned round, behind the first `kept` steps of the path. The words are named once, before the loop, since each
+// store would have them read anew.
+#[tactic(auto, unfolding(crate::specs::Inside::Climb::join_one), using(crate::proofs::ClimbSteps::join_step, crate::proofs::ClimbSteps::join_end))]
 fn join(t: &mut Table, kept: u32, right: u32)
     requires { kept + right < 4294967295 }
     ensures words { t.new.words.now ≡ join_from right t.old.words.now t.old.shape.limits kept }
     ensures same { IsSame t.old t.new }
 {
+    let area = t.vertex_area();
     for step in 0..right {
-        join_one(t, right - 1 - step, kept + step);
+        let k = right - 1 - step;
+        let e = t.word(area, RIGHT_EDGE, k);
+        let v = t.word(area, RIGHT_VERTEX, k);
+        t.set_word(area, PATH_EDGE, kept + step, e);
+        t.set_word(area, PATH_VERTEX, kept + step + 1, v);
     }
 }
 

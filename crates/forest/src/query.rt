@@ -1,7 +1,7 @@
 // The questions: what the table says of its groups, and of the path between two vertices.
-ghost use Rattle.std.specs.Prelude.{◌≡◌, ◌+◌, ◌<◌, ◌≤◌};
+ghost use Rattle.std.specs.Prelude.{MatchOption, ◌≡◌, ◌+◌, ◌<◌, ◌≤◌};
 ghost use Rattle.table.specs.Same.{IsSame};
-ghost use Rattle.forest.specs.Inside.Climb.{climb_table};
+ghost use Rattle.forest.specs.Inside.Climb.{up_of, climb_table};
 ghost use Rattle.forest.specs.Inside.Queries.{bridge_blocks_differ, bridge_in, are_pair, ends_agree, lost_together, hangs_from, hang_together, block_above, shared_in};
 ghost use Rattle.forest.specs.Inside.Queries.{find_table, find_count, bridges_found, cuts_count};
 
@@ -63,11 +63,10 @@ pub(crate) fn lost_together(t: &Table, s: Edge, other: Edge) -> bool
 fn hangs_from(t: &Table, x: Vertex, y: Vertex) -> bool
     ensures { result ≡ hangs_from t.now.words.now t.now.shape.limits x.0 y.0 }
 {
-    let edge = up(t, x);
-    if edge == 0 {
-        return false;
+    match up(t, x) {
+        Some(e) => top(t, block_of(t, e)) == y,
+        None => false,
     }
-    top(t, block_of(t, Edge(edge - 1))) == y
 }
 
 // Vertices x and y hang below one block.
@@ -75,39 +74,33 @@ fn hangs_from(t: &Table, x: Vertex, y: Vertex) -> bool
 fn hang_together(t: &Table, x: Vertex, y: Vertex) -> bool
     ensures { result ≡ hang_together t.now.words.now t.now.shape.limits x.0 y.0 }
 {
-    let left = up(t, x);
-    let right = up(t, y);
-    if left == 0 || right == 0 {
-        return false;
+    match (up(t, x), up(t, y)) {
+        (Some(e), Some(d)) => block_of(t, e) == block_of(t, d),
+        _ => false,
     }
-    block_of(t, Edge(left - 1)) == block_of(t, Edge(right - 1))
 }
 
-// The name of the block above a vertex that hangs below one.
+// The name of the block above a vertex; none at a root.
 #[tactic(auto, unfolding(crate::specs::Inside::Queries::block_above))]
-fn block_above(t: &Table, x: Vertex) -> Edge
-    ensures { result.0 ≡ block_above t.now.words.now t.now.shape.limits x.0 }
+fn block_above(t: &Table, x: Vertex) -> Option<Edge>
+    ensures { MatchOption result (up_of t.now.words.now t.now.shape.limits x.0 ≡ 0) (λ e. e.0 ≡ block_above t.now.words.now t.now.shape.limits x.0) }
 {
-    let edge = up(t, x);
-    if edge == 0 {
-        return block_of(t, Edge(0));
+    match up(t, x) {
+        Some(e) => Some(block_of(t, e)),
+        None => None,
     }
-    block_of(t, Edge(edge - 1))
 }
 
 // The block that two different vertices share.
-#[tactic(auto, unfolding(crate::specs::Inside::Queries::shared_in))]
+#[tactic(auto, unfolding(crate::specs::Inside::Queries::shared_in, crate::specs::Inside::Queries::hang_together, crate::specs::Inside::Queries::hangs_from))]
 pub(crate) fn find_shared(t: &Table, a: Vertex, b: Vertex) -> Option<Edge>
     ensures { result ≡ shared_in t.now.words.now t.now.shape.limits a.0 b.0 }
 {
-    if hang_together(t, a, b) {
-        return Some(block_above(t, a));
-    }
-    if hangs_from(t, a, b) {
-        return Some(block_above(t, a));
+    if hang_together(t, a, b) || hangs_from(t, a, b) {
+        return block_above(t, a);
     }
     if hangs_from(t, b, a) {
-        return Some(block_above(t, b));
+        return block_above(t, b);
     }
     None
 }

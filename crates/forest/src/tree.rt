@@ -79,10 +79,11 @@ fn raise(t: &mut Table, changed: u32, by: u32)
     ensures words { t.new.words.now ≡ raise_from changed t.old.words.now t.old.shape.limits by 0 }
     ensures same { IsSame t.old t.new }
 {
+    let area = t.vertex_area();
     for i in 0..changed {
-        let x = t.word(t.vertex_area(), CHANGED, i);
-        let old = t.word(t.vertex_area(), DEPTH, x);
-        t.set_word(t.vertex_area(), DEPTH, x, old.wrapping_add(by));
+        let x = t.word(area, CHANGED, i);
+        let old = t.word(area, DEPTH, x);
+        t.set_word(area, DEPTH, x, old.wrapping_add(by));
     }
 }
 
@@ -98,25 +99,17 @@ fn turn_one(t: &mut Table, s: Turning) -> Turning
     let above = up(t, at);
     t.set_word(t.vertex_area(), UP, at.0, s.up);
     t.set_word(t.vertex_area(), DEPTH, at.0, s.depth);
-    if above == 0 {
-        return Turning {
-            at: at,
-            up: s.up,
-            depth: s.depth,
-            left: 0,
-        };
-    }
-    let edge = above - 1;
-    let block = block_of(t, Edge(edge));
+    let Some(e) = above else {
+        return Turning { left: 0, ..s };
+    };
+    let block = block_of(t, e);
     let next = top(t, block);
     t.set_word(t.edge_area(), TOP, block.0, at.0);
-    let deeper = s.depth.wrapping_add(1);
-    let left = s.left - 1;
     Turning {
         at: next,
-        up: above,
-        depth: deeper,
-        left: left,
+        up: e.0 + 1,
+        depth: s.depth.wrapping_add(1),
+        left: s.left - 1,
     }
 }
 
