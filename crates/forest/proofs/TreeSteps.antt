@@ -1,5 +1,5 @@
 -- How the models of growing the forest go on, one vertex more and none left; and how many steps a path has at most.
-use Rattle.std.proofs.Common.{◌≡◌, ℕ, zero, suc, ◌+◌, ◌-◌, ◌%◌, ◌^◌, ◌<◌, ◌≤◌, Bool, true, false, cond, eqb, List, refl, ap, ◌∙◌, add-one, arith}
+use Rattle.std.proofs.Common.{◌≡◌, ℕ, zero, suc, ◌+◌, ◌-◌, ◌%◌, ◌^◌, ◌<◌, ◌≤◌, Bool, true, false, cond, eqb, ◌⊎◌, List, refl, ap, ◌∙◌, inl, inr, add-one, arith}
 use Rattle.numbers.specs.declared.Limits.{Limits}
 use Rattle.table.specs.Inside.Column
 use Rattle.table.specs.Inside.Layout.{cell, put, vertex_area}
@@ -8,6 +8,7 @@ use Rattle.forest.specs.declared.climb.Trail.{Trail}
 use Rattle.forest.specs.Inside.Climb.{up_of, depth_of, above_edge, right_deeper, climbing, record_table, record_trail, Climbed, climb_from}
 use Rattle.forest.specs.Inside.Climb.{kept_left, reach, climb_both, climb_route}
 use Rattle.forest.specs.Inside.Tree.{raise_from, turn_from, turned_table, turned_state}
+use Rattle.graph.proofs.Truth.{true_or_false, eqb_ne}
 use Rattle.forest.proofs.ClimbSteps.{recorded_steps, kept_most, reach_most}
 
 -- the next changed vertex is raised, and then the rest
@@ -25,14 +26,7 @@ raise_end t limits by i n h = let e : n - i ≡ 0 = omega arith in rw e
 
 -- the way up turned round from a state
 abbrev pub turn_all : List ℕ → Limits → Turning → List ℕ
-turn_all t limits s = turn_from s.left t limits s.at.0 s.up s.depth
-
--- by the test whether the vertex was a root: the rest from either state
-turn_cases : (b : Bool) (t₁ t₂ : List ℕ) (limits : Limits) (s₁ s₂ : Turning) → s₁.left ≡ 0
-    → cond b t₁ (turn_all t₂ limits s₂) ≡ turn_all (cond b t₁ t₂) limits (cond b s₁ s₂)
-unfolding turn_from
-turn_cases true t₁ t₂ limits s₁ s₂ e = rw e
-turn_cases false t₁ t₂ limits s₁ s₂ e = refl
+turn_all t limits s = turn_from s.left t limits s.at.0 (suc s.by.0) s.depth
 
 -- one vertex turned, and then the rest
 pub turn_step : (t : List ℕ) (limits : Limits) (s : Turning) → 0 < s.left
@@ -40,7 +34,14 @@ pub turn_step : (t : List ℕ) (limits : Limits) (s : Turning) → 0 < s.left
 unfolding turn_from turned_table turned_state
 turn_step t limits s h =
     let e : s.left ≡ suc (s.left - 1) = omega arith in
-    ap (λ (n : ℕ). turn_from n t limits s.at.0 s.up s.depth) e ∙ turn_cases (eqb (up_of t limits s.at.0) 0) _ _ limits _ _ refl
+    ap (λ (n : ℕ). turn_from n t limits s.at.0 (suc s.by.0) s.depth) e ∙ go (true_or_false (eqb (up_of t limits s.at.0) 0))
+  where
+    go : (eqb (up_of t limits s.at.0) 0 ≡ true) ⊎ (eqb (up_of t limits s.at.0) 0 ≡ false)
+        → turn_from (suc (s.left - 1)) t limits s.at.0 (suc s.by.0) s.depth ≡ turn_all (turned_table t limits s) limits (turned_state t limits s)
+    go (inl root) = rw root
+    go (inr q) =
+        let above : suc (up_of t limits s.at.0 - 1) ≡ up_of t limits s.at.0 = omega (arith, eqb_ne _ _ q) in
+        rw (q, above)
 
 -- with nothing left the table stays
 pub turn_end : (t : List ℕ) (limits : Limits) (s : Turning) → s.left ≤ 0 → turn_all t limits s ≡ t

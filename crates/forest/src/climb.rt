@@ -28,7 +28,7 @@ pub struct Route {
 
 // An edge of the block above the vertex; none at a root. The table has one more than the edge's number, and 0 at a root.
 pub(crate) fn up(t: &Table, x: Vertex) -> Option<Edge>
-    ensures { MatchOption result (up_of t.now.words.now t.now.shape.limits x.0 ≡ 0) (λ e. up_of t.now.words.now t.now.shape.limits x.0 ≡ e.0 + 1) }
+    ensures { MatchOption result (up_of t.now.words.now t.now.shape.limits x.0 ≡ 0) (λ e. (up_of t.now.words.now t.now.shape.limits x.0 ≡ e.0 + 1) × (e.0 < 4294967295)) }
 {
     t.word(t.vertex_area(), UP, x.0)
         .checked_sub(1)

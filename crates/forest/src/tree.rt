@@ -1,6 +1,6 @@
 // Growing the block forest: one vertex more, and one edge more, which links two components or condenses the path between two vertices;
 // and marking a vertex.
-ghost use Rattle.std.specs.Prelude.{◌≡◌, ◌<◌, if◌then◌else◌};
+ghost use Rattle.std.specs.Prelude.{suc, ◌≡◌, ◌<◌, if◌then◌else◌};
 ghost use Rattle.table.specs.Same.{IsSame};
 ghost use Rattle.forest.specs.Inside.Tree.{new_group, new_marks, vertex_table, mark_table, raise_from, turn_from, turned_table, turned_state, hang_table, link_grown};
 ghost use Rattle.forest.specs.Inside.Tree.{enter_block, in_step_duct, merged_vertices, condense_grown, edge_table, edge_grown};
@@ -16,11 +16,11 @@ use table::words::{
     TOP, Table, UP,
 };
 
-// A vertex on a way up that is turned round: what to store as its way up and its depth, and how many steps are left.
+// A vertex on a way up that is turned round: the edge by whose block it is to hang, the depth to store, and how many steps are left.
 #[derive(Clone, Copy)]
 pub struct Turning {
     pub at: Vertex,
-    pub up: u32,
+    pub by: Edge,
     pub depth: u32,
     pub left: u64,
 }
@@ -90,14 +90,15 @@ fn raise(t: &mut Table, changed: u32, by: u32)
 // One vertex of a way up that is turned round.
 #[tactic(auto, unfolding(crate::specs::Inside::Tree::hung_vertex, crate::specs::Inside::Tree::hung_block, crate::specs::Inside::Tree::turned_table, crate::specs::Inside::Tree::turned_state, crate::specs::Inside::Climb::above_edge))]
 fn turn_one(t: &mut Table, s: Turning) -> Turning
-    requires { 0 < s.left }
+    requires { (0 < s.left) × (s.by.0 < 4294967295) }
     ensures words { t.new.words.now ≡ turned_table t.old.words.now t.old.shape.limits s }
     ensures state { result ≡ turned_state t.old.words.now t.old.shape.limits s }
+    ensures fits { result.by.0 < 4294967295 }
     ensures same { IsSame t.old t.new }
 {
     let at = s.at;
     let above = up(t, at);
-    t.set_word(t.vertex_area(), UP, at.0, s.up);
+    t.set_word(t.vertex_area(), UP, at.0, s.by.0 + 1);
     t.set_word(t.vertex_area(), DEPTH, at.0, s.depth);
     let Some(e) = above else {
         return Turning { left: 0, ..s };
@@ -107,7 +108,7 @@ fn turn_one(t: &mut Table, s: Turning) -> Turning
     t.set_word(t.edge_area(), TOP, block.0, at.0);
     Turning {
         at: next,
-        up: e.0 + 1,
+        by: e,
         depth: s.depth.wrapping_add(1),
         left: s.left - 1,
     }
@@ -116,7 +117,8 @@ fn turn_one(t: &mut Table, s: Turning) -> Turning
 // The way up from a vertex turned round.
 #[tactic(auto, using(crate::proofs::TreeSteps::turn_step, crate::proofs::TreeSteps::turn_end, crate::proofs::TreeSteps::turn_less))]
 fn turn(t: &mut Table, s: Turning)
-    ensures words { t.new.words.now ≡ turn_from s.left t.old.words.now t.old.shape.limits s.at.0 s.up s.depth }
+    requires { s.by.0 < 4294967295 }
+    ensures words { t.new.words.now ≡ turn_from s.left t.old.words.now t.old.shape.limits s.at.0 (suc s.by.0) s.depth }
     ensures same { IsSame t.old t.new }
 {
     let mut state = s;
@@ -141,7 +143,7 @@ fn hang(t: &mut Table, e: Edge, u: Vertex, v: Vertex, changed: u32)
         t,
         Turning {
             at: u,
-            up: e.0 + 1,
+            by: e,
             depth: start,
             left: (below as u64) + 1,
         },

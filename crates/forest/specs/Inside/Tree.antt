@@ -62,20 +62,20 @@ turn_from (suc k) t limits x up depth =
 unfoldable pub turned_table : List ℕ → Limits → Turning → List ℕ
 turned_table t limits s =
     let above = up_of t limits s.at.0 in
-    let t₁ = hung_vertex t limits s.at.0 s.up s.depth in
+    let t₁ = hung_vertex t limits s.at.0 (suc s.by.0) s.depth in
     cond (above == 0) t₁ (hung_block t₁ limits (above - 1) s.at.0)
 
--- What is left after that vertex: nothing where it was a root, else the vertex above that block and its way up.
+-- What is left after that vertex: nothing where it was a root, else the vertex above that block, which is to hang by the same edge.
 unfoldable pub turned_state : List ℕ → Limits → Turning → Turning
 turned_state t limits s =
     let above = up_of t limits s.at.0 in
-    let t₁ = hung_vertex t limits s.at.0 s.up s.depth in
+    let t₁ = hung_vertex t limits s.at.0 (suc s.by.0) s.depth in
     cond
     (above == 0)
-    (record { at = s.at; up = s.up; depth = s.depth; left = 0 })
+    (record { at = s.at; by = s.by; depth = s.depth; left = 0 })
     (record {
       at = record { 0 = above_edge t₁ limits (above - 1) };
-      up = above;
+      by = record { 0 = above - 1 };
       depth = (s.depth + 1) % 2 ^ 32;
       left = s.left - 1;
     })
