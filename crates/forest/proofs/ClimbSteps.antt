@@ -115,6 +115,11 @@ climb_add (suc j) k n t limits r h =
         rw (climb_suc t limits r (j + k) (eqb_ne _ _ d) (eqb_ne _ _ z), climb_suc t limits r j (eqb_ne _ _ d) (eqb_ne _ _ z))
         (fewer _ _)
 
+-- so what is left of a climb after j of its steps comes to the same
+pub climb_rest : (j n : ℕ) (t : List ℕ) (limits : Limits) (r : Trail) → j ≤ n →
+    climb_from (n - j) (climb_from j t limits r).table limits (climb_from j t limits r).trail ≡ climb_from n t limits r
+climb_rest j n t limits r h = sym (climb_add j (n - j) n t limits r (omega arith))
+
 -- a climb that does not go on has no steps left, or its sides have met, and stays
 pub climb_stays : (k : ℕ) (t : List ℕ) (limits : Limits) (r : Trail) → (ltb 0 k && not (eqb r.a.0 r.b.0)) ≡ false →
     climb_from k t limits r ≡ record { table = t; trail = r }

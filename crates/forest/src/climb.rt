@@ -157,7 +157,7 @@ fn goes_on(r: Trail, remaining: u32) -> bool
 }
 
 // The whole climb: where the path is longer than one nest of calls, the next nest takes it up where the one before has come.
-#[tactic(auto, using(crate::proofs::ClimbSteps::climb_add, crate::proofs::ClimbSteps::climb_stays, crate::proofs::ClimbSteps::steps_left_lem))]
+#[tactic(auto, using(crate::proofs::ClimbSteps::climb_stays, crate::proofs::ClimbSteps::steps_left_lem))]
 fn climb_on(t: &mut Table, start: Trail, steps: u32) -> Trail
     requires { start.left + start.right + steps < 4294967295 }
     ensures words { t.new.words.now ≡ (climb_from steps t.old.words.now t.old.shape.limits start).table }

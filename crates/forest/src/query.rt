@@ -85,10 +85,8 @@ fn hang_together(t: &Table, x: Vertex, y: Vertex) -> bool
 fn block_above(t: &Table, x: Vertex) -> Option<Edge>
     ensures { MatchOption result (up_of t.now.words.now t.now.shape.limits x.0 ≡ 0) (λ e. e.0 ≡ block_above t.now.words.now t.now.shape.limits x.0) }
 {
-    match up(t, x) {
-        Some(e) => Some(block_of(t, e)),
-        None => None,
-    }
+    let e = up(t, x)?;
+    Some(block_of(t, e))
 }
 
 // The block that two different vertices share.
