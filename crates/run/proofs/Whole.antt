@@ -9,10 +9,9 @@ use Rattle.naming.specs.State.{empty_state}
 use Rattle.commands.specs.Register.{register_rule}
 use Rattle.numbers.specs.declared.Limits.{Limits}
 use Rattle.numbers.specs.declared.Shape.{Shape}
-use Rattle.refusals.specs.declared.Refusal.{Refusal}
 use Rattle.forest.specs.Promise.{table_rule_lem, state_of, Begun}
 use Rattle.run.specs.declared.Progress.{Progress}
-use Rattle.run.specs.Inside.Runs.{at_start, refused_progress, Account, Underway, SoFar, HasCome, GoesOn}
+use Rattle.run.specs.Inside.Runs.{at_start, Account, Underway, SoFar, GoesOn}
 use Rattle.run.specs.Inside.Course.{AtEnds}
 
 -- the rule of mates of the networks in a table is the register's: an empty table holds the state at a run's start
@@ -24,36 +23,23 @@ same_rule b = b.state_is ∙ ap empty_state table_rule_lem
 pub begun_limits : {limits : Limits} {t : List ℕ} {shape : Shape} → Begun limits t shape → shape.limits ≡ limits
 begun_limits b = ap (λ (s : Shape). s.limits) b.shape_is
 
--- The run of a journal, from an answer buffer.
-module _ {E : Type 0} {account : Account E} {journal old_answers : List ℕ} where
+-- The run of a journal.
+module _ {E : Type 0} {account : Account E} {journal : List ℕ} where
   -- at the start all of the run is left
-  pub starts : (shape : Shape) (t : List ℕ) → account.Fits (at_start shape) journal t old_answers
-      → SoFar account shape.limits (account.later (at_start shape) journal t old_answers) (at_start shape) journal t old_answers old_answers
-  starts shape t fits =
-      record { going = record { written_fits = fits; counted = omega arith }; same_limits = refl; as_long = refl; will = refl }
+  pub starts : (shape : Shape) (t answers : List ℕ) → account.Fits (at_start shape) journal t answers
+      → SoFar account (account.later (at_start shape) journal t answers) (at_start shape) journal t answers
+  starts shape t answers fits = record { going = record { written_fits = fits; counted = omega arith }; will = refl }
 
-  module _ {limits : Limits} {end : E} {p : Progress} {t answers : List ℕ} (far : SoFar account limits end p journal t old_answers answers) where
+  module _ {end : E} {p : Progress} {t answers : List ℕ} (far : SoFar account end p journal t answers) where
     -- it is at a command, where there is more of the journal
     pub underway : length journal ≤ 65536 → p.place < length journal → Underway account p journal t answers
     underway short more = record { going = far.going; at_command = more; short = short }
 
     -- a command further it is to come to the same end
     pub step_on : {p' : Progress} {new new_answers : List ℕ} → GoesOn account p journal t new answers new_answers (Ok p')
-        → SoFar account limits end p' journal new old_answers new_answers
-    step_on w =
-        record {
-          going = w.so_far.going;
-          same_limits = w.so_far.same_limits ∙ far.same_limits;
-          as_long = w.so_far.as_long ∙ far.as_long;
-          will = w.so_far.will ∙ far.will;
-        }
+        → SoFar account end p' journal new new_answers
+    step_on w = record { going = w.so_far.going; will = w.so_far.will ∙ far.will }
 
-    -- refused there it has come to it
-    pub ends_refused : (refusal : Refusal) {new_answers : List ℕ}
-        → HasCome account (account.later p journal t answers) (refused_progress p refusal) answers new_answers
-        → HasCome account end (refused_progress p refusal) old_answers new_answers
-    ends_refused refusal w = record { as_long = w.as_long ∙ far.as_long; has = w.has ∙ far.will }
-
-    -- and so it has at the journal's end
-    pub ends_whole : AtEnds account → p.refusal ≡ None → length journal ≤ p.place → HasCome account end p old_answers answers
-    ends_whole ends z past = record { as_long = far.as_long; has = ends.at_end p journal t answers z past ∙ far.will }
+    -- and at the journal's end it has come to it
+    pub ends_whole : AtEnds account → p.refusal ≡ None → length journal ≤ p.place → account.here p answers ≡ end
+    ends_whole ends z past = ends.at_end p journal t answers z past ∙ far.will

@@ -19,7 +19,7 @@ use Rattle.forest.specs.Promise.{SameBeyond, Begun}
 use Rattle.step.specs.Promise.{capacities_of}
 use Rattle.run.specs.declared.Progress.{Progress}
 use Rattle.run.specs.Promise.{whole_of, six_numbers, RunPromise}
-use Rattle.run.specs.Inside.Runs.{at_start, written_behind, left_of, Behind, leaves, numbers_after, leaves_after, will_leave, with_answers, HasCome}
+use Rattle.run.specs.Inside.Runs.{at_start, written_behind, left_of, Behind, leaves, numbers_after, leaves_after, will_leave}
 use Rattle.run.proofs.Whole.{same_rule, begun_limits}
 
 -- The run of a journal, from a table and an answer buffer.
@@ -46,13 +46,13 @@ module _ {limits : Limits} {t : List ℕ} (journal old_answers : List ℕ) where
   -- the code has come to that
   pub run_promised : length journal ≤ 65536 → {shape : Shape} → Begun limits t shape → {old new : List ℕ} → SameBeyond limits old new
       → {p : Progress} {answers new_answers : List ℕ}
-      → HasCome with_answers (will_leave (at_start shape) journal t old_answers) p old_answers answers
+      → leaves p answers ≡ will_leave (at_start shape) journal t old_answers
       → new_answers ≡ answers
       → RunPromise limits (whole_of (capacities_of limits) journal old_answers) p old new old_answers new_answers
   unfolding leaves six_numbers report_of capacities_of
   run_promised short begun beyond {p = p} come same =
       let whole = whole_of (capacities_of limits) journal old_answers in
-      let left = come.has ∙ will_leave_whole begun in
+      let left = come ∙ will_leave_whole begun in
       let numbers : six_numbers p ≡ report_of register_rule whole = ap (λ (b : Behind). b.numbers) left in
       let place : p.place ≡ place_after whole.accepted = cc numbers in
       let written : p.written ≡ length (bytes_of_answers whole.accepted) = cc numbers in

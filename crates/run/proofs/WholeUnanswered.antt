@@ -19,7 +19,7 @@ use Rattle.forest.specs.Promise.{SameBeyond, Begun}
 use Rattle.step.specs.Promise.{capacities_of}
 use Rattle.run.specs.declared.Progress.{Progress}
 use Rattle.run.specs.Promise.{six_numbers, UnansweredPromise}
-use Rattle.run.specs.Inside.Runs.{at_start, numbers_after, HasCome}
+use Rattle.run.specs.Inside.Runs.{at_start, numbers_after}
 use Rattle.run.specs.Inside.Unanswered.{all_left, without_answers}
 use Rattle.run.proofs.Whole.{same_rule, begun_limits}
 
@@ -49,13 +49,13 @@ module _ {limits : Limits} {t : List ℕ} (journal : List ℕ) (short : length j
       rw (same_rule begun, begun_limits begun, zero-add (place_after done), zero-add (length done), zero-add (length (bytes_of_answers done)))
 
   -- the code has come to that
-  pub unanswered_promised : {old new : List ℕ} → SameBeyond limits old new → {p : Progress} {answers new_answers : List ℕ}
-      → HasCome without_answers (numbers_after (at_start shape) t (all_left (at_start shape) journal t)) p answers new_answers
+  pub unanswered_promised : {old new : List ℕ} → SameBeyond limits old new → {p : Progress}
+      → six_numbers p ≡ numbers_after (at_start shape) t (all_left (at_start shape) journal t)
       → UnansweredPromise limits (ample_run register_routes (capacities_of limits) journal) p old new
   unfolding six_numbers report_of
   unanswered_promised beyond {p = p} come =
       let whole = ample_run register_routes (capacities_of limits) journal in
-      let numbers : six_numbers p ≡ report_of register_rule whole = come.has ∙ comes_to_whole in
+      let numbers : six_numbers p ≡ report_of register_rule whole = come ∙ comes_to_whole in
       let place : p.place ≡ place_after whole.accepted = cc numbers in
       let written : p.written ≡ length (bytes_of_answers whole.accepted) = cc numbers in
       record {

@@ -5,7 +5,7 @@ ghost use Rattle.std.specs.Prelude.{◌≡◌, ◌≤◌, length};
 ghost use Rattle.commands.specs.Entry.{work_needed};
 ghost use Rattle.forest.specs.Promise.{words_needed};
 ghost use Rattle.run.specs.Promise.{capacities_of, whole_of, RunPromise};
-ghost use Rattle.run.specs.Inside.Runs.{ended, going, at_start, comes_to, Underway, Ready, GoesOn, HasCome};
+ghost use Rattle.run.specs.Inside.Runs.{ended, going, at_start, comes_to, Underway, Ready, GoesOn};
 
 mod answered;
 mod answers;
@@ -106,7 +106,7 @@ fn run_one<A: Answers>(
 // that is told is the one before it.
 fn run_from<A: Answers>(journal: &[u8], n: &mut Network, answers: &mut A) -> Progress
     requires { (length journal.now ≤ 65536) × A.account.Fits (at_start n.old.table.shape) journal.now n.old.table.words.now (A.buffer answers.old) }
-    ensures has_come { HasCome A.account (A.account.later (at_start n.old.table.shape) journal.now n.old.table.words.now (A.buffer answers.old)) result (A.buffer answers.old) (A.buffer answers.new) }
+    ensures has_come { A.account.here result (A.buffer answers.new) ≡ A.account.later (at_start n.old.table.shape) journal.now n.old.table.words.now (A.buffer answers.old) }
     ensures same { A.same answers.old answers.new }
 {
     let mut pace = Pace {

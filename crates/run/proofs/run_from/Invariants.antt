@@ -9,8 +9,8 @@ invariant-loop-pace g l =
     let n = l.fn.n.table in
     record {
       so_far :
-          SoFar A.account n.shape.limits (A.account.later (at_start n.shape) l.journal n.words.now (A.buffer l.fn.answers))
-          (going l.n.table.shape l.pace) l.journal l.n.table.words.now (A.buffer l.fn.answers) (A.buffer l.answers);
+          SoFar A.account (A.account.later (at_start n.shape) l.journal n.words.now (A.buffer l.fn.answers))
+          (going l.n.table.shape l.pace) l.journal l.n.table.words.now (A.buffer l.answers);
       same : A.same l.fn.answers l.answers;
     }
 

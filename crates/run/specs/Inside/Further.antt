@@ -1,6 +1,6 @@
 -- One command of a run in code, refused or carried out: what the run is to come to stays the same, by any account of it.
 use mathlib.Core.List.{List}
-use mathlib.Core.Path.{◌≡◌, refl, sym, ◌∙◌, ap}
+use mathlib.Core.Path.{◌≡◌, sym, ◌∙◌, ap}
 use Prim.Native.Nat.{ℕ, ◌+◌, ◌<◌}
 use native.Mathlib.Omega.{arith}
 use lib.ListN.{length}
@@ -21,9 +21,9 @@ use Rattle.reading.specs.declared.read.Unread.TheVariants as U
 use Rattle.reading.specs.Inside.Reads.{reading_of, refused_as}
 use Rattle.step.specs.declared.Reply.{Reply}
 use Rattle.step.specs.Promise.{capacities_of, reply_size, shape_after, Carried, StepPromise}
-use Rattle.step.proofs.Replies.{limits_after, reply_counted}
+use Rattle.step.proofs.Replies.{reply_counted}
 use Rattle.run.specs.declared.Progress.{Progress}
-use Rattle.run.specs.Inside.Runs.{refused_progress, Account, Underway, read_here, OneOn, HasCome}
+use Rattle.run.specs.Inside.Runs.{refused_progress, Account, Underway, read_here, OneOn}
 use Rattle.run.specs.Inside.Left.{RefusedHere}
 use Rattle.run.specs.Inside.Course.{AtEnds}
 
@@ -50,38 +50,25 @@ module _ {E : Type 0} {account : Account E} {p : Progress} {journal old answers 
   -- By an account that holds where a run ends, what is refused ends it, where it so comes to what it was to come to:
   module _ (ends : AtEnds account) where
     abbrev Refused : Refusal → Type 0
-    Refused refusal = HasCome account (account.later p journal old answers) (refused_progress p refusal) answers answers
-
-    refused_on : (refusal : Refusal) → RefusedHere p journal old (cause_of refusal) → Refused refusal
-    refused_on refusal f =
-        record { as_long = refl; has = ends.at_refusal p journal old answers refusal under.at_command f }
+    Refused refusal = account.here (refused_progress p refusal) answers ≡ account.later p journal old answers
 
     -- what cannot be read,
-    pub unread_on : (unread : Unread) → read_here p journal ≡ reading_of (Err unread)
-        → Refused (refused_as unread)
-    unread_on unread reads = refused_on _ (unread_here p journal old unread reads)
+    pub unread_on : (unread : Unread) → read_here p journal ≡ reading_of (Err unread) → Refused (refused_as unread)
+    unread_on unread reads = ends.at_refusal p journal old answers _ under.at_command (unread_here p journal old unread reads)
 
     -- and a step that is refused
     pub step_refused_on : {c : Command} {width : ℕ} {new : List ℕ} {refusal : Refusal} → read_here p journal ≡ command c width
         → StepPromise p.shape c old new (Err refusal) → Refused refusal
-    step_refused_on reads w = refused_on _ (command_here p journal old _ reads w.refused)
+    step_refused_on reads w = ends.at_refusal p journal old answers _ under.at_command (command_here p journal old _ reads w.refused)
 
   -- A command that is carried out brings it further, where it is to come to the same from there.
-  pub further_on_lem : {p' : Progress} {c : Command} {new new_answers : List ℕ} {reply : Reply}
-      → account.later p' journal new new_answers ≡ account.later p journal old answers
-      → Carried p.shape c old new reply → p'.shape ≡ shape_after p.shape reply → length new_answers ≡ length answers
+  pub further_on_lem : {p' : Progress} {new new_answers : List ℕ} → account.later p' journal new new_answers ≡ account.later p journal old answers
       → p.place < p'.place → p'.commands ≡ p.commands + 1 → account.Fits p' journal new new_answers
       → OneOn account p p' journal old new answers new_answers
-  further_on_lem {p' = p'} {new = new} {reply = reply} later carried shape long place commands fits =
+  further_on_lem later place commands fits =
       record {
         so_far =
-            record {
-              going =
-                  record { written_fits = fits; counted = omega (arith, commands, place, under.going.counted) };
-              same_limits = ap (λ (q : Shape). q.limits) shape ∙ limits_after p.shape reply;
-              as_long = long;
-              will = later;
-            };
+            record { going = record { written_fits = fits; counted = omega (arith, commands, place, under.going.counted) }; will = later };
         is_further = place;
       }
 

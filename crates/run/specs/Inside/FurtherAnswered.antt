@@ -76,11 +76,10 @@ module _
     pub answered_on : (new_answers : List ℕ) (result : Result ℕ Refusal) → Answered p.written new next reply answers new_answers result
         → GoesOn with_answers p journal old new answers new_answers (further p next (p.place + 1 + width) result)
     answered_on new_answers (Ok total) w =
-        further_on_lem ready.underway (further_leaves new_answers total w) done.carried refl (as_long new_answers total w) (omega arith) refl
+        further_on_lem ready.underway (further_leaves new_answers total w) (omega arith) refl
         (omega (arith, w.counted, w.room, as_long new_answers total w, ready.underway.going.written_fits))
     answered_on new_answers (Err refusal) w =
         let left =
         left_no_room p journal (length answers) old ready.underway.at_command (meaning order) width ready.reads done.not_refused
         (omega (arith, w.short, size_is done.carried)) in
-        rw (w.no_room, w.untouched)
-        (record { as_long = refl; has = stops_here p journal old answers R.NoRoom left })
+        rw (w.no_room, w.untouched) (stops_here p journal old answers R.NoRoom left)

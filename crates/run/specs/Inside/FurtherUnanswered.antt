@@ -70,9 +70,6 @@ module _
         rw e
         (further_on_lem ready.underway
         (rw (left_from total) (numbers_further p (on total) old new here (all_left (on total) journal new) refl refl written done.carried.agrees))
-        done.carried
-        refl
-        refl
         (omega arith)
         refl
         (omega (arith, still_fits total)))

@@ -10,7 +10,6 @@ use Rattle.commands.specs.Text.{text_from}
 use Rattle.commands.specs.Run.{Run, run_within, commands_of, bytes_of_answers, place_after}
 use Rattle.commands.specs.Entry.{over, number_of}
 use Rattle.commands.specs.Register.{register_routes}
-use Rattle.numbers.specs.declared.Limits.{Limits}
 use Rattle.numbers.specs.declared.Shape.{Shape}
 use Rattle.refusals.specs.declared.Refusal.{Refusal}
 use Rattle.refusals.specs.declared.Refusal.TheVariants as R
@@ -154,26 +153,18 @@ abbrev pub Answered : ℕ → List ℕ → Shape → Reply → List ℕ → List
 Answered written t next reply old new (Ok all) = IsAnswered written t next reply old new all
 Answered written t next reply old new (Err refusal) = WithoutRoom written reply old new refusal
 
--- From an answer buffer the run has come so far with a table, can go on, and is to come to this end.
-pub record SoFar
-    {E : Type 0} (account : Account E) (limits : Limits) (end : E) (p : Progress) (journal t old_answers new_answers : List ℕ) : Type 0 where
-  pub going : Going account p journal t new_answers
-  pub same_limits : p.shape.limits ≡ limits
-  pub as_long : length new_answers ≡ length old_answers
-  pub will : account.later p journal t new_answers ≡ end
-
--- From there it has come to this end.
-pub record HasCome {E : Type 0} (account : Account E) (end : E) (p : Progress) (old_answers new_answers : List ℕ) : Type 0 where
-  pub as_long : length new_answers ≡ length old_answers
-  pub has : account.here p new_answers ≡ end
+-- A run that has come so far with a table and an answer buffer, can go on, and is to come to this end.
+pub record SoFar {E : Type 0} (account : Account E) (end : E) (p : Progress) (journal t answers : List ℕ) : Type 0 where
+  pub going : Going account p journal t answers
+  pub will : account.later p journal t answers ≡ end
 
 -- The run is a command further, and is to come to what it was to come to before.
 pub record OneOn {E : Type 0} (account : Account E) (p p' : Progress) (journal old new old_answers new_answers : List ℕ) : Type 0 where
-  pub so_far : SoFar account p.shape.limits (account.later p journal old old_answers) p' journal new old_answers new_answers
+  pub so_far : SoFar account (account.later p journal old old_answers) p' journal new new_answers
   pub is_further : p.place < p'.place
 
 -- What a command does to a run: so it is, or it is refused, and has come to that.
 abbrev pub GoesOn : {E : Type 0} → Account E → Progress → List ℕ → List ℕ → List ℕ → List ℕ → List ℕ → Result Progress Refusal → Type 0
 GoesOn account p journal old new old_answers new_answers (Ok p') = OneOn account p p' journal old new old_answers new_answers
 GoesOn account p journal old new old_answers new_answers (Err refusal) =
-    HasCome account (account.later p journal old old_answers) (refused_progress p refusal) old_answers new_answers
+    account.here (refused_progress p refusal) new_answers ≡ account.later p journal old old_answers
