@@ -24,7 +24,7 @@ pub mod tree;
 use numbers::{Duct, Edge, Limits, Measure, Shape, Vertex};
 pub use table::words::Table;
 use table::words::{
-    Area, CHANGED, ENDS, MARK, MARK_COUNT, NAME, PATH_VERTEX, RIGHT_EDGE, SIZE, WORDS_PER_EDGE,
+    Area, CHANGED, MARK, MARK_COUNT, NAME, PATH_VERTEX, RIGHT_EDGE, SIZE, WORDS_PER_EDGE,
     WORDS_PER_VERTEX,
 };
 
@@ -59,7 +59,7 @@ pub struct Growth {
 }
 
 // The two ends of an edge.
-#[derive(Clone, Copy)]
+#[derive(Clone, Copy, PartialEq, Eq)]
 pub struct Ends {
     pub left: Vertex,
     pub right: Vertex,
@@ -224,11 +224,7 @@ impl Network<'_> {
         ensures left { result.left.0 ≡ (edge (network_in self.now.table.shape self.now.table.words.now) s.0).left }
         ensures right { result.right.0 ≡ (edge (network_in self.now.table.shape self.now.table.words.now) s.0).right }
     {
-        let ends = self.table.word(self.table.edge_area(), ENDS, s.0);
-        Ends {
-            left: Vertex(ends / 65536),
-            right: Vertex(ends % 65536),
-        }
+        query::ends_of(&self.table, s)
     }
 
     // Whether two edges are mates: one edge, or lost together.

@@ -1,22 +1,37 @@
 // The questions: what the table says of its groups, and of the path between two vertices.
-ghost use Rattle.std.specs.Prelude.{MatchOption, ◌≡◌, ◌+◌, ◌<◌, ◌≤◌};
+ghost use Rattle.std.specs.Prelude.{MatchOption, ◌≡◌, ◌+◌, ◌/◌, ◌%◌, ◌||◌, ◌<◌, ◌≤◌};
+ghost use Rattle.table.specs.Inside.Column;
+ghost use Rattle.table.specs.Inside.Layout.{cell, edge_area};
 ghost use Rattle.table.specs.Same.{IsSame};
 ghost use Rattle.forest.specs.Inside.Climb.{up_of, climb_table};
 ghost use Rattle.forest.specs.Inside.Queries.{bridge_blocks_differ, bridge_in, are_pair, ends_agree, lost_together, hangs_from, hang_together, block_above, shared_in};
 ghost use Rattle.forest.specs.Inside.Queries.{find_table, find_count, bridges_found, cuts_count};
 
+use crate::Ends;
 use crate::climb::{block_of, climb, top, up};
 use crate::survey::duct_of;
 use numbers::{Edge, Vertex};
 use table::words::{ENDS, NAME, PATH_EDGE, PATH_VERTEX, RIGHT_EDGE, Table};
 
+// The two ends of an edge, which are kept in one word.
+pub(crate) fn ends_of(t: &Table, s: Edge) -> Ends
+    ensures left { result.left.0 ≡ cell t.now.words.now (edge_area t.now.shape.limits) Column.ends s.0 / 65536 }
+    ensures right { result.right.0 ≡ cell t.now.words.now (edge_area t.now.shape.limits) Column.ends s.0 % 65536 }
+{
+    let ends = t.word(t.edge_area(), ENDS, s.0);
+    Ends {
+        left: Vertex(ends / 65536),
+        right: Vertex(ends % 65536),
+    }
+}
+
 // The bridge-block names of two vertices differ.
 #[tactic(auto, unfolding(crate::specs::Inside::Queries::bridge_blocks_differ))]
-pub(crate) fn bridge_blocks_differ(t: &Table, x: u32, y: u32) -> bool
-    ensures { result ≡ bridge_blocks_differ t.now.words.now t.now.shape.limits x y }
+fn bridge_blocks_differ(t: &Table, x: Vertex, y: Vertex) -> bool
+    ensures { result ≡ bridge_blocks_differ t.now.words.now t.now.shape.limits x.0 y.0 }
 {
-    let left = t.word(t.bridge_block_area(), NAME, x);
-    let right = t.word(t.bridge_block_area(), NAME, y);
+    let left = t.word(t.bridge_block_area(), NAME, x.0);
+    let right = t.word(t.bridge_block_area(), NAME, y.0);
     left != right
 }
 
@@ -25,37 +40,28 @@ pub(crate) fn bridge_blocks_differ(t: &Table, x: u32, y: u32) -> bool
 pub(crate) fn ends_differ(t: &Table, s: Edge) -> bool
     ensures { result ≡ bridge_in t.now.words.now t.now.shape.limits s.0 }
 {
-    let ends = t.word(t.edge_area(), ENDS, s.0);
-    bridge_blocks_differ(t, ends / 65536, ends % 65536)
+    let ends = ends_of(t, s);
+    bridge_blocks_differ(t, ends.left, ends.right)
 }
 
-// Two numbers are two others, in this order.
+// Two edges have the same ends, in either direction.
 #[tactic(auto, unfolding(crate::specs::Inside::Queries::are_pair))]
-fn are_pair(left: u32, right: u32, x: u32, y: u32) -> bool
-    ensures { result ≡ are_pair left right x y }
+fn ends_agree(ends: Ends, other: Ends) -> bool
+    ensures { result ≡ (are_pair ends.left.0 ends.right.0 other.left.0 other.right.0 || are_pair ends.left.0 ends.right.0 other.right.0 other.left.0) }
 {
-    left == x && right == y
-}
-
-// Two words with the ends of an edge each have the same ends, in either direction.
-#[tactic(auto, unfolding(crate::specs::Inside::Queries::ends_agree))]
-fn ends_agree(ends: u32, other: u32) -> bool
-    ensures { result ≡ ends_agree ends other }
-{
-    let left = ends / 65536;
-    let right = ends % 65536;
-    are_pair(left, right, other / 65536, other % 65536)
-        || are_pair(left, right, other % 65536, other / 65536)
+    let turned = Ends {
+        left: other.right,
+        right: other.left,
+    };
+    ends == other || ends == turned
 }
 
 // Two edges lie in one duct, between the same two vertices.
-#[tactic(auto, unfolding(crate::specs::Inside::Queries::lost_together))]
+#[tactic(auto, unfolding(crate::specs::Inside::Queries::lost_together, crate::specs::Inside::Queries::ends_agree))]
 pub(crate) fn lost_together(t: &Table, s: Edge, other: Edge) -> bool
     ensures { result ≡ lost_together t.now.words.now t.now.shape.limits s.0 other.0 }
 {
-    let ends = t.word(t.edge_area(), ENDS, s.0);
-    let others = t.word(t.edge_area(), ENDS, other.0);
-    duct_of(t, s) == duct_of(t, other) && ends_agree(ends, others)
+    duct_of(t, s) == duct_of(t, other) && ends_agree(ends_of(t, s), ends_of(t, other))
 }
 
 // Vertex x hangs below a block, and y is the vertex above that block.
@@ -111,8 +117,8 @@ fn find_one(t: &mut Table, i: u32, count: u32) -> u32
     ensures count { result ≡ find_count t.old.words.now t.old.shape.limits i count }
     ensures same { IsSame t.old t.new }
 {
-    let x = t.word(t.vertex_area(), PATH_VERTEX, i);
-    let y = t.word(t.vertex_area(), PATH_VERTEX, i + 1);
+    let x = Vertex(t.word(t.vertex_area(), PATH_VERTEX, i));
+    let y = Vertex(t.word(t.vertex_area(), PATH_VERTEX, i + 1));
     if bridge_blocks_differ(t, x, y) {
         let e = t.word(t.vertex_area(), PATH_EDGE, i);
         let name = block_of(t, Edge(e));

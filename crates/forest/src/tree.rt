@@ -150,19 +150,6 @@ fn hang(t: &mut Table, e: Edge, u: Vertex, v: Vertex, changed: u32)
     );
 }
 
-// The component that loses its name hung below the other by the new edge e: that of b where a keeps its name, else that of a.
-fn hang_loser(t: &mut Table, e: Edge, a: Vertex, b: Vertex, keeps: bool, changed: u32)
-    requires { e.0 < 4294967295 }
-    ensures words { t.new.words.now ≡ hang_table t.old.words.now t.old.shape.limits e.0 (if keeps then b.0 else a.0) (if keeps then a.0 else b.0) changed }
-    ensures same { IsSame t.old t.new }
-{
-    if keeps {
-        hang(t, e, b, a, changed);
-    } else {
-        hang(t, e, a, b, changed);
-    }
-}
-
 // Links two components by the new edge e: the one that loses its name is hung below the other.
 #[tactic(auto, unfolding(crate::specs::Inside::Tree::link_grown, crate::specs::Inside::Tree::list_ends, crate::specs::Inside::Tree::path_vertices))]
 fn link(t: &mut Table, e: Edge, a: Vertex, b: Vertex) -> Growth
@@ -181,7 +168,8 @@ fn link(t: &mut Table, e: Edge, a: Vertex, b: Vertex) -> Growth
             count: 2,
         },
     );
-    hang_loser(t, e, a, b, name == m.name, m.changed);
+    let (loser, winner) = if name == m.name { (b, a) } else { (a, b) };
+    hang(t, e, loser, winner, m.changed);
     Growth {
         components: m.changed,
         bridge_blocks: 0,
@@ -209,11 +197,8 @@ fn enter_block(t: &mut Table, e: Edge, w: u32, v: Vertex)
 fn in_step_duct(t: &Table, e: Edge, steps: u32) -> bool
     ensures { result ≡ in_step_duct t.now.words.now t.now.shape.limits e.0 steps }
 {
-    if steps != 1 {
-        return false;
-    }
     let other = t.word(t.vertex_area(), PATH_EDGE, 0);
-    duct_of(t, Edge(other)) == duct_of(t, e)
+    steps == 1 && duct_of(t, Edge(other)) == duct_of(t, e)
 }
 
 // How many of the path's vertices have their bridge-blocks merged: only the first, which changes nothing, where e lies in the step's duct.
@@ -223,9 +208,10 @@ fn merged_vertices(t: &Table, e: Edge, steps: u32) -> u32
     ensures { result ≡ merged_vertices t.now.words.now t.now.shape.limits e.0 steps }
 {
     if in_step_duct(t, e, steps) {
-        return 1;
+        1
+    } else {
+        steps + 1
     }
-    steps + 1
 }
 
 // Condenses the path between a and b by the new edge e.
