@@ -17,7 +17,7 @@ pub(crate) fn entry_of(word: u32) -> Option<Edge>
 }
 
 // Clears a column of the vertices.
-#[tactic(auto, using(forest::specs::Promise::vertices_fit))]
+#[tactic(auto, using(forest::specs::Promise::vertices_fit, crate::proofs::ListsSteps::cleared_next))]
 pub(crate) fn clear_column(n: &mut Network, column: u8)
     requires { column < 4 }
     ensures cleared { ColumnCleared n.old.table.shape column n.old.table.words.now n.new.table.words.now }
@@ -29,6 +29,7 @@ pub(crate) fn clear_column(n: &mut Network, column: u8)
 }
 
 // Puts an edge at the head of the lists of its two ends. Its own word takes what stood there, in 14 bits each, and two bits that are 0.
+#[tactic(auto, using(forest::specs::Promise::edges_fit, forest::specs::Promise::few_edges, crate::proofs::ListsSteps::left_fits, crate::proofs::ListsSteps::right_fits))]
 fn enter_edge(n: &mut Network, s: Edge)
     requires { s.0 < n.old.table.shape.edges }
     ensures entered { EdgeEntered n.old.table.shape s.0 n.old.table.words.now n.new.table.words.now }
@@ -43,6 +44,7 @@ fn enter_edge(n: &mut Network, s: Edge)
 }
 
 // Builds the lists: first every list is empty, and then the edges are entered, from the first to the last.
+#[tactic(auto, using(crate::proofs::ListsSteps::built_first, crate::proofs::ListsSteps::all_built))]
 pub(crate) fn build_lists(n: &mut Network)
     ensures built { ListsBuilt n.old.table.shape n.old.table.words.now n.new.table.words.now }
     ensures same { IsSame n.old.table n.new.table }

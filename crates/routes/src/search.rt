@@ -54,6 +54,7 @@ fn may_step(allowance: Allowance, used: Use, left: bool) -> bool
 }
 
 // Writes down that vertex x is reached, by a step along edge s; gives how many are reached then.
+#[tactic(auto, using(forest::specs::Promise::vertices_fit, forest::specs::Promise::few_edges))]
 fn reach(n: &mut Network, x: Vertex, s: Edge, found: u32) -> u32
     requires { (x.0 < n.old.table.shape.vertices) × (s.0 < n.old.table.shape.edges) }
     ensures reached { Reached n.old.table.shape x.0 s.0 found n.old.table.words.now n.new.table.words.now result }
@@ -68,6 +69,7 @@ fn reach(n: &mut Network, x: Vertex, s: Edge, found: u32) -> u32
 }
 
 // Sees edge s from vertex y: its other end is reached, if it was not and if the step from there may be taken.
+#[tactic(auto, using(crate::proofs::SearchesLook::other_known))]
 fn look(n: &mut Network, allowance: Allowance, y: Vertex, s: Edge, found: u32) -> u32
     requires { s.0 < n.old.table.shape.edges }
     ensures looked { Looked n.old.table.shape allowance y.0 s.0 found n.old.table.words.now n.new.table.words.now result }
@@ -86,6 +88,7 @@ fn look(n: &mut Network, allowance: Allowance, y: Vertex, s: Edge, found: u32) -
 }
 
 // Sees all edges at vertex y, from the last to the first.
+#[tactic(auto, unfolding(crate::specs::Inside::Lists::entry_behind))]
 fn look_all(n: &mut Network, allowance: Allowance, y: Vertex, found: u32) -> u32
     ensures looked { LookedAll n.old.table.shape allowance y.0 found n.old.table.words.now n.new.table.words.now result }
     ensures same { IsSame n.old.table n.new.table }
@@ -112,6 +115,7 @@ fn turn(n: &mut Network, allowance: Allowance, i: u32, found: u32) -> u32
 }
 
 // No vertex is reached but the goal.
+#[tactic(auto, using(forest::specs::Promise::vertices_fit))]
 fn begin_search(n: &mut Network, b: Vertex)
     requires { b.0 < n.old.table.shape.vertices }
     ensures begun { Begun n.old.table.shape b.0 n.old.table.words.now n.new.table.words.now }

@@ -11,6 +11,7 @@ use forest::{Network, Table, edge_scratch, vertex_scratch};
 use numbers::{Edge, Vertex};
 
 // Writes down the edges of the way from a to b as a route; gives their number.
+#[tactic(auto, using(forest::specs::Promise::vertices_fit, crate::proofs::Frames::column_known))]
 pub(crate) fn write_way(n: &mut Network, route: Route, a: Vertex, b: Vertex) -> u32
     ensures written { WayWritten n.old.table.shape (column_of route) a.0 b.0 n.old.table.words.now n.new.table.words.now result }
     ensures same { IsSame n.old.table n.new.table }
@@ -30,6 +31,7 @@ pub(crate) fn write_way(n: &mut Network, route: Route, a: Vertex, b: Vertex) -> 
 }
 
 // Whether a way that is written down goes along an edge that is used.
+#[tactic(auto, unfolding(crate::specs::Promise::edge_at), using(crate::proofs::WalksBack::none_goes_on, crate::proofs::WalksBack::none_told, crate::proofs::WalksBack::one_told))]
 pub(crate) fn takes_back(t: &Table, route: Route, count: u32) -> bool
     ensures { TakesBack t.now.shape (column_of route) count t.now.words.now result }
 {
@@ -43,6 +45,7 @@ pub(crate) fn takes_back(t: &Table, route: Route, count: u32) -> bool
 }
 
 // Stores the two bits of an edge.
+#[tactic(auto, using(forest::specs::Promise::edges_fit))]
 fn set_use(n: &mut Network, s: Edge, used: Use)
     requires { s.0 < n.old.table.shape.edges }
     ensures set { UsesSet n.old.table.shape (λ e. eqb s.0 e) used n.old.table.words.now n.new.table.words.now }
@@ -53,6 +56,7 @@ fn set_use(n: &mut Network, s: Edge, used: Use)
 }
 
 // Stores the two bits of edge r where it is another mate of edge s.
+#[tactic(auto, using(crate::proofs::WalksUses::mate_passed, crate::proofs::WalksUses::mate_set, crate::proofs::WalksUses::other_mate, crate::proofs::WalksUses::not_other_mate))]
 fn set_mate_use(n: &mut Network, s: Edge, r: Edge, used: Use)
     requires { (s.0 < n.old.table.shape.edges) × (r.0 < n.old.table.shape.edges) }
     ensures set { UsesSet n.old.table.shape (λ e. eqb r.0 e && is_other_mate (network_in n.old.table.shape n.old.table.words.now) s.0 e) used n.old.table.words.now n.new.table.words.now }
@@ -67,6 +71,7 @@ fn set_mate_use(n: &mut Network, s: Edge, r: Edge, used: Use)
 }
 
 // Stores the two bits of the other mates of edge s, all of which are at vertex x, an end of s.
+#[tactic(auto, unfolding(crate::specs::Inside::Lists::entry_behind))]
 fn set_mates_use(n: &mut Network, x: Vertex, s: Edge, used: Use)
     requires { s.0 < n.old.table.shape.edges }
     ensures set { MatesSet n.old.table.shape x.0 s.0 used n.old.table.words.now n.new.table.words.now }

@@ -2,7 +2,7 @@
 use mathlib.Core.Path.{sym, ◌∙◌, ap}
 use Prim.Native.Nat.{◌%◌}
 use Rattle.routes.specs.Inside.Searches.{may_step}
-use Rattle.routes.proofs.SearchesLook.{other_known, look_reached, look_barred, look-linked}
+use Rattle.routes.proofs.SearchesLook.{look_reached, look_barred, look-linked}
 use Rattle.routes.proofs.search.look.Goals as goal
 
 pub returns-then-not-may_step-clause-looked : goal.returns-then-not-may_step-clause-looked
@@ -21,15 +21,6 @@ returns-then-vertex_scratch-ne0-clause-looked c =
     c.ends_of-ends.result.left.0 c.ends_of-ends.result.right.0 c.requires (c.ends_of-ends.ensures.left, c.ends_of-ends.ensures.right)
     c.other_end-x.ensures args.allowance args.found
     c.vertex_scratch.result c.vertex_scratch.ensures c.if-vertex_scratch-ne0.true
-
-pub reach-requires : goal.reach-requires
-reach-requires c =
-    let args = c.args in (
-      other_known c.args.n.now.table.shape c.args.n.now.table.words.now c.args.n.now.holds args.y.0 args.s.0 c.other_end-x.result.0
-          c.ends_of-ends.result.left.0 c.ends_of-ends.result.right.0 c.requires (c.ends_of-ends.ensures.left, c.ends_of-ends.ensures.right)
-          c.other_end-x.ensures,
-      c.requires,
-    )
 
 pub returns-clause-looked : goal.returns-clause-looked
 returns-clause-looked c =

@@ -1,25 +1,14 @@
 -- `search::look_all` sees all edges at a vertex. The loop's invariant: the edges from the entry on are left, and give with what was found
 -- what all edges give.
 use mathlib.Core.Path.{ap}
-use native.Mathlib.Omega.{arith}
 use Rattle.std.proofs.Common.{rules}
 use Rattle.routes.specs.Inside.Lists.{entry_number}
-use Rattle.routes.proofs.ListsWords.{behind_small}
 use Rattle.routes.proofs.SearchesLooks.{looking_first, looking_next, looking_last}
 use Rattle.routes.proofs.search.look_all.Goals as goal
 
 pub loop-entry-init : goal.loop-entry-init
 loop-entry-init c =
     (looking_first c.args.n.now.table.shape c.args.n.now.table.words.now c.args.n.now.holds c.args.allowance c.args.y.0 c.args.found _ c.first_entry-entry.ensures, search rules)
-
-pub loop-entry-smaller : goal.loop-entry-smaller
-loop-entry-smaller c =
-    omega (
-      arith,
-      c.entry_behind-entry.ensures,
-      ap entry_number c.in-Some.is,
-      behind_small c.loop-entry.n.table.shape c.loop-entry.n.table.words.now c.args.y.0 c.in-Some.s.0,
-    )
 
 pub loop-entry-preserved : goal.loop-entry-preserved
 loop-entry-preserved c =

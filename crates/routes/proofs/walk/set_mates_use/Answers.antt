@@ -7,7 +7,7 @@ use Rattle.std.proofs.Common.{rules}
 use Rattle.routes.specs.Inside.Frame.{edges_only}
 use Rattle.routes.specs.Inside.Lists.{entry_number, entry_behind}
 use Rattle.routes.proofs.Frames.{only_refl, only_trans}
-use Rattle.routes.proofs.WalksMates.{mates_begin, mates_next, mates_end}
+use Rattle.routes.proofs.WalksMates.{mates_begin, mates_next}
 use Rattle.routes.proofs.walk.set_mates_use.Goals as goal
 
 pub loop-entry-init : goal.loop-entry-init
@@ -19,10 +19,6 @@ loop-entry-init c =
           _ c.first_entry-entry.ensures,
       search rules,
     )
-
-pub loop-entry-smaller : goal.loop-entry-smaller
-unfolding entry_behind
-loop-entry-smaller c = omega (arith, c.entry_behind-entry.ensures, ap entry_number c.in-Some.is)
 
 pub loop-entry-preserved : goal.loop-entry-preserved
 unfolding entry_behind
@@ -40,14 +36,3 @@ loop-entry-preserved c =
           done _ (rw (c.set_mate_use.ensures.same.shape ∙ same) at c.entry_behind-entry.ensures),
       search rules,
     )
-
-pub returns-clause-set : goal.returns-clause-set
-returns-clause-set c =
-    let now = c.loop-entry in
-    let args = c.args in
-    record {
-      only = now.invariant.0;
-      mates-set = λ g is w e.
-          mates_end c.args.n.now.table.shape g args.x.0 args.s.0 args.used c.args.n.now.table.words.now is e _ now.n.table.words.now (now.invariant.2 g is w e)
-          (ap entry_number c.in_default.is);
-    }

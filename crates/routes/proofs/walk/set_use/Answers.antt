@@ -1,14 +1,9 @@
 -- `walk::set_use` stores the two bits of an edge.
 use mathlib.Core.Path.{ap₂}
 use Prim.Native.Nat.{◌+◌, ◌*◌, ◌/◌}
-use native.Mathlib.Omega.{arith}
-use Rattle.forest.specs.Promise.{edges_fit}
 use Rattle.routes.specs.Inside.Walks.{with_use}
 use Rattle.routes.proofs.WalksUses.{use_stored}
 use Rattle.routes.proofs.walk.set_use.Goals as goal
-
-pub set_edge_scratch-requires : goal.set_edge_scratch-requires
-set_edge_scratch-requires c = omega (arith, c.requires, edges_fit _ _ c.args.n.now.holds)
 
 pub returns-clause-set : goal.returns-clause-set
 unfolding with_use

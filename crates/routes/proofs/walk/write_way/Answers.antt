@@ -4,7 +4,7 @@ use mathlib.Core.Path.{sym, ◌∙◌, ap}
 use native.Mathlib.Omega.{arith}
 use Rattle.std.proofs.Common.{rules}
 use Rattle.graph.proofs.Truth.{eqb_eq, eqb_ne}
-use Rattle.forest.specs.Promise.{vertices_held, vertices_fit}
+use Rattle.forest.specs.Promise.{vertices_held}
 use Rattle.routes.specs.Inside.Frame.{column_of, column_only}
 use Rattle.routes.proofs.Frames.{column_known, column_above, only_refl, only_trans, only_vertex}
 use Rattle.routes.proofs.WalksWritten.{write_begins, write_ends, written_fits, write_goes_on, step_stands}
@@ -35,11 +35,6 @@ returns-in_default-clause-written c =
           (eqb_ne _ _ (sym c.eq.ensures ∙ c.if-eq.false))
           (sym (rw now.invariant.2.shape at c.vertex_scratch.ensures) ∙ sym c.in_default.ensures));
     }
-
-pub set_vertex_scratch-requires : goal.set_vertex_scratch-requires
-set_vertex_scratch-requires c =
-    let now = c.loop-i in
-    (rw c.column.ensures (column_known c.args.route), rw now.invariant.2.shape (omega (arith, vertices_fit _ _ c.args.n.now.holds)))
 
 pub loop-i-preserved : goal.loop-i-preserved
 loop-i-preserved c =
