@@ -3,16 +3,20 @@ use mathlib.Core.Bool.{Bool, true, false, not, cond}
 use mathlib.Core.List.{List, [], ◌∷◌}
 use mathlib.Core.Logic.{⊎_elim}
 use mathlib.Core.Path.{◌≡◌, refl, sym, ◌∙◌, ap}
-use Prim.Native.Nat.{ℕ, zero, suc, ◌+◌, ◌%◌, ◌≤◌, ◌<◌}
+use Prim.Native.Nat.{ℕ, zero, suc, ◌%◌, ◌≤◌, ◌<◌}
+use native.Mathlib.Nat.{zero-add}
 use native.Mathlib.Omega.{arith}
 use borrow.Author.Tests.{lt-leb}
 use lib.Dec.{eqb, leb}
+use lib.ListN.{length}
+use Rattle.std.proofs.Common.{MatchBool}
+use Rattle.std.specs.List.{range_with_len, HoldsAt, AllWithin}
+use Rattle.std.proofs.lemmas.List.FromFn.{length-range_with_len, get_or-range_with_len}
 use Rattle.graph.specs.Below.{tabulate, length_tabulate}
 use Rattle.graph.specs.Lists.{is_in, all_in}
 use Rattle.graph.specs.Network.{Network, edge, edge_count}
 use Rattle.graph.specs.Cycle.{Step}
 use Rattle.graph.proofs.Truth.{false_of_not, not_both, not_of_false, false_of_not_true, or_cases, eqb_eq, le-leb}
-use Rattle.graph.proofs.Below.{below_or_last}
 use Rattle.graph.proofs.Members.{all_in_lem, each_in, is_in_last}
 use Rattle.naming.proofs.Listed.{get_or-tabulate}
 use Rattle.ways.specs.Used.{Used, is_used, mate_used}
@@ -58,20 +62,14 @@ word_tells : {shape : Shape} {g : Network} {u : Used} {t : List ℕ} → Listed 
     → is_used u s ≡ leb 2 (edge_scratch shape t s % 4)
 word_tells {g = g} {u = u} listed s h = sym (rw (listed.uses s h) (bits_used g u s))
 
--- by their words, none of the first i edges that are written down is used
-pub record NoneTo (shape : Shape) (column : ℕ) (t : List ℕ) (i : ℕ) : Type 0 where
-  pub low : (k : ℕ) → k < i → edge_scratch shape t (vertex_scratch shape t column k) % 4 < 2
+module _ (shape : Shape) (column : ℕ) (t : List ℕ) where
+  -- the bits of edge i of those that are written down
+  abbrev pub bits_at : ℕ → ℕ
+  bits_at i = edge_scratch shape t (vertex_scratch shape t column i) % 4
 
-module _ {shape : Shape} {column : ℕ} {t : List ℕ} where
-  -- one edge more is not
-  pub none_goes_on : {i : ℕ} → NoneTo shape column t i → (s word : ℕ) → s ≡ vertex_scratch shape t column i → word ≡ edge_scratch shape t s
-      → word % 4 < 2 → NoneTo shape column t (i + 1)
-  none_goes_on {i} none s word e q h =
-      record { low = λ k l. ⊎_elim (λ b. none.low k b) (λ same. rw same (rw (← e) (rw (← q) h))) (below_or_last i k (omega (arith, l))) }
-
-  -- where none of those written down is, no step goes along a used edge
-  pub none_told : {count i : ℕ} → NoneTo shape column t i → count ≤ i → TakesBack shape column count t false
-  none_told {count} none h =
+  -- where none of them is used, no step goes along a used edge
+  none_told : {count : ℕ} → ((k : ℕ) → k < count → bits_at k < 2) → TakesBack shape column count t false
+  none_told {count} none =
       record {
         told = λ g u ps listed known written.
             sym (ap not (none_back_lem u ps ∙ all_in_lem (λ s. not (is_used u s)) (edges_of ps) (λ s m.
@@ -79,18 +77,29 @@ module _ {shape : Shape} {column : ℕ} {t : List ℕ} where
       }
     where
       low_in : (s : ℕ) → is_in s (tabulate count (vertex_scratch shape t column)) ≡ true → edge_scratch shape t s % 4 < 2
-      low_in s m =
-          by_entries (λ s. edge_scratch shape t s % 4 < 2) count (vertex_scratch shape t column) (λ k l. none.low k (omega arith)) s m
+      low_in s m = by_entries (λ s. edge_scratch shape t s % 4 < 2) count (vertex_scratch shape t column) none s m
 
   -- where one is, some step does
-  pub one_told : {count i : ℕ} → i < count → (s word : ℕ) → s ≡ vertex_scratch shape t column i → word ≡ edge_scratch shape t s
-      → 2 ≤ word % 4 → TakesBack shape column count t true
-  one_told {count} {i} l s word e q h =
+  one_told : {count : ℕ} (k : ℕ) → k < count → 2 ≤ bits_at k → TakesBack shape column count t true
+  one_told {count} k l h =
       record {
         told = λ g u ps listed known written.
-            let m = rw (written, ← e) at (entry_in count (vertex_scratch shape t column) i l) in
-            let used = word_tells listed s (known s m) ∙ le-leb 2 (edge_scratch shape t s % 4) (rw q at h) in
+            let s = vertex_scratch shape t column k in
+            let m = rw written at (entry_in count (vertex_scratch shape t column) k l) in
+            let used = word_tells listed s (known s m) ∙ le-leb 2 (edge_scratch shape t s % 4) h in
             sym (not_of_false (false_of_not (none_back u ps) (λ n.
             not_both used (false_of_not_true (is_used u s)
             (each_in (λ s. not (is_used u s)) (edges_of ps) (sym (none_back_lem u ps) ∙ n) s m)))));
       }
+
+  -- so it is told by whether any is
+  pub any_told : (count : ℕ) (answer : Bool)
+      → MatchBool answer
+      ((k : ℕ) × (k < length (range_with_len 0 count)) × HoldsAt (λ i. 2 ≤ bits_at i) (range_with_len 0 count) k)
+      (AllWithin (λ i. bits_at i < 2) (range_with_len 0 count) 0 (length (range_with_len 0 count)))
+      → TakesBack shape column count t answer
+  any_told count true (k, l, h) =
+      let known : k < count = omega (arith, length-range_with_len 0 count, l) in
+      one_told k known (rw (get_or-range_with_len 0 count k 0 known, zero-add k) at (h 0))
+  any_told count false none = none_told (λ k l.
+      rw (get_or-range_with_len 0 count k 0 l, zero-add k) at (none k 0 (omega arith) (omega (arith, length-range_with_len 0 count, l))))

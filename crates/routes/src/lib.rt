@@ -21,7 +21,8 @@ use forest::{Network, Table, vertex_scratch};
 use numbers::{Edge, Vertex};
 
 // The vertices' scratch words: the first entry of a vertex's list of edges, its step towards the goal, the vertices in the order in which they
-// were reached, and the first route. The second route stands where the vertices in order stood.
+// were reached, and the first route. The second route stands where the vertices in order stood. They are numbers and no enum, since the
+// forest counts a vertex's scratch words.
 pub(crate) const HEAD: u8 = 0;
 
 pub(crate) const NEXT: u8 = 1;

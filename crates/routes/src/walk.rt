@@ -31,17 +31,10 @@ pub(crate) fn write_way(n: &mut Network, route: Route, a: Vertex, b: Vertex) -> 
 }
 
 // Whether a way that is written down goes along an edge that is used.
-#[tactic(auto, unfolding(crate::specs::Promise::edge_at), using(crate::proofs::WalksBack::none_goes_on, crate::proofs::WalksBack::none_told, crate::proofs::WalksBack::one_told))]
 pub(crate) fn takes_back(t: &Table, route: Route, count: u32) -> bool
     ensures { TakesBack t.now.shape (column_of route) count t.now.words.now result }
 {
-    for i in 0..count {
-        let s = edge_at(t, route, i);
-        if Use::in_word(edge_scratch(t, s)).is_own() {
-            return true;
-        }
-    }
-    false
+    (0..count).any(|i| Use::in_word(edge_scratch(t, edge_at(t, route, i))).is_own())
 }
 
 // Stores the two bits of an edge.
