@@ -5,7 +5,7 @@ ghost use Rattle.routes.specs.Inside.Walks.{taken_use, mates_use};
 
 // How an edge is used: neither it nor a mate of it is, or a mate but not the edge is, or it is, from its left end or from its right.
 #[derive(Clone, Copy, PartialEq, Eq)]
-pub enum Use {
+pub(crate) enum Use {
     Free,
     MateUsed,
     FromLeft,

@@ -14,7 +14,7 @@ use storing::{put_byte, put_two};
 
 // The kinds of names that notices tell.
 #[derive(Clone, Copy, PartialEq, Eq)]
-pub enum Kind {
+pub(crate) enum Kind {
     District,
     Ring,
     Mesh,
@@ -22,10 +22,10 @@ pub enum Kind {
 
 // A notice: a cabinet's new district or ring name, or a span's new mesh name.
 #[derive(Clone, Copy)]
-pub struct Notice {
-    pub kind: Kind,
-    pub item: u32,
-    pub name: u32,
+pub(crate) struct Notice {
+    kind: Kind,
+    item: u32,
+    name: u32,
 }
 
 impl From<Kind> for u8 {
