@@ -6,7 +6,8 @@ ghost use Rattle.writing.specs.Inside.Items.{each_bytes, length_two_bytes};
 
 use storing::put_two;
 
-// What an answer has many of: its bytes, which are always as many, and how they are stored from a place on.
+// What an answer has many of: its bytes, which are always as many, and how they are stored from a place on. The place is told, and not the
+// tail lent, since promises speak of one run of stores in the whole buffer.
 pub(crate) trait Item: Copy {
     ghost bytes: { Self → List ℕ };
 

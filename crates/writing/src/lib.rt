@@ -15,9 +15,7 @@ pub mod write;
 
 use crate::notice::write_span;
 use crate::route::write_routes;
-use crate::write::{
-    write_cabinet, write_code, write_flag, write_group, write_list, write_number, write_option,
-};
+use crate::write::{write_code, write_flag, write_group, write_list, write_number, write_option};
 use forest::{Table, VertexGroups};
 use step::{Finding, Reply};
 
@@ -59,7 +57,7 @@ pub fn write_reply(t: &Table, out: &mut [u8], reply: Reply)
     ensures { out.new ≡ over (answer_bytes (reply_answer t.now.shape t.now.words.now reply)) out.old }
 {
     match reply {
-        Reply::Cabinet(a) => write_cabinet(out, 0x81, a),
+        Reply::Cabinet(a) => write_number(out, 0x81, a.0),
         Reply::Span(span, growth) => write_span(t, out, span, growth),
         Reply::Found(finding) => write_finding(t, out, finding),
     }

@@ -10,7 +10,6 @@ ghost use Rattle.writing.specs.Inside.Writes.{list_code, option_bytes};
 
 use crate::items::put_items;
 use forest::{Group, Table, bridge_at, cut_at};
-use numbers::Vertex;
 use step::Listed;
 use storing::{put_byte, put_two};
 
@@ -28,14 +27,6 @@ pub(crate) fn write_number(out: &mut [u8], code: u8, value: u32)
 {
     put_byte(out, 0, code);
     put_two(out, 1, value);
-}
-
-// An answer of a byte and a cabinet.
-pub(crate) fn write_cabinet(out: &mut [u8], code: u8, a: Vertex)
-    requires { 3 ≤ length out.old }
-    ensures { out.new ≡ sets out.old 0 (code ∷ two_bytes a.0) }
-{
-    write_number(out, code, a.0);
 }
 
 // An answer of a byte and a group of cabinets: its name and its size.
