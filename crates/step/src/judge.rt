@@ -111,17 +111,14 @@ pub(crate) fn judge(n: &Network, order: Order) -> Result<(), Refusal>
     match order {
         Order::AddCabinet => room_for_cabinet(n),
         Order::AddSpan(a, b, duct) => new_span(n, a, b, duct),
-        Order::DistrictName(a) => cabinet_known(n, a),
-        Order::RingName(a) => cabinet_known(n, a),
+        Order::DistrictName(a) | Order::RingName(a) | Order::HoldsExchange(a) => {
+            cabinet_known(n, a)
+        }
         Order::SharedMesh(a, b) => differ(n, a, b),
-        Order::SoleSpans(a, b) => share_district(n, a, b),
-        Order::CutCabinets(a, b) => share_district(n, a, b),
-        Order::IsSole(s) => span_known(n, s),
+        Order::SoleSpans(a, b) | Order::CutCabinets(a, b) => share_district(n, a, b),
+        Order::IsSole(s) | Order::RecordLength(s, _) | Order::SpanLength(s) => span_known(n, s),
         Order::MarkExchange(a) => no_exchange(n, a),
-        Order::HoldsExchange(a) => cabinet_known(n, a),
         Order::RoutesBetween(a, b) => share_ring(n, a, b),
-        Order::RecordLength(s, _measure) => span_known(n, s),
-        Order::SpanLength(s) => span_known(n, s),
         Order::ExchangeShare => Ok(()),
     }
 }

@@ -1,8 +1,9 @@
 -- `run_order` hands the command to the step, and its reply to what takes the answers.
+use native.Mathlib.Omega.{arith}
 use Rattle.std.proofs.lemmas.Result.{err_from_is_err_and}
 use Rattle.commands.proofs.TextAt.{operands_stand}
 use Rattle.reading.specs.Inside.Reads.{meaning}
-use Rattle.run.specs.Inside.Further.{step_refused_on, at_progress}
+use Rattle.run.specs.Inside.Further.{step_refused_on, at_pace}
 use Rattle.run.proofs.run_order.Goals as goal
 
 pub further-place-requires : goal.further-place-requires
@@ -33,5 +34,5 @@ returns-in_err-written-clause-goes_on g c =
 
 pub returns-clause-goes_on : goal.returns-clause-goes_on
 returns-clause-goes_on g c =
-    at_progress (cc c.in_ok-reply.ensures.shape)
+    at_pace c.in_ok-reply.ensures.shape (omega (arith, c.further-place.ensures.1, c.new.ensures.1)) (omega arith)
     (rw c.in_ok-written.was at (g.met.A.Answers.goes_on _ _ _ _ _ _ _ _ _ _ c.requires c.in_ok-reply.ensures.stepped (rw c.in_ok-reply.ensures.shape at c.take.ensures)))

@@ -23,7 +23,7 @@ use Rattle.step.specs.declared.Reply.{Reply}
 use Rattle.step.specs.Promise.{capacities_of, reply_size, shape_after, Carried, StepPromise}
 use Rattle.step.proofs.Replies.{reply_counted}
 use Rattle.run.specs.declared.Progress.{Progress}
-use Rattle.run.specs.Inside.Runs.{refused_progress, Account, Underway, read_here, OneOn}
+use Rattle.run.specs.Inside.Runs.{going, refused_progress, one_further, Account, Underway, read_here, OneOn}
 use Rattle.run.specs.Inside.Left.{RefusedHere}
 use Rattle.run.specs.Inside.Course.{AtEnds}
 
@@ -72,7 +72,10 @@ module _ {E : Type 0} {account : Account E} {p : Progress} {journal old answers 
         is_further = place;
       }
 
--- so it does where that is how far it is
-pub at_progress : {E : Type 0} {account : Account E} {p p' p'' : Progress} {journal old new answers new_answers : List ℕ}
-    → p' ≡ p'' → OneOn account p p'' journal old new answers new_answers → OneOn account p p' journal old new answers new_answers
-at_progress e on = rw e on
+-- that is, where the network has this size and the run has come so far in its journal
+pub at_pace : {E : Type 0} {account : Account E} {p : Progress} {next shape : Shape} {place there commands written : ℕ}
+    {journal old new answers new_answers : List ℕ}
+    → shape ≡ next → place ≡ there → commands ≡ p.commands + 1
+    → OneOn account p (one_further p next there written) journal old new answers new_answers
+    → OneOn account p (going shape (record { place = place; commands = commands; written = written })) journal old new answers new_answers
+at_pace same_shape same_place counted on = rw (same_shape, same_place, counted) on
