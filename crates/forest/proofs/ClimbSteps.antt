@@ -4,7 +4,7 @@ use Rattle.std.proofs.Common.{◌≡◌, ℕ, zero, suc, ◌+◌, ◌-◌, ◌<�
 use Rattle.graph.proofs.Truth.{true_or_false, true_of_not_false, and_left, eq-eqb, eqb_eq, ne_eqb, eqb_ne, ltb_lt, lt-ltb}
 use Rattle.numbers.specs.declared.Limits.{Limits}
 use Rattle.forest.specs.declared.climb.Trail.{Trail}
-use Rattle.forest.specs.Inside.Climb.{up_of, block_of, path_edge, right_edge, above_edge, right_deeper, climbing, record_table, record_trail}
+use Rattle.forest.specs.Inside.Climb.{up_of, above_edge, right_deeper, climbing, record_table, record_trail}
 use Rattle.forest.specs.Inside.Climb.{Climbed, climb_from, climb_from_block, same_last, kept_left, join_one, join_from, reach}
 
 cond_same : (b : Bool) (x : Climbed) → cond b x x ≡ x
@@ -58,25 +58,6 @@ module _ (t : List ℕ) (limits : Limits) (r : Trail) where
   climb_by_block (suc k) e z d up =
       let edge : up_of t limits (climbing t limits r) - 1 ≡ e = omega arith in
       rw (climb_suc k d (λ root. omega arith), sub-one (suc k), edge)
-
-  -- the left side keeps all its steps where a side has none
-  pub kept_no_left : r.left ≡ 0 → r.left ≡ kept_left t limits r
-  unfolding kept_left same_last
-  kept_no_left e = rw (eq-eqb r.left 0 e)
-
-  pub kept_no_right : r.right ≡ 0 → r.left ≡ kept_left t limits r
-  unfolding kept_left same_last
-  kept_no_right e = rw (eq-eqb r.right 0 e) (go (not (eqb r.left 0)))
-    where
-      go : (b : Bool) → r.left ≡ cond (b && false && eqb (block_of t limits (path_edge t limits (r.left - 1))) (block_of t limits (right_edge t limits (r.right - 1)))) (r.left - 1) r.left
-      go true = refl
-      go false = refl
-
-  -- where both sides have steps, the left side's last step goes if the last steps of both are in one block
-  pub kept_both : r.left ≢ 0 → r.right ≢ 0 →
-      cond (eqb (block_of t limits (path_edge t limits (r.left - 1))) (block_of t limits (right_edge t limits (r.right - 1)))) (r.left - 1) r.left ≡ kept_left t limits r
-  unfolding kept_left same_last
-  kept_both l m = rw (ne_eqb r.left 0 l, ne_eqb r.right 0 m)
 
   -- it keeps no more steps than it has
   pub kept_most : (kept : ℕ) → kept ≡ kept_left t limits r → kept ≤ r.left
