@@ -1,5 +1,6 @@
 -- How the models of growing the forest go on, one vertex more and none left; and how many steps a path has at most.
-use Rattle.std.proofs.Common.{◌≡◌, ℕ, zero, suc, ◌+◌, ◌-◌, ◌%◌, ◌^◌, ◌<◌, ◌≤◌, Bool, true, false, cond, eqb, ◌⊎◌, List, refl, ap, ◌∙◌, inl, inr, add-one, arith}
+use Rattle.std.proofs.Common.{◌≡◌, ℕ, zero, suc, ◌+◌, ◌-◌, ◌%◌, ◌^◌, ◌<◌, ◌≤◌, Bool, true, false, cond, eqb, ◌⊎◌, List, sym, refl, inl, inr, add-one, arith}
+use Rattle.std.specs.Prelude as P
 use Rattle.numbers.specs.declared.Limits.{Limits}
 use Rattle.table.specs.Inside.Column
 use Rattle.table.specs.Inside.Layout.{cell, put, vertex_area}
@@ -7,7 +8,7 @@ use Rattle.forest.specs.declared.tree.Turning.{Turning}
 use Rattle.forest.specs.declared.climb.Trail.{Trail}
 use Rattle.forest.specs.Inside.Climb.{up_of, depth_of, above_edge, right_deeper, climbing, record_table, record_trail, Climbed, climb_from}
 use Rattle.forest.specs.Inside.Climb.{kept_left, reach, climb_both, climb_route}
-use Rattle.forest.specs.Inside.Tree.{raise_from, turn_from, turned_table, turned_state}
+use Rattle.forest.specs.Inside.Tree.{raise_from, turn_from, turned_table, turned_next}
 use Rattle.graph.proofs.Truth.{true_or_false, eqb_ne}
 use Rattle.forest.proofs.ClimbSteps.{recorded_steps, kept_most, reach_most}
 
@@ -24,38 +25,48 @@ pub raise_end : (t : List ℕ) (limits : Limits) (by i n : ℕ) → n ≤ i → 
 unfolding raise_from
 raise_end t limits by i n h = let e : n - i ≡ 0 = omega arith in rw e
 
--- the way up turned round from a state
-abbrev pub turn_all : List ℕ → Limits → Turning → List ℕ
-turn_all t limits s = turn_from s.left t limits s.at.0 (suc s.by.0) s.depth
+-- the way up turned round from a vertex, with so many steps left
+abbrev pub turn_all : ℕ → List ℕ → Limits → Turning → List ℕ
+turn_all k t limits s = turn_from k t limits s.at.0 (suc s.by.0) s.depth
+
+none_is_some : {next : Turning} → P.None ≡ P.Some next → ⊥
+none_is_some e = cc
+
+some_is : {s next : Turning} → P.Some s ≡ P.Some next → s ≡ next
+some_is e = cc
 
 -- one vertex turned, and then the rest
-pub turn_step : (t : List ℕ) (limits : Limits) (s : Turning) → 0 < s.left
-    → turn_all t limits s ≡ turn_all (turned_table t limits s) limits (turned_state t limits s)
-unfolding turn_from turned_table turned_state
-turn_step t limits s h =
-    let e : s.left ≡ suc (s.left - 1) = omega arith in
-    ap (λ (n : ℕ). turn_from n t limits s.at.0 (suc s.by.0) s.depth) e ∙ go (true_or_false (eqb (up_of t limits s.at.0) 0))
+pub turn_step : (steps step : ℕ) (t : List ℕ) (limits : Limits) (s next : Turning) → step < steps → turned_next t limits s ≡ P.Some next
+    → turn_all (steps - step) t limits s ≡ turn_all (steps - (step + 1)) (turned_table t limits s) limits next
+unfolding turn_from turned_table turned_next
+turn_step steps step t limits s next h e =
+    let one_more : steps - step ≡ suc (steps - (step + 1)) = omega arith in
+    rw one_more (go (true_or_false (eqb (up_of t limits s.at.0) 0)))
   where
     go : (eqb (up_of t limits s.at.0) 0 ≡ true) ⊎ (eqb (up_of t limits s.at.0) 0 ≡ false)
-        → turn_from (suc (s.left - 1)) t limits s.at.0 (suc s.by.0) s.depth ≡ turn_all (turned_table t limits s) limits (turned_state t limits s)
-    go (inl root) = rw root
+        → turn_all (suc (steps - (step + 1))) t limits s ≡ turn_all (steps - (step + 1)) (turned_table t limits s) limits next
+    go (inl root) = absurd (none_is_some (rw root at e))
     go (inr q) =
         let above : suc (up_of t limits s.at.0 - 1) ≡ up_of t limits s.at.0 = omega (arith, eqb_ne _ _ q) in
-        rw (q, above)
+        rw (q, ← some_is (rw q at e), above)
 
--- with nothing left the table stays
-pub turn_end : (t : List ℕ) (limits : Limits) (s : Turning) → s.left ≤ 0 → turn_all t limits s ≡ t
-unfolding turn_from
-turn_end t limits s h = let e : s.left ≡ 0 = omega arith in rw e
-
--- a step leaves less
-pub turn_less : (t : List ℕ) (limits : Limits) (s : Turning) → 0 < s.left → (turned_state t limits s).left < s.left
-unfolding turned_state
-turn_less t limits s h = go (eqb (up_of t limits s.at.0) 0) _ _ h (omega arith)
+-- a root turned, and nothing is left
+pub turn_root : (steps step : ℕ) (t : List ℕ) (limits : Limits) (s : Turning) → step < steps → turned_next t limits s ≡ P.None
+    → turn_all (steps - step) t limits s ≡ turned_table t limits s
+unfolding turn_from turned_table turned_next
+turn_root steps step t limits s h e =
+    let one_more : steps - step ≡ suc (steps - (step + 1)) = omega arith in
+    rw one_more (go (true_or_false (eqb (up_of t limits s.at.0) 0)))
   where
-    go : (b : Bool) (s₁ s₂ : Turning) → s₁.left < s.left → s₂.left < s.left → (cond b s₁ s₂).left < s.left
-    go true s₁ s₂ h₁ h₂ = h₁
-    go false s₁ s₂ h₁ h₂ = h₂
+    go : (eqb (up_of t limits s.at.0) 0 ≡ true) ⊎ (eqb (up_of t limits s.at.0) 0 ≡ false)
+        → turn_all (suc (steps - (step + 1))) t limits s ≡ turned_table t limits s
+    go (inl root) = rw root
+    go (inr q) = absurd (none_is_some (sym (rw q at e)))
+
+-- with no step left the table stays
+pub turn_end : (steps step : ℕ) (t : List ℕ) (limits : Limits) (s : Turning) → steps ≤ step → turn_all (steps - step) t limits s ≡ t
+unfolding turn_from
+turn_end steps step t limits s h = let none : steps - step ≡ 0 = omega arith in rw none
 
 -- how many steps both sides of a trail have made
 abbrev steps_of : Trail → ℕ

@@ -1,8 +1,8 @@
 // Growing the block forest: one vertex more, and one edge more, which links two components or condenses the path between two vertices;
 // and marking a vertex.
-ghost use Rattle.std.specs.Prelude.{suc, ◌≡◌, ◌<◌, if◌then◌else◌};
+ghost use Rattle.std.specs.Prelude.{suc, IfSome, ◌≡◌, ◌<◌, if◌then◌else◌};
 ghost use Rattle.table.specs.Same.{IsSame};
-ghost use Rattle.forest.specs.Inside.Tree.{new_group, new_marks, vertex_table, mark_table, raise_from, turn_from, turned_table, turned_state, hang_table, link_grown};
+ghost use Rattle.forest.specs.Inside.Tree.{new_group, new_marks, vertex_table, mark_table, raise_from, turn_from, turned_table, turned_next, hang_table, link_grown};
 ghost use Rattle.forest.specs.Inside.Tree.{enter_block, in_step_duct, merged_vertices, condense_grown, edge_table, edge_grown};
 ghost use Rattle.forest.specs.Inside.Tree.{GrowsTo};
 
@@ -16,13 +16,12 @@ use table::words::{
     TOP, Table, UP,
 };
 
-// A vertex on a way up that is turned round: the edge by whose block it is to hang, the depth to store, and how many steps are left.
+// A vertex on a way up that is turned round: the edge by whose block it is to hang, and the depth to store.
 #[derive(Clone, Copy)]
 pub struct Turning {
     pub at: Vertex,
     pub by: Edge,
     pub depth: u32,
-    pub left: u64,
 }
 
 // A group of one item, named by its number.
@@ -87,43 +86,43 @@ fn raise(t: &mut Table, changed: u32, by: u32)
     }
 }
 
-// One vertex of a way up that is turned round.
-#[tactic(auto, unfolding(crate::specs::Inside::Tree::hung_vertex, crate::specs::Inside::Tree::hung_block, crate::specs::Inside::Tree::turned_table, crate::specs::Inside::Tree::turned_state, crate::specs::Inside::Climb::above_edge))]
-fn turn_one(t: &mut Table, s: Turning) -> Turning
-    requires { (0 < s.left) × (s.by.0 < 4294967295) }
+// One vertex of a way up that is turned round; gives the next one, if the vertex was no root.
+#[tactic(auto, unfolding(crate::specs::Inside::Tree::hung_vertex, crate::specs::Inside::Tree::hung_block, crate::specs::Inside::Tree::turned_table, crate::specs::Inside::Tree::turned_next, crate::specs::Inside::Climb::above_edge))]
+fn turn_one(t: &mut Table, s: Turning) -> Option<Turning>
+    requires { s.by.0 < 4294967295 }
     ensures words { t.new.words.now ≡ turned_table t.old.words.now t.old.shape.limits s }
-    ensures state { result ≡ turned_state t.old.words.now t.old.shape.limits s }
-    ensures fits { result.by.0 < 4294967295 }
+    ensures next { result ≡ turned_next t.old.words.now t.old.shape.limits s }
+    ensures fits { IfSome result (λ r. r.by.0 < 4294967295) }
     ensures same { IsSame t.old t.new }
 {
     let at = s.at;
     let above = up(t, at);
     t.set_word(t.vertex_area(), UP, at.0, s.by.0 + 1);
     t.set_word(t.vertex_area(), DEPTH, at.0, s.depth);
-    let Some(e) = above else {
-        return Turning { left: 0, ..s };
-    };
+    let e = above?;
     let block = block_of(t, e);
     let next = top(t, block);
     t.set_word(t.edge_area(), TOP, block.0, at.0);
-    Turning {
+    Some(Turning {
         at: next,
         by: e,
         depth: s.depth.wrapping_add(1),
-        left: s.left - 1,
-    }
+    })
 }
 
-// The way up from a vertex turned round.
-#[tactic(auto, using(crate::proofs::TreeSteps::turn_step, crate::proofs::TreeSteps::turn_end, crate::proofs::TreeSteps::turn_less))]
-fn turn(t: &mut Table, s: Turning)
-    requires { s.by.0 < 4294967295 }
-    ensures words { t.new.words.now ≡ turn_from s.left t.old.words.now t.old.shape.limits s.at.0 (suc s.by.0) s.depth }
+// The way up from a vertex turned round, with at most so many steps.
+#[tactic(auto, using(crate::proofs::TreeSteps::turn_step, crate::proofs::TreeSteps::turn_root, crate::proofs::TreeSteps::turn_end))]
+fn turn(t: &mut Table, start: Turning, steps: u64)
+    requires { start.by.0 < 4294967295 }
+    ensures words { t.new.words.now ≡ turn_from steps t.old.words.now t.old.shape.limits start.at.0 (suc start.by.0) start.depth }
     ensures same { IsSame t.old t.new }
 {
-    let mut state = s;
-    while 0 < state.left {
-        state = turn_one(t, state);
+    let mut s = start;
+    for _step in 0..steps {
+        let Some(next) = turn_one(t, s) else {
+            return;
+        };
+        s = next;
     }
 }
 
@@ -139,15 +138,12 @@ fn hang(t: &mut Table, e: Edge, u: Vertex, v: Vertex, changed: u32)
     raise(t, changed, start.wrapping_add(below));
     new_group(t, t.edge_area(), e.0);
     t.set_word(t.edge_area(), TOP, e.0, v.0);
-    turn(
-        t,
-        Turning {
-            at: u,
-            by: e,
-            depth: start,
-            left: (below as u64) + 1,
-        },
-    );
+    let first = Turning {
+        at: u,
+        by: e,
+        depth: start,
+    };
+    turn(t, first, u64::from(below) + 1);
 }
 
 // Links two components by the new edge e: the one that loses its name is hung below the other.

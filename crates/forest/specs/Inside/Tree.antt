@@ -1,6 +1,6 @@
 -- What one vertex more, one edge more and a mark do to the table, step by step. An edge links two components, or condenses the path
 -- between two vertices.
-use Rattle.std.specs.Prelude.{◌≡◌, ℕ, zero, suc, ◌+◌, ◌-◌, ◌*◌, ◌%◌, ◌^◌, Bool, cond, ◌&&◌, List, ◌==◌, nat_eq}
+use Rattle.std.specs.Prelude.{◌≡◌, ℕ, zero, suc, ◌+◌, ◌-◌, ◌*◌, ◌%◌, ◌^◌, Bool, cond, ◌&&◌, List, Option, Some, None, ◌==◌, nat_eq}
 use Rattle.numbers.specs.declared.Limits.{Limits}
 use Rattle.table.specs.declared.words.Area.{Area}
 use Rattle.table.specs.declared.merge.Listing.{Listing}
@@ -65,20 +65,19 @@ turned_table t limits s =
     let t₁ = hung_vertex t limits s.at.0 (suc s.by.0) s.depth in
     cond (above == 0) t₁ (hung_block t₁ limits (above - 1) s.at.0)
 
--- What is left after that vertex: nothing where it was a root, else the vertex above that block, which is to hang by the same edge.
-unfoldable pub turned_state : List ℕ → Limits → Turning → Turning
-turned_state t limits s =
+-- The next vertex of that way, if this one was no root: the vertex above that block, which is to hang by the same edge.
+unfoldable pub turned_next : List ℕ → Limits → Turning → Option Turning
+turned_next t limits s =
     let above = up_of t limits s.at.0 in
     let t₁ = hung_vertex t limits s.at.0 (suc s.by.0) s.depth in
     cond
     (above == 0)
-    (record { at = s.at; by = s.by; depth = s.depth; left = 0 })
-    (record {
+    None
+    (Some (record {
       at = record { 0 = above_edge t₁ limits (above - 1) };
       by = record { 0 = above - 1 };
       depth = (s.depth + 1) % 2 ^ 32;
-      left = s.left - 1;
-    })
+    }))
 
 -- The listing of the vertices on the path, and of its edges.
 unfoldable pub path_vertices : Limits → ℕ → Listing
