@@ -13,7 +13,6 @@ pub mod JoinExactly
 pub mod SeamSteps
 pub mod Orders
 pub mod Going
-pub mod Meeting
 pub mod Both
 pub mod RunAccepts
 pub mod RunAlone

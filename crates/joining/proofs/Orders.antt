@@ -11,12 +11,17 @@ use Rattle.commands.specs.Command.{Command, add_cabinet, district_name, ring_nam
 use Rattle.commands.specs.Facts.{facts, asks, operands_of, command_bytes}
 use Rattle.commands.specs.Surveys.{number_in}
 use Rattle.commands.proofs.Bytes.{FieldsFit}
-use Rattle.commands.specs.Join.{Counts, raise_field, raise_fields, with_operands, raise_command}
+use Rattle.commands.specs.Join.{Counts, raise_field, raise_fields, with_operands, raise_command, seam_command}
+use Rattle.numbers.specs.declared.Duct.{Duct}
+use Rattle.numbers.specs.declared.Vertex.{Vertex}
 use Rattle.reading.specs.declared.read.Lay.{Lay}
 use Rattle.reading.specs.declared.read.Lay.TheVariants as L
 use Rattle.reading.specs.declared.read.Order.{Order}
 use Rattle.reading.specs.declared.read.Order.TheVariants as O
 use Rattle.reading.specs.Inside.Reads.{span_command, meaning}
+use Rattle.joining.specs.declared.seams.Counts as Code
+use Rattle.joining.specs.declared.seams.Seam.{Seam}
+use Rattle.joining.specs.Inside.Seams.{seam_of, one_of}
 use Rattle.joining.specs.Inside.Raising.{Fits}
 
 -- the bytes of a span's command
@@ -139,3 +144,14 @@ order_raised by O.ExchangeShare = refl
 -- so a command that is this one is the order's, raised
 pub raised_as : {order this : Order} → order ≡ this → (by : Counts) {c : Command} → c ≡ raised_order by this → c ≡ raise_command by (meaning order)
 raised_as {this = this} is by e = e ∙ order_raised by this ∙ ap (λ o. raise_command by (meaning o)) (sym is)
+
+-- The order between these two cabinets and in this duct: it takes seven bytes, and is the seam's if they are.
+module _ (a b : Vertex) (d : Duct) where
+  pub seam_room : (at n : ℕ) → at + 7 ≤ n → at + length (command_bytes (meaning (O.AddSpan a b (L.InDuct d)))) ≤ n
+  unfolding meaning span_command command_bytes fields_bytes field_bytes facts operands_of edge_in_duct two_bytes
+  seam_room at n room = room
+
+  pub seam_order : (c : Code.Counts) (x : Seam) → a.0 ≡ x.first → b.0 ≡ c.cabinets + x.second → d.0 ≡ x.duct
+      → meaning (O.AddSpan a b (L.InDuct d)) ≡ seam_command (one_of c) (seam_of x)
+  unfolding meaning span_command seam_command one_of seam_of
+  seam_order c x first second duct = rw (first, second, duct) refl

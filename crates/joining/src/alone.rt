@@ -4,74 +4,64 @@ ghost use Rattle.commands.specs.Bytes.{all_bytes};
 ghost use Rattle.commands.specs.Entry.{work_needed};
 ghost use Rattle.commands.specs.Join.{join_capacities};
 ghost use Rattle.forest.specs.Promise.{SameBeyond};
-ghost use Rattle.joining.specs.Inside.Alone.{greatest, alone_of, both_of, CountsBoth};
+ghost use Rattle.joining.specs.Inside.Alone.{greatest, alone_of, CountsBoth};
 
-use crate::seams::{Counts, Joining};
+use crate::LONGEST;
+use crate::seams::Counts;
 use forest::clear;
 use numbers::Limits;
+use refusals::Refusal;
 use run::unanswered::run_unanswered;
 use run::work_needed;
 
-// What comes of a journal that is run alone: refused, or a network of so many cabinets and spans.
-#[derive(Clone, Copy)]
-pub enum Alone {
-    Refused,
-    Holds(u16, u16),
-}
-
 // The greatest capacities.
-fn greatest_limits() -> Limits
-    ensures { result ≡ greatest }
-{
-    Limits {
-        vertices: 4096,
-        edges: 8192,
-    }
+const GREATEST: Limits = Limits {
+    vertices: 4096,
+    edges: 8192,
+};
+
+// How many cabinets and spans a network has.
+#[derive(Clone, Copy)]
+pub struct Size {
+    pub cabinets: u16,
+    pub spans: u16,
 }
 
-// Runs a journal alone. One that is too long is refused without a run.
-fn run_alone(journal: &[u8], work: &mut [u32]) -> Alone
+// Runs a journal alone, and gives the size of its network. One that is too long is refused without a run.
+fn run_alone(journal: &[u8], work: &mut [u32]) -> Result<Size, Refusal>
     requires { work_needed join_capacities ≤ length work.old }
     ensures { (result ≡ alone_of journal.now) × SameBeyond greatest work.old work.new × (all_bytes journal.now ≡ true) }
 {
-    if 65536 < journal.len() {
-        return Alone::Refused;
+    if LONGEST < journal.len() {
+        return Err(Refusal::RefusedJournal);
     }
-    let p = run_unanswered(journal, work, greatest_limits());
+    let p = run_unanswered(journal, work, GREATEST);
     if p.refusal != 0 {
-        return Alone::Refused;
+        return Err(Refusal::RefusedJournal);
     }
-    let shape = p.shape;
-    Alone::Holds(shape.vertices as u16, shape.edges as u16)
-}
-
-// What comes of both.
-fn both(one: Alone, two: Alone) -> Joining
-    ensures { result ≡ both_of one two }
-{
-    let Alone::Holds(cabinets, spans) = one else {
-        return Joining::Refused(17);
-    };
-    let Alone::Holds(others, more) = two else {
-        return Joining::Refused(17);
-    };
-    Joining::Counted(Counts {
-        cabinets: cabinets,
-        spans: spans,
-        others: others,
+    Ok(Size {
+        cabinets: p.shape.vertices as u16,
+        spans: p.shape.edges as u16,
     })
 }
 
-// Runs both journals alone, one after the other, in a working table that is long enough, and clears it behind them.
-pub fn count_both(first: &[u8], second: &[u8], work: &mut [u32]) -> Joining
+// Runs both journals alone, one after the other, in a working table that is long enough, and clears it behind them. Gives what is known of both
+// networks.
+pub(crate) fn count_both(first: &[u8], second: &[u8], work: &mut [u32]) -> Result<Counts, Refusal>
     ensures { CountsBoth first.now second.now result work.old work.new }
 {
-    let needed = work_needed(greatest_limits());
+    let needed = work_needed(GREATEST);
     if work.len() < needed {
-        return Joining::Refused(2);
+        return Err(Refusal::ShortBuffer);
     }
     let one = run_alone(first, work);
     let two = run_alone(second, work);
     clear(work, needed);
-    both(one, two)
+    let one = one?;
+    let two = two?;
+    Ok(Counts {
+        cabinets: one.cabinets,
+        spans: one.spans,
+        others: two.cabinets,
+    })
 }

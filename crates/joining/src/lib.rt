@@ -2,7 +2,13 @@
 // result fits is anything stored in the buffer that the caller lends.
 #![tactic(auto)]
 
-pub mod alone;
-pub mod joined;
-pub mod raising;
-pub mod seams;
+mod alone;
+mod joined;
+mod raising;
+mod seams;
+
+pub use joined::join_into;
+pub use seams::Seam;
+
+// The most bytes that a journal may have.
+const LONGEST: usize = 65536;

@@ -5,56 +5,42 @@ use lib.ListN.{length}
 use Rattle.commands.proofs.Bytes.{bytes_by_place}
 use Rattle.forest.specs.Promise.{same_beyond_refl}
 use Rattle.joining.specs.Inside.Alone.{greatest}
-use Rattle.joining.proofs.RunAlone.{few_vertices, few_edges, words_enough, too_long_alone, beyond_alone, refused_alone, few_cabinets, few_spans, holds_alone}
+use Rattle.joining.proofs.RunAlone.{words_enough, too_long_alone, beyond_alone, refused_alone, few_cabinets, few_spans, holds_alone}
 use Rattle.joining.proofs.alone.run_alone.Goals as goal
 
-pub returns-then-journal-gt65536 : goal.returns-then-journal-gt65536
-returns-then-journal-gt65536 c =
+pub returns-then-journal-gt-LONGEST : goal.returns-then-journal-gt-LONGEST
+returns-then-journal-gt-LONGEST c =
     let bytes = bytes_by_place c.args.journal.now (λ i h. omega (arith, c.type_inv.journal i)) in
-    (too_long_alone c.args.journal.now (omega (arith, c.if-journal-gt65536.true)), same_beyond_refl greatest c.args.work.now, bytes)
+    (too_long_alone c.args.journal.now (omega (arith, c.if-journal-gt-LONGEST.true)), same_beyond_refl greatest c.args.work.now, bytes)
 
 pub run_unanswered-p-requires : goal.run_unanswered-p-requires
+unfolding greatest
 run_unanswered-p-requires c =
-    let is = c.greatest_limits.ensures in
-    (few_vertices is, few_edges is, words_enough is (length c.args.work.now) c.requires, omega (arith, c.if-journal-gt65536.false))
+    (omega arith, omega arith, words_enough (length c.args.work.now) c.requires, omega (arith, c.if-journal-gt-LONGEST.false))
 
 pub returns-then-p-ne0 : goal.returns-then-p-ne0
+unfolding greatest
 returns-then-p-ne0 c =
     let bytes = bytes_by_place c.args.journal.now (λ i h. omega (arith, c.type_inv.journal i)) in
     let journal = c.args.journal.now in
-    let is = c.greatest_limits.ensures in
     let ran = c.run_unanswered-p.ensures in
-    (refused_alone journal is ran c.if-p-ne0.true, beyond_alone journal is ran, bytes)
+    (refused_alone journal ran c.if-p-ne0.true, beyond_alone journal ran, bytes)
 
 pub overflow_cast-result : goal.overflow_cast-result
-overflow_cast-result c =
-    omega (
-      arith,
-      few_cabinets
-          c.args.journal.now
-          c.greatest_limits.ensures
-          c.run_unanswered-p.ensures
-          (omega (arith, c.if-p-ne0.false)),
-    )
+unfolding greatest
+overflow_cast-result c = omega (arith, few_cabinets c.args.journal.now c.run_unanswered-p.ensures (omega (arith, c.if-p-ne0.false)))
 
 pub overflow_cast-result-2 : goal.overflow_cast-result-2
-overflow_cast-result-2 c =
-    omega (
-      arith,
-      few_spans
-          c.args.journal.now
-          c.greatest_limits.ensures
-          c.run_unanswered-p.ensures
-          (omega (arith, c.if-p-ne0.false)),
-    )
+unfolding greatest
+overflow_cast-result-2 c = omega (arith, few_spans c.args.journal.now c.run_unanswered-p.ensures (omega (arith, c.if-p-ne0.false)))
 
 pub returns : goal.returns
+unfolding greatest
 returns c =
     let bytes = bytes_by_place c.args.journal.now (λ i h. omega (arith, c.type_inv.journal i)) in
     let journal = c.args.journal.now in
-    let is = c.greatest_limits.ensures in
     let ran = c.run_unanswered-p.ensures in (
-      holds_alone journal is ran (omega (arith, c.if-p-ne0.false)) (omega (arith, c.if-journal-gt65536.false)) refl refl,
-      beyond_alone journal is ran,
+      holds_alone journal ran (omega (arith, c.if-p-ne0.false)) (omega (arith, c.if-journal-gt-LONGEST.false)) refl refl,
+      beyond_alone journal ran,
       bytes,
     )

@@ -4,7 +4,7 @@ use native.Mathlib.Omega.{arith}
 use lib.ListN.{length}
 use lib.Seq.{sets}
 use Rattle.commands.specs.Facts.{command_bytes}
-use Rattle.joining.proofs.Meeting.{seam_room, seam_order}
+use Rattle.joining.proofs.Orders.{seam_room, seam_order}
 use Rattle.joining.proofs.seams.put_seam.Goals as goal
 
 pub put_order-requires : goal.put_order-requires
@@ -14,4 +14,4 @@ pub returns : goal.returns
 returns c =
     c.put_order.ensures
     ∙ ap (λ q. sets c.args.out.now c.args.at (command_bytes q))
-    (seam_order _ _ _ c.args.c c.args.seam (omega arith) (omega arith) (omega arith))
+    (seam_order _ _ _ c.args.counts c.args.seam (omega arith) (omega arith) (omega arith))
