@@ -1,6 +1,7 @@
 -- How the second journal is stored, raised: what stands at a place of it, and then what is behind that.
 use mathlib.Core.Bool.{true}
 use mathlib.Core.List.{List, ◌∷◌, ◌++◌, map}
+use mathlib.Core.Option.{none}
 use mathlib.Core.Path.{◌≡◌, refl, sym, ◌∙◌, ap, subst}
 use Prim.Native.Nat.{ℕ, suc, ◌+◌, ◌≤◌, ◌<◌}
 use native.Mathlib.Numerals.{add-one}
@@ -10,7 +11,7 @@ use lib.Seq.{sets, length-sets, drop-cons}
 use Rattle.commands.specs.Bytes.{all_bytes}
 use Rattle.commands.specs.Command.{Command, command}
 use Rattle.commands.specs.Facts.{facts, operands_of, command_bytes}
-use Rattle.commands.specs.Text.{ends_with, followed_by, text_of, commands_in, journal_bytes}
+use Rattle.commands.specs.Text.{text_from, ends_with, followed_by, text_of, commands_in, journal_bytes}
 use Rattle.commands.specs.Join.{Counts, raise_command}
 use Rattle.commands.proofs.Bytes.{all_bytes_from, FieldsFit}
 use Rattle.commands.proofs.Steps.{text_goes_on}
@@ -18,10 +19,21 @@ use Rattle.commands.proofs.Spelled.{AllSpelled}
 use Rattle.commands.proofs.SpelledBack.{length_of_read}
 use Rattle.commands.proofs.ReadFits.{text_spelled}
 use Rattle.joining.proofs.Raised.{raised_as_long}
-use Rattle.commands.proofs.TextAt.{reading_here, text_at_end, text_at_command, operands_stand, whole_behind}
+use Rattle.commands.proofs.TextAt.{reading_here, not_unknown, not_cut_off, text_at_end, text_at_command, operands_stand, whole_behind}
 use Rattle.storing.proofs.Sets.{sets_behind}
+use Rattle.std.specs.Prelude.{Err}
+use Rattle.reading.specs.declared.read.Unread.{Unread}
+use Rattle.reading.specs.declared.read.Unread.TheVariants.{BadByte, CutOperands}
+use Rattle.reading.specs.Inside.Reads.{reading_of}
 use Rattle.reading.specs.Inside.Places.{Readable}
 use Rattle.joining.specs.Inside.Raising.{raised_from, RaisableAt, RaisedOn, RaisedTo}
+
+-- where a journal is read to its end, at each place a command can be read
+pub never_unread : (journal : List ℕ) (place : ℕ) → place < length journal → (text_from place 0 (drop place journal)).refusal ≡ none
+    → (unread : Unread) → reading_of (Err unread) ≡ reading_here journal place → ⊥
+unfolding reading_of
+never_unread journal place h whole BadByte e = not_unknown journal place h whole (sym e)
+never_unread journal place h whole CutOperands e = not_cut_off journal place h whole (sym e)
 
 -- A place of a journal.
 module _ (journal : List ℕ) (place : ℕ) (at_byte : place < length journal) where

@@ -7,7 +7,7 @@ ghost use Rattle.joining.specs.Inside.Seams.{seam_of, one_of, seam_at, look_at, 
 
 use crate::raising::put_order;
 use numbers::{Duct, Vertex};
-use reading::read::{Lay, Order};
+use reading::read::Order;
 use refusals::Refusal;
 
 // How many bytes the command for a seam has.
@@ -61,14 +61,18 @@ pub(crate) fn look_at(seams: &[Seam], counts: Counts) -> Result<(), Refusal>
 }
 
 // Stores the command for a seam.
+#[tactic(auto, unfolding(reading::specs::Inside::Reads::meaning, reading::specs::Inside::Reads::span_command, commands::specs::Facts::command_bytes, commands::specs::Field::fields_bytes, commands::specs::Field::field_bytes, commands::specs::Facts::facts, commands::specs::Facts::operands_of, graph::specs::Network::edge_in_duct, commands::specs::Bytes::two_bytes, commands::specs::Join::seam_command, crate::specs::Inside::Seams::one_of, crate::specs::Promise::seam_of))]
 fn put_seam(out: &mut [u8], at: usize, counts: Counts, seam: Seam)
     requires { at + 7 ≤ length out.old }
     ensures { out.new ≡ sets out.old at (command_bytes (seam_command (one_of counts) (seam_of seam))) }
 {
-    let first = Vertex(seam.first as u32);
-    let second = Vertex((counts.cabinets as u32) + (seam.second as u32));
-    let lay = Lay::InDuct(Duct(seam.duct));
-    put_order(out, at, Order::AddSpan(first, second, lay));
+    let first = Vertex(u32::from(seam.first));
+    let second = Vertex(u32::from(counts.cabinets) + u32::from(seam.second));
+    put_order(
+        out,
+        at,
+        Order::AddSpan(first, second, Some(Duct(seam.duct))),
+    );
 }
 
 // Stores the commands for all seams, in order, from a place on, and gives the place behind them.
