@@ -1,7 +1,6 @@
 -- A journal that is run alone, by how its run ends; and what comes of both.
 use mathlib.Core.Bool.{true, false}
 use mathlib.Core.List.{List, ◌++◌}
-use mathlib.Core.Logic.{◌≢◌}
 use mathlib.Core.Option.{Option, none, some}
 use mathlib.Core.Path.{◌≡◌, refl, sym, ◌∙◌, ap, ap₂}
 use Prim.Native.Nat.{ℕ, ◌≤◌, ◌<◌, min}
@@ -11,21 +10,24 @@ use lib.ListN.{length, drop, replicate}
 use Rattle.graph.specs.Network.{edge_count}
 use Rattle.graph.proofs.Truth.{or_left, or_right, or_neither, lt-ltb, ge_ltb}
 use Rattle.commands.specs.Bytes.{all_bytes}
-use Rattle.commands.specs.Refusal.{Refusal}
+use Rattle.commands.specs.Refusal.{Refusal, refusal_number}
 use Rattle.commands.specs.Text.{text_of}
 use Rattle.commands.specs.Run.{commands_of}
 use Rattle.commands.specs.Entry.{work_needed, book_after, number_of, report_of}
 use Rattle.commands.specs.Register.{register_rule, register_routes, ample_run}
 use Rattle.commands.specs.Join.{join_capacities, run_alone, is_some, is_refused, state_behind, counts_of, counts_in, joined_work}
 use Rattle.commands.proofs.Returned.{zero_exactly}
+use Rattle.commands.proofs.Table.{number_above_zero}
 use Rattle.commands.proofs.WholeRun.{register-mates}
 use Rattle.std.specs.Prelude.{Result, Ok, Err}
+use Rattle.std.specs.Prelude as P
 use Rattle.forest.specs.Promise.{words_needed, SameBeyond, same_beyond_trans}
 use Rattle.run.specs.declared.Progress.{Progress}
 use Rattle.run.specs.Promise.{capacities_of, six_numbers, UnansweredPromise}
 use Rattle.run.proofs.Needed.{work_is_words, cleared_over}
 use Rattle.refusals.specs.declared.Refusal as R
 use Rattle.refusals.specs.declared.Refusal.TheVariants.{ShortBuffer, RefusedJournal}
+use Rattle.refusals.specs.Causes.{cause_of, causes_of}
 use Rattle.joining.specs.declared.alone.Size.{Size}
 use Rattle.joining.specs.declared.seams.Counts.{Counts}
 use Rattle.joining.specs.Inside.Alone.{greatest, alone_of, both_of, counted_of, CountsBoth}
@@ -43,10 +45,10 @@ pub work_enough : (needed n : ℕ) → needed ≡ work_needed (capacities_of gre
 work_enough needed n e h = omega (arith, as_many_needed)
 
 -- where there is a refusal's number, there is a refusal
-refused_by_number : (o : Option Refusal) → number_of o ≢ 0 → is_some o ≡ true
+refused_by_number : (o : Option Refusal) (r : Refusal) → refusal_number r ≡ number_of o → is_some o ≡ true
 unfolding number_of is_some
-refused_by_number none n = absurd (n refl)
-refused_by_number (some r) n = refl
+refused_by_number none r n = absurd (omega (arith, n, number_above_zero r))
+refused_by_number (some s) r n = refl
 
 -- A journal.
 module _ (journal : List ℕ) where
@@ -67,7 +69,7 @@ module _ (journal : List ℕ) where
     ends_as_told = promise
 
     -- what it reports: how it ended, and the size of its network
-    refusal_told : p.refusal ≡ number_of (run_alone register_routes journal).refusal
+    refusal_told : number_of (causes_of p.refusal) ≡ number_of (run_alone register_routes journal).refusal
     unfolding six_numbers report_of
     refusal_told = cc ends_as_told.numbers_are
 
@@ -84,16 +86,18 @@ module _ (journal : List ℕ) where
     beyond_alone = ends_as_told.same_beyond
 
     -- where it ends in a refusal, the journal is refused
-    pub refused_alone : p.refusal ≢ 0 → Err RefusedJournal ≡ alone_of journal
-    unfolding is_refused
-    refused_alone n =
+    pub refused_alone : {refusal : R.Refusal} → p.refusal ≡ P.Some refusal → Err RefusedJournal ≡ alone_of journal
+    unfolding is_refused number_of
+    refused_alone {refusal} is =
         is_refused_lem
-        (or_right (ltb 65536 (length journal)) (refused_by_number (run_alone register_routes journal).refusal (λ e. n (refusal_told ∙ e))))
+        (or_right (ltb 65536 (length journal))
+        (refused_by_number (run_alone register_routes journal).refusal (cause_of refusal) (rw is at refusal_told)))
 
     -- and where it does not, the table holds the network behind the journal's commands
-    module _ (none_told : p.refusal ≡ 0) where
+    module _ (none_told : p.refusal ≡ P.None) where
       ends_well : (run_alone register_routes journal).refusal ≡ none
-      ends_well = (zero_exactly (run_alone register_routes journal).refusal).0 (sym (refusal_told) ∙ none_told)
+      unfolding number_of
+      ends_well = (zero_exactly (run_alone register_routes journal).refusal).0 (sym (rw none_told at refusal_told))
 
       cabinets_are : p.shape.vertices ≡ (counts_in journal).cabinets
       unfolding counts_in counts_of state_behind run_alone ample_run

@@ -36,13 +36,13 @@ fn run_alone(journal: &[u8], work: &mut [u32]) -> Result<Size, Refusal>
         return Err(Refusal::RefusedJournal);
     }
     let p = run_unanswered(journal, work, GREATEST);
-    if p.refusal != 0 {
-        return Err(Refusal::RefusedJournal);
+    match p.refusal {
+        Some(_) => Err(Refusal::RefusedJournal),
+        None => Ok(Size {
+            cabinets: p.shape.vertices as u16,
+            spans: p.shape.edges as u16,
+        }),
     }
-    Ok(Size {
-        cabinets: p.shape.vertices as u16,
-        spans: p.shape.edges as u16,
-    })
 }
 
 // Runs both journals alone, one after the other, in a working table that is long enough, and clears it behind them. Gives what is known of both

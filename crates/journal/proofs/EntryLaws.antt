@@ -10,7 +10,7 @@ use lib.Dec.{leb, ltb}
 use lib.ListN.{length, drop, replicate}
 use Rattle.graph.proofs.Truth.{le-leb, lt-ltb, ltb_ge, ge_ltb, or_neither_left, or_neither_right}
 use Rattle.commands.specs.Bytes.{all_bytes}
-use Rattle.commands.specs.Refusal.{Refusal, Capacities, first_that_applies}
+use Rattle.commands.specs.Refusal.{Refusal, refusal_number, Capacities, first_that_applies}
 use Rattle.commands.specs.Entry.{work_needed, short_buffers, start_lines, ran, whole_unless, whole_run, number_of, report_of, over, Buffers, Outcome, outcome, entry_under}
 use Rattle.commands.specs.Register.{register_rule, register_routes, register}
 use Rattle.commands.proofs.Cases.{le_or_gt, gt_leb}
@@ -22,15 +22,10 @@ use Rattle.forest.specs.Promise.{words_needed}
 use Rattle.run.specs.declared.Progress.{Progress}
 use Rattle.run.specs.Promise.{capacities_of, whole_of, six_numbers, RunPromise}
 use Rattle.run.proofs.Needed.{work_is_words, cleared_over}
+use Rattle.refusals.specs.declared.Refusal as R
+use Rattle.refusals.specs.Causes.{cause_of, causes_of}
+use Rattle.journal.specs.Inside.Start.{StartsWith, StartRefused}
 use Rattle.journal.specs.Promise.{RegisterPromise}
-
--- below is not at most, the other way round
-pub below_not_at_most : (m n : ℕ) → ltb m n ≡ not (leb n m)
-below_not_at_most m n = go (le_or_gt n m)
-  where
-    go : (n ≤ m) ⊎ (m < n) → ltb m n ≡ not (leb n m)
-    go (inl h) = rw (ge_ltb m n h, le-leb n m h)
-    go (inr h) = rw (lt-ltb m n h, gt_leb n m h)
 
 -- what the register leaves is promised
 promised : (caps : Capacities) (journal : List ℕ) → all_bytes journal ≡ true → (lent : Buffers) (returned : ℕ) (left : Buffers)
@@ -69,16 +64,16 @@ module _ (caps : Capacities) (journal : List ℕ) (work_length report_length : �
   first_line = first_that_applies (start_lines caps (length journal) work_length report_length)
 
   -- where there is none the journal is run, within any answer buffer
-  ran_whole : (answers : List ℕ) (number : ℕ) → number ≡ number_of first_line → number ≡ 0
+  ran_whole : (answers : List ℕ) → first_line ≡ none
       → whole_run register_rule register_routes caps journal work_length (length answers) report_length ≡ ran (whole_of caps journal answers)
   unfolding whole_run whole_unless
-  ran_whole answers number e z = rw ((zero_exactly first_line).0 (sym e ∙ z))
+  ran_whole answers e = rw e
 
   -- and the capacities and lengths are those that a run asks for
-  pub begins : (number : ℕ) → number ≡ number_of first_line → number ≡ 0 → Begins caps (length journal) work_length report_length
+  pub begins : first_line ≡ none → Begins caps (length journal) work_length report_length
   unfolding short_buffers
-  begins number e z =
-      let well = (ran_exactly register_rule register_routes caps journal work_length 0 report_length).0 (ran_whole [] number e z) in
+  begins e =
+      let well = (ran_exactly register_rule register_routes caps journal work_length 0 report_length).0 (ran_whole [] e) in
       let range = (good_exactly caps).0 well.good_capacities_lem in
       let work_short = ltb work_length (work_needed caps) in
       let report_short = ltb report_length 6 in
@@ -90,39 +85,42 @@ module _ (caps : Capacities) (journal : List ℕ) (work_length report_length : �
         short_journal = ltb_ge _ _ well.short_journal;
       }
 
--- a refusal at the start leaves the buffers as they were lent
-pub promised_at_start : (caps : Capacities) (journal : List ℕ) → all_bytes journal ≡ true → (lent : Buffers) (number : ℕ)
-    → number ≡ number_of (first_line caps journal (length lent.work) (length lent.report)) → (number ≡ 0 → ⊥)
-    → RegisterPromise caps journal lent number lent
-unfolding register entry_under whole_run whole_unless outcome number_of
-promised_at_start caps journal are lent number e n = go first refl e
-  where
-    first : Option Refusal
-    first = first_line caps journal (length lent.work) (length lent.report)
+-- so they are where a call starts with these limits
+pub starts_begin : {caps : Capacities} {limits : Limits} (journal : List ℕ) (work_length report_length : ℕ)
+    → StartsWith caps (length journal) work_length report_length limits → Begins (capacities_of limits) (length journal) work_length report_length
+starts_begin {caps} journal work_length report_length started =
+    rw started.limits_are (begins caps journal work_length report_length started.none_applies)
 
-    go : (o : Option Refusal) → first ≡ o → number ≡ number_of o → RegisterPromise caps journal lent number lent
-    go none d e = absurd (n e)
-    go (some r) d e = promised caps journal are lent number lent (rw (d, e))
+-- a refusal at the start leaves the buffers as they were lent
+pub promised_at_start : (caps : Capacities) (journal : List ℕ) → all_bytes journal ≡ true → (lent : Buffers) {refusal : R.Refusal}
+    → StartRefused caps (length journal) (length lent.work) (length lent.report) refusal → {number : ℕ} → number ≡ refusal_number (cause_of refusal)
+    → RegisterPromise caps journal lent number lent
+unfolding register entry_under whole_run whole_unless outcome
+promised_at_start caps journal are lent started {number} e = promised caps journal are lent number lent (rw (started.applies, e))
 
 -- a run that was cleared behind and reported leaves what the register leaves
-pub promised_by_run : (limits : Limits) (journal : List ℕ) → all_bytes journal ≡ true → (lent : Buffers) (number : ℕ)
-    → number ≡ number_of (first_line (capacities_of limits) journal (length lent.work) (length lent.report)) → number ≡ 0
-    → (p : Progress) (work new_work new_answers report : List ℕ)
+pub promised_by_run : {caps : Capacities} {limits : Limits} (journal : List ℕ) → all_bytes journal ≡ true → (lent : Buffers)
+    → StartsWith caps (length journal) (length lent.work) (length lent.report) limits
+    → {p : Progress} {work new_work new_answers report : List ℕ}
     → RunPromise limits (whole_of (capacities_of limits) journal lent.answers) p lent.work work lent.answers new_answers
-    → new_work ≡ replicate (min (work_needed (capacities_of limits)) (length work)) 0 ++ drop (work_needed (capacities_of limits)) work
+    → {needed : ℕ} → needed ≡ work_needed (capacities_of limits) → new_work ≡ replicate (min needed (length work)) 0 ++ drop needed work
     → report ≡ over (six_numbers p) lent.report
-    → RegisterPromise (capacities_of limits) journal lent p.refusal (record { work = new_work; answers = new_answers; report = report })
+    → {number : ℕ} → number ≡ number_of (causes_of p.refusal)
+    → RegisterPromise caps journal lent number (record { work = new_work; answers = new_answers; report = report })
 unfolding register entry_under outcome report_of six_numbers
-promised_by_run limits journal are lent number e z p work new_work new_answers report w worked reported =
+promised_by_run {caps} {limits} journal are lent started {p} {work} {new_work} {new_answers} {report} w long worked reported {number} told =
     let whole = whole_of (capacities_of limits) journal lent.answers in
-    let refusal_is : p.refusal ≡ number_of whole.refusal = cc w.numbers_are in
-    promised (capacities_of limits) journal are lent p.refusal (record { work = new_work; answers = new_answers; report = report })
+    let refusal_is : number ≡ number_of whole.refusal = told ∙ cc w.numbers_are in
+    let begun = starts_begin journal (length lent.work) (length lent.report) started in
+    rw (← started.limits_are)
+    (promised (capacities_of limits) journal are lent number (record { work = new_work; answers = new_answers; report = report })
     (rw (
-      ran_whole (capacities_of limits) journal (length lent.work) (length lent.report) lent.answers number e z,
+      ran_whole (capacities_of limits) journal (length lent.work) (length lent.report) lent.answers (rw started.limits_are started.none_applies),
       worked,
-      cleared_over limits lent.work work w.same_beyond (begins (capacities_of limits) journal (length lent.work) (length lent.report) number e z).long_work,
+      long,
+      cleared_over limits lent.work work w.same_beyond begun.long_work,
       w.answers_are,
       reported,
       w.numbers_are,
       refusal_is,
-    ))
+    )))

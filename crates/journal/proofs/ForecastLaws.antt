@@ -1,15 +1,21 @@
 -- The forecast's entry: its three numbers are those of the forecast, whose length suffices.
 use mathlib.Core.List.{List, map}
 use mathlib.Core.Logic.{◌⊎◌, inl, inr}
-use mathlib.Core.Path.{◌≡◌, sym, ◌∙◌, ap}
-use Prim.Native.Nat.{ℕ}
+use mathlib.Core.Path.{◌≡◌, refl, sym, ◌∙◌, ap}
+use Prim.Native.Nat.{ℕ, ◌<◌}
+use native.Mathlib.Omega.{arith}
+use lib.ListN.{length}
 use Rattle.commands.specs.Text.{text_of}
 use Rattle.commands.specs.Register.{register_rule, register_routes, register}
 use Rattle.commands.specs.Forecast.{sufficient, forecast, Suffices}
 use Rattle.commands.specs.Forecast as Paper
 use Rattle.commands.proofs.WholeRun.{register-mates, register_serves}
-use Rattle.commands.proofs.ForecastExactly.{Short, forecast_four_exactly, forecast_five_exactly, forecast_with_nought, forecast_of_front}
+use Rattle.commands.proofs.ForecastExactly.{Short, forecast_four_exactly, forecast_five_exactly, forecast_nought_exactly, forecast_with_nought, forecast_of_front}
 use Rattle.commands.proofs.ForecastRoom.{never_without_room}
+use Rattle.std.specs.Prelude.{Result, Ok, Err, OnOk}
+use Rattle.graph.proofs.Truth.{ltb_ge}
+use Rattle.refusals.specs.declared.RefusedAt.{RefusedAt}
+use Rattle.forecast.specs.Promise.{foretold}
 use Rattle.journal.specs.Promise.{ForecastPromise}
 
 module _ (journal : List ℕ) where
@@ -47,3 +53,10 @@ module _ (journal : List ℕ) where
 
       at : place ≡ (forecast journal).place
       at = ap (λ (f : Paper.Forecast). f.place) e
+
+  -- what is told of a journal that the forecast accepts can be told with the journal's end
+  pub end_fits : (told : Result ℕ RefusedAt) → ((foretold (length journal) told).number ≡ 0 → (forecast journal).number ≡ 0)
+      → OnOk told (length journal < 4294967296)
+  unfolding foretold
+  end_fits (Ok n) accepted = omega (arith, ltb_ge 65536 (length journal) ((forecast_nought_exactly journal).0 (accepted refl)).0)
+  end_fits (Err refused) accepted = tt

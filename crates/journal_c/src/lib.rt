@@ -5,7 +5,7 @@ ghost use Rattle.std.specs.Prelude.{map};
 ghost use Rattle.joining.specs.Promise.{seam_of};
 ghost use Rattle.journal.specs.Promise.{RegisterPromise, ForecastPromise, ExactPromise, RewritePromise, JoinPromise};
 
-use joining::seams::Seam;
+use joining::Seam;
 
 // Runs a journal with capacities c and s, with the caller's own working table, answer buffer and report.
 #[unsafe(no_mangle)]

@@ -18,29 +18,29 @@ unfolding greatest
 run_unanswered-p-requires c =
     (omega arith, omega arith, words_enough (length c.args.work.now) c.requires, omega (arith, c.if-journal-gt-LONGEST.false))
 
-pub returns-then-p-ne0 : goal.returns-then-p-ne0
+pub returns-in-Some : goal.returns-in-Some
 unfolding greatest
-returns-then-p-ne0 c =
+returns-in-Some c =
     let bytes = bytes_by_place c.args.journal.now (λ i h. omega (arith, c.type_inv.journal i)) in
     let journal = c.args.journal.now in
     let ran = c.run_unanswered-p.ensures in
-    (refused_alone journal ran c.if-p-ne0.true, beyond_alone journal ran, bytes)
+    (refused_alone journal ran c.in-Some.is, beyond_alone journal ran, bytes)
 
 pub overflow_cast-result : goal.overflow_cast-result
 unfolding greatest
-overflow_cast-result c = omega (arith, few_cabinets c.args.journal.now c.run_unanswered-p.ensures (omega (arith, c.if-p-ne0.false)))
+overflow_cast-result c = omega (arith, few_cabinets c.args.journal.now c.run_unanswered-p.ensures c.in-None.is)
 
-pub overflow_cast-result-2 : goal.overflow_cast-result-2
+pub overflow_cast-result-in-None : goal.overflow_cast-result-in-None
 unfolding greatest
-overflow_cast-result-2 c = omega (arith, few_spans c.args.journal.now c.run_unanswered-p.ensures (omega (arith, c.if-p-ne0.false)))
+overflow_cast-result-in-None c = omega (arith, few_spans c.args.journal.now c.run_unanswered-p.ensures c.in-None.is)
 
-pub returns : goal.returns
+pub returns-in-None : goal.returns-in-None
 unfolding greatest
-returns c =
+returns-in-None c =
     let bytes = bytes_by_place c.args.journal.now (λ i h. omega (arith, c.type_inv.journal i)) in
     let journal = c.args.journal.now in
     let ran = c.run_unanswered-p.ensures in (
-      holds_alone journal ran (omega (arith, c.if-p-ne0.false)) (omega (arith, c.if-journal-gt-LONGEST.false)) refl refl,
+      holds_alone journal ran c.in-None.is (omega (arith, c.if-journal-gt-LONGEST.false)) refl refl,
       beyond_alone journal ran,
       bytes,
     )
