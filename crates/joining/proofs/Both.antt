@@ -2,7 +2,7 @@
 use mathlib.Core.Bool.{true, ◌||◌}
 use mathlib.Core.List.{List, map}
 use mathlib.Core.Logic.{◌⊎◌, inl, inr}
-use mathlib.Core.Path.{◌≡◌, refl, ◌∙◌, ap₂}
+use mathlib.Core.Path.{◌≡◌, refl, ◌∙◌, ap}
 use Prim.Native.Nat.{ℕ, ◌+◌, ◌*◌, ◌≤◌, ◌<◌}
 use native.Mathlib.Omega.{arith}
 use lib.Dec.{ltb}
@@ -32,14 +32,12 @@ module _ (first second : List ℕ) (seams : ℕ) (c : Counts) (out : List ℕ) w
       passes (inr l) = or_right (ltb 65536 size) (lt-ltb (length out) size l)
 
   -- and anything else is stored: the first as it stands, and the second behind it
-  pub both_stored : size ≤ 65536 → size ≤ length out → {between new : List ℕ} {behind front : ℕ}
-      → between ≡ sets out 0 (slice 0 (length first) first)
-      → new ≡ sets between behind (journal_bytes (map (raise_command (one_of c)) (commands_in second)))
-      → behind ≡ length first → front ≡ length first + length second
-      → record { place = Ok front; out = new } ≡ put_journals first second seams c out
+  pub both_stored : size ≤ 65536 → size ≤ length out → {between new : List ℕ} → between ≡ sets out 0 (slice 0 (length first) first)
+      → new ≡ sets between (length first) (journal_bytes (map (raise_command (one_of c)) (commands_in second)))
+      → record { place = Ok (length first + length second); out = new } ≡ put_journals first second seams c out
   unfolding put_journals
-  both_stored short room copied raised next told =
+  both_stored short room copied raised =
       let raised_second = journal_bytes (map (raise_command (one_of c)) (commands_in second)) in
       rw (or_neither (ge_ltb 65536 size short) (ge_ltb (length out) size room))
-      (ap₂ (λ n l. record { place = Ok n; out = l }) told
-      (raised ∙ rw (copied, next, take-length first) (sets_behind out 0 (length first) first raised_second (omega arith))))
+      (ap (λ (l : List ℕ). record { place = Ok (length first + length second); out = l })
+      (raised ∙ rw (copied, take-length first) (sets_behind out 0 (length first) first raised_second (omega arith))))

@@ -69,10 +69,13 @@ module _ (c : Counts) (seams : List Seam) where
     not_good is test bad = rw (sym with_next, sym is, sym test, bad) refl
 
   -- and where none is, it goes on
-  pub looked_at_all : {i : ℕ} → LookedTo i → length seams ≤ i → (Ok tt ≡ look_at c seams) × (ducts_fit seams ≡ true)
-  unfolding look_at all_in
-  looked_at_all {i} so_far h =
-      (rw (sym so_far.left, drop_of_length-le seams {i = i} h) refl, all_ducts seams (λ k l. so_far.ducts k (omega (arith, l, h))))
+  module _ {i : ℕ} (so_far : LookedTo i) (h : length seams ≤ i) where
+    pub looked_at_all : Ok tt ≡ look_at c seams
+    unfolding look_at all_in
+    looked_at_all = rw (sym so_far.left, drop_of_length-le seams {i = i} h) refl
+
+    pub ducts_looked_at : ducts_fit seams ≡ true
+    ducts_looked_at = all_ducts seams (λ k l. so_far.ducts k (omega (arith, l, h)))
 
   -- With the commands for the seams from place i on stored too, they all are.
   pub record StoredTo (lent : List ℕ) (front i at : ℕ) (out : List ℕ) : Type 0 where

@@ -71,6 +71,7 @@ impl Counts {
 }
 
 // Stores a command byte, and the operands behind it.
+#[tactic(auto, using(crate::proofs::Orders::operand_stored))]
 fn put_command(out: &mut [u8], at: usize, byte: u8, operands: &[u32])
     requires { at + 1 + 2 * length operands.now ≤ length out.old }
     ensures { out.new ≡ sets out.old at (byte ∷ operand_bytes operands.now) }
