@@ -1,21 +1,18 @@
 -- The entry in code: refused at the start, or run, cleared and reported, it leaves what the register leaves.
-use mathlib.Core.Bool.{true, not}
+use mathlib.Core.Bool.{true}
 use mathlib.Core.List.{List, [], ◌++◌}
-use mathlib.Core.Logic.{◌⊎◌, inl, inr}
-use mathlib.Core.Option.{Option, none, some}
-use mathlib.Core.Path.{◌≡◌, refl, sym, ◌∙◌, ap}
-use Prim.Native.Nat.{ℕ, ◌≤◌, ◌<◌, min}
+use mathlib.Core.Option.{Option, none}
+use mathlib.Core.Path.{◌≡◌, sym, ◌∙◌, ap}
+use Prim.Native.Nat.{ℕ, ◌≤◌, min}
 use native.Mathlib.Omega.{arith}
-use lib.Dec.{leb, ltb}
+use lib.Dec.{ltb}
 use lib.ListN.{length, drop, replicate}
-use Rattle.graph.proofs.Truth.{le-leb, lt-ltb, ltb_ge, ge_ltb, or_neither_left, or_neither_right}
+use Rattle.graph.proofs.Truth.{ltb_ge, or_neither_left, or_neither_right}
 use Rattle.commands.specs.Bytes.{all_bytes}
 use Rattle.commands.specs.Refusal.{Refusal, refusal_number, Capacities, first_that_applies}
 use Rattle.commands.specs.Entry.{work_needed, short_buffers, start_lines, ran, whole_unless, whole_run, number_of, report_of, over, Buffers, Outcome, outcome, entry_under}
 use Rattle.commands.specs.Register.{register_rule, register_routes, register}
-use Rattle.commands.proofs.Cases.{le_or_gt, gt_leb}
 use Rattle.commands.proofs.Start.{good_exactly, ran_exactly}
-use Rattle.commands.proofs.Returned.{zero_exactly}
 use Rattle.commands.proofs.WholeRun.{register_serves, register-whole_run}
 use Rattle.numbers.specs.declared.Limits.{Limits}
 use Rattle.forest.specs.Promise.{words_needed}
