@@ -1,8 +1,8 @@
 // Climbing the block forest: from vertex to block and from block to vertex, turn about, until two vertices' ways up meet.
-ghost use Rattle.std.specs.Prelude.{MatchOption, ◌≡◌, ◌+◌, ◌<◌, ◌≤◌, min, cond, not, ◌&&◌, ◌==◌, nat_lt};
+ghost use Rattle.std.specs.Prelude.{MatchOption, ◌≡◌, ◌+◌, ◌<◌, ◌≤◌, cond, not, ◌&&◌, ◌==◌, nat_lt};
 ghost use Rattle.table.specs.Same.{IsSame};
 ghost use Rattle.forest.specs.Inside.Climb.{up_of, depth_of, block_of, top_of, above_edge, right_deeper, record_table, record_trail};
-ghost use Rattle.forest.specs.Inside.Climb.{nested_most, climb_from, climb_from_block, kept_left, join_from, reach, climb_table, climb_route};
+ghost use Rattle.forest.specs.Inside.Climb.{climb_from, climb_from_block, kept_left, join_from, reach, climb_table, climb_route};
 
 use numbers::{Edge, Vertex};
 use table::words::{DEPTH, NAME, PATH_EDGE, PATH_VERTEX, RIGHT_EDGE, RIGHT_VERTEX, TOP, Table, UP};

@@ -4,7 +4,7 @@ ghost use Rattle.table.specs.Inside.Column;
 ghost use Rattle.table.specs.Inside.Layout.{cell, edge_area};
 ghost use Rattle.table.specs.Same.{IsSame};
 ghost use Rattle.forest.specs.Inside.Climb.{up_of, climb_table};
-ghost use Rattle.forest.specs.Inside.Queries.{bridge_blocks_differ, bridge_in, are_pair, ends_agree, lost_together, hangs_from, hang_together, block_above, shared_in};
+ghost use Rattle.forest.specs.Inside.Queries.{bridge_blocks_differ, bridge_in, are_pair, lost_together, hangs_from, hang_together, block_above, shared_in};
 ghost use Rattle.forest.specs.Inside.Queries.{find_table, find_count, bridges_found, cuts_count};
 
 use crate::Ends;

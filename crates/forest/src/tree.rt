@@ -1,6 +1,6 @@
 // Growing the block forest: one vertex more, and one edge more, which links two components or condenses the path between two vertices;
 // and marking a vertex.
-ghost use Rattle.std.specs.Prelude.{suc, IfSome, ◌≡◌, ◌<◌, if◌then◌else◌};
+ghost use Rattle.std.specs.Prelude.{suc, IfSome, ◌≡◌, ◌<◌};
 ghost use Rattle.table.specs.Same.{IsSame};
 ghost use Rattle.forest.specs.Inside.Tree.{new_group, new_marks, vertex_table, mark_table, raise_from, turn_from, turned_table, turned_next, hang_table, link_grown};
 ghost use Rattle.forest.specs.Inside.Tree.{enter_block, in_step_duct, merged_vertices, condense_grown, edge_table, edge_grown};
