@@ -3,17 +3,17 @@ ghost use Rattle.std.specs.Prelude.{◌∷◌, ◌++◌, ◌≡◌, ◌+◌, ◌
 ghost use Rattle.std.proofs.lemmas.List.Edits.{sets};
 ghost use Rattle.commands.specs.Bytes.{two_bytes};
 ghost use Rattle.commands.specs.Field.{fields_bytes};
-ghost use Rattle.commands.specs.Answer.{kind_byte, notice_fields, notices_fields, span_added, answer_bytes};
+ghost use Rattle.commands.specs.Answer.{notice_fields, notices_fields, span_added, answer_bytes};
 ghost use Rattle.step.specs.Promise.{notice_at, notices_of, notice_count, growth_notices};
 ghost use Rattle.writing.specs.Inside.Notices.{kind_of, notice_of, length_notice, head_bytes};
 
 use crate::items::{Item, put_items};
-use forest::{Growth, Table, VertexGroups, edge_change_at, vertex_change_at};
-use numbers::Edge;
+use forest::{Change, Growth, Table, VertexGroups, edge_change_at, vertex_change_at};
+use numbers::{Edge, Vertex};
 use storing::{put_byte, put_two};
 
-// The kinds of names that notices tell.
-#[derive(Clone, Copy, PartialEq, Eq)]
+// The kinds of names that notices tell. A kind is told, and no closure that gives its notices, since the promises speak of the notices of a kind.
+#[derive(Clone, Copy)]
 pub(crate) enum Kind {
     District,
     Ring,
@@ -22,26 +22,24 @@ pub(crate) enum Kind {
 
 // A notice: a cabinet's new district or ring name, or a span's new mesh name.
 #[derive(Clone, Copy)]
-pub(crate) struct Notice {
-    kind: Kind,
-    item: u32,
-    name: u32,
+pub(crate) enum Notice {
+    District(Change<Vertex>),
+    Ring(Change<Vertex>),
+    Mesh(Change<Edge>),
 }
 
-impl From<Kind> for u8 {
-    ghost from_gives = { λ kind byte. byte ≡ kind_byte (kind_of kind) };
-
-    #[tactic(auto, unfolding(commands::specs::Answer::kind_byte, crate::specs::Inside::Notices::kind_of))]
-    fn from(kind: Kind) -> u8 {
-        match kind {
-            Kind::District => 1,
-            Kind::Ring => 2,
-            Kind::Mesh => 3,
-        }
-    }
+// Stores the byte of a kind, an item and its new name.
+#[tactic(auto, unfolding(commands::specs::Bytes::two_bytes))]
+fn put_change(out: &mut [u8], at: usize, kind: u8, item: u32, name: u32)
+    requires { at + 5 ≤ length out.old }
+    ensures { out.new ≡ sets out.old at (kind ∷ two_bytes item ++ two_bytes name) }
+{
+    put_byte(out, at, kind);
+    put_two(out, at + 1, item);
+    put_two(out, at + 3, name);
 }
 
-// The byte of its kind, its item and its name.
+// A notice's bytes: its kind's, its item and its name.
 impl Item for Notice {
     ghost bytes = { λ n. fields_bytes (notice_fields (notice_of n)) };
 
@@ -51,11 +49,13 @@ impl Item for Notice {
 
     ghost counted = { length_notice };
 
-    #[tactic(auto, unfolding(crate::specs::Inside::Notices::notice_of, commands::specs::Bytes::two_bytes), using(commands::proofs::NoticeBytes::notice_bytes))]
+    #[tactic(auto, unfolding(crate::specs::Inside::Notices::notice_of, commands::specs::Answer::kind_byte), using(commands::proofs::NoticeBytes::notice_bytes))]
     fn put(self, out: &mut [u8], at: usize) {
-        put_byte(out, at, self.kind.into());
-        put_two(out, at + 1, self.item);
-        put_two(out, at + 3, self.name);
+        match self {
+            Notice::District(c) => put_change(out, at, 1, c.item.0, c.name.0),
+            Notice::Ring(c) => put_change(out, at, 2, c.item.0, c.name.0),
+            Notice::Mesh(c) => put_change(out, at, 3, c.item.0, c.name.0),
+        }
     }
 }
 
@@ -65,30 +65,9 @@ fn notice_at(t: &Table, kind: Kind, i: u32) -> Notice
     ensures { notice_of result ≡ notice_at (kind_of kind) t.now.shape t.now.words.now i }
 {
     match kind {
-        Kind::District => {
-            let change = vertex_change_at(t, VertexGroups::Components, i);
-            Notice {
-                kind,
-                item: change.item.0,
-                name: change.name.0,
-            }
-        }
-        Kind::Ring => {
-            let change = vertex_change_at(t, VertexGroups::BridgeBlocks, i);
-            Notice {
-                kind,
-                item: change.item.0,
-                name: change.name.0,
-            }
-        }
-        Kind::Mesh => {
-            let change = edge_change_at(t, i);
-            Notice {
-                kind,
-                item: change.item.0,
-                name: change.name.0,
-            }
-        }
+        Kind::District => Notice::District(vertex_change_at(t, VertexGroups::Components, i)),
+        Kind::Ring => Notice::Ring(vertex_change_at(t, VertexGroups::BridgeBlocks, i)),
+        Kind::Mesh => Notice::Mesh(edge_change_at(t, i)),
     }
 }
 
