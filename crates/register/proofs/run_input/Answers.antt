@@ -7,44 +7,31 @@ use Rattle.journal.specs.Promise.{RegisterPromise}
 use Rattle.register.proofs.Output.{Outputs, ending_room, promised_outputs, outputs_written, output_short}
 use Rattle.register.proofs.run_input.Goals as goal
 
--- what the entry leaves gives the program's output
-left_outputs : (input output : List ℕ) (returned : ℕ) (work answers report : List ℕ) → 65542 ≤ length output
-    → RegisterPromise
+-- What the entry leaves, lent the program's buffers.
+module _ {input : List ℕ} (output : List ℕ) (long : 65542 ≤ length output) {returned : ℕ} {work answers report : List ℕ}
+    (p : RegisterPromise
     (record { cabinets = 256; spans = 512 })
     input
     (record { work = replicate 10304 0; answers = take 65536 output; report = replicate 6 0 })
     returned
-    (record { work = work; answers = answers; report = report })
-    → Outputs input returned answers report
-unfolding program_capacities
-left_outputs input output returned work answers report long p =
-    promised_outputs
-    input
-    (record { work = replicate 10304 0; answers = take 65536 output; report = replicate 6 0 })
-    returned
-    (record { work = work; answers = answers; report = report })
-    (length-replicate {A = ℕ} 10304 0)
-    (length-take-le 65536 output (omega arith))
-    refl
-    p
+    (record { work = work; answers = answers; report = report })) where
+  -- it gives the program's output
+  left_outputs : Outputs input returned answers report
+  unfolding program_capacities
+  left_outputs =
+      promised_outputs
+      input
+      (record { work = replicate 10304 0; answers = take 65536 output; report = replicate 6 0 })
+      returned
+      (record { work = work; answers = answers; report = report })
+      (length-replicate {A = ℕ} 10304 0)
+      (length-take-le 65536 output (omega arith))
+      refl
+      p
 
--- and room for an ending behind the answers
-left_room : (input output : List ℕ) (returned : ℕ) (work answers report : List ℕ) → 65542 ≤ length output
-    → length answers ≡ length (take 65536 output)
-    → RegisterPromise
-    (record { cabinets = 256; spans = 512 })
-    input
-    (record { work = replicate 10304 0; answers = take 65536 output; report = replicate 6 0 })
-    returned
-    (record { work = work; answers = answers; report = report })
-    → get_or report 3 0 + 6 ≤ length (answers ++ drop 65536 output)
-left_room input output returned work answers report long kept p =
-    ending_room
-    answers
-    output
-    (left_outputs input output returned work answers report long p).size_fits
-    (kept ∙ length-take-le 65536 output (omega arith))
-    long
+  -- and room for an ending behind the answers
+  left_room : length answers ≡ length (take 65536 output) → get_or report 3 0 + 6 ≤ length (answers ++ drop 65536 output)
+  left_room kept = ending_room answers output left_outputs.size_fits (kept ∙ length-take-le 65536 output (omega arith)) long
 
 pub slice_bounds-register_run-end-3 : goal.slice_bounds-register_run-end-3
 slice_bounds-register_run-end-3 c = sym (length-take-le 65536 c.args.output.now (omega arith))
@@ -52,27 +39,22 @@ slice_bounds-register_run-end-3 c = sym (length-take-le 65536 c.args.output.now 
 pub slice_bounds-put_ending-count : goal.slice_bounds-put_ending-count
 slice_bounds-put_ending-count c =
     let run = c.register_run-refusal in
-    omega
-    (arith, left_room c.args.input.now c.args.output.now run.result run.new.work run.new.answers run.new.report c.requires run.auto.answers run.ensures)
+    omega (arith, left_room c.args.output.now c.requires run.ensures run.auto.answers)
 
 pub slice_bounds-put_ending-start : goal.slice_bounds-put_ending-start
 slice_bounds-put_ending-start c =
     let run = c.register_run-refusal in
-    omega
-    (arith, left_room c.args.input.now c.args.output.now run.result run.new.work run.new.answers run.new.report c.requires run.auto.answers run.ensures)
+    omega (arith, left_room c.args.output.now c.requires run.ensures run.auto.answers)
 
 pub put_ending-requires : goal.put_ending-requires
 put_ending-requires c =
     let run = c.register_run-refusal in
-    simp
-    (length-take, length-drop)
-    (omega
-    (arith, left_room c.args.input.now c.args.output.now run.result run.new.work run.new.answers run.new.report c.requires run.auto.answers run.ensures))
+    simp (length-take, length-drop) (omega (arith, left_room c.args.output.now c.requires run.ensures run.auto.answers))
 
 pub overflow_add-result : goal.overflow_add-result
 overflow_add-result c =
     let run = c.register_run-refusal in
-    let o = left_outputs c.args.input.now c.args.output.now run.result run.new.work run.new.answers run.new.report c.requires run.ensures in
+    let o = left_outputs c.args.output.now c.requires run.ensures in
     output_short
     o
     (run.auto.answers ∙ length-take-le 65536 c.args.output.now (omega arith))
@@ -81,7 +63,7 @@ overflow_add-result c =
 pub returns : goal.returns
 returns c =
     let run = c.register_run-refusal in
-    let o = left_outputs c.args.input.now c.args.output.now run.result run.new.work run.new.answers run.new.report c.requires run.ensures in
+    let o = left_outputs c.args.output.now c.requires run.ensures in
     outputs_written
     c.args.input.now
     run.result
