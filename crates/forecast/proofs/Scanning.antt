@@ -21,6 +21,7 @@ use Rattle.reading.specs.Inside.Reads.{Passing, no_command, cut_short, whole}
 use Rattle.reading.proofs.PassedAt.{passing_here, text_at_no_command, text_at_cut_short, command_here, its_own_byte, operands_here, text_goes_on_behind}
 use Rattle.std.specs.Prelude.{Ok, Err}
 use Rattle.refusals.specs.Causes.{cause_of}
+use Rattle.refusals.specs.declared.Refusal.TheVariants.{BadByte, CutOperands}
 use Rattle.refusals.specs.declared.RefusedAt.{RefusedAt}
 use Rattle.commands.proofs.ForecastFits.{forecast_fits}
 use Rattle.forecast.specs.Promise.{foretold}
@@ -129,15 +130,25 @@ module _ {journal : List ℕ} {t : Tally} {place : ℕ} (so_far : CountedTo jour
   refused_here q refused e n p = rw (n, p) (rw (add-zero place) at (leads_from e))
 
   module _ (at_command : place < length journal) where
-    -- be it an unknown byte or cut-off operands
+    -- be it an unknown byte
+    pub unknown_here : (refused : RefusedAt) → no_command ≡ passing_here journal place at_command → refused.refusal ≡ BadByte
+        → refused.place ≡ place → foretold (length journal) (Err refused) ≡ forecast journal
+    unknown_here refused e q = refused_here bad_byte refused (text_at_no_command journal place at_command e) (ap cause_of q)
+
+    -- or cut-off operands
+    pub cut_off_here : (refused : RefusedAt) → cut_short ≡ passing_here journal place at_command → refused.refusal ≡ CutOperands
+        → refused.place ≡ place → foretold (length journal) (Err refused) ≡ forecast journal
+    cut_off_here refused e q = refused_here cut_operands refused (text_at_cut_short journal place at_command e) (ap cause_of q)
+
+    -- and so whichever of the two is told
     pub unread_here : (refused : RefusedAt) → RefusedFor (passing_here journal place at_command) refused.refusal → refused.place ≡ place
         → foretold (length journal) (Err refused) ≡ forecast journal
     unread_here refused = go (passing_here journal place at_command) refl
       where
         go : (p : Passing) → p ≡ passing_here journal place at_command → RefusedFor p refused.refusal → refused.place ≡ place
             → foretold (length journal) (Err refused) ≡ forecast journal
-        go no_command e q = refused_here bad_byte refused (text_at_no_command journal place at_command e) (ap cause_of q)
-        go cut_short e q = refused_here cut_operands refused (text_at_cut_short journal place at_command e) (ap cause_of q)
+        go no_command e q = unknown_here refused e q
+        go cut_short e q = cut_off_here refused e q
         go (whole byte width) e q = absurd q
 
     -- A command with this byte and so many bytes of operands.

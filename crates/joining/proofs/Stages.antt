@@ -231,8 +231,8 @@ module _ (work_length : ℕ) (first second : List ℕ) (xs : List Seam) (out : L
       by_table (inr e) = by_journals e (true_or_false (is_refused first || is_refused second))
 
   -- Where both journals are counted they can be stored.
-  pub counted_puttable : {c : Counts} → Ok c ≡ counted_of work_length first second → Puttable first second
-  counted_puttable {c} counted = by_table (true_or_false (ltb work_length (work_needed join_capacities)))
+  pub looked_puttable : {c : Counts} → Ok c ≡ counted_of work_length first second → Puttable first second
+  looked_puttable {c} counted = by_table (true_or_false (ltb work_length (work_needed join_capacities)))
     where
       not_refused : (refusal : Refusal) → counted_of work_length first second ≡ Err refusal → ⊥
       not_refused refusal e = let both : Ok c ≡ Err refusal = counted ∙ e in cc

@@ -5,7 +5,7 @@ ghost use Rattle.forest.specs.Promise.{words_needed};
 ghost use Rattle.run.specs.Promise.{capacities_of, UnansweredPromise};
 ghost use Rattle.run.specs.Inside.Unanswered.{without_answers, Countable, Counted};
 ghost use Rattle.run.specs.Inside.Course.{ends-without_answers};
-ghost use Rattle.run.specs.Inside.FurtherUnanswered.{countable, counted_on};
+ghost use Rattle.run.specs.Inside.FurtherUnanswered.{can_be_counted, counted_on};
 
 use crate::answers::Answers;
 use crate::{Pace, Progress, run_from};
@@ -42,7 +42,7 @@ impl Answers for Count {
 
     ghost stays_same = { λ t shape written reply x y result taken. tt };
 
-    ghost can = { λ p order width journal old new reply x ready done. countable ready done };
+    ghost can = { λ p order width journal old new reply x ready done. can_be_counted ready done };
 
     ghost goes_on = { λ p order width journal old new reply x y result ready done taken. counted_on ready done taken };
 }

@@ -57,8 +57,8 @@ module _
         )
 
     -- So the bytes of the answer can be counted,
-    pub countable : Countable p.written reply
-    countable = omega (arith, still_fits 0)
+    pub can_be_counted : Countable p.written reply
+    can_be_counted = omega (arith, still_fits 0)
 
     -- and once they are the run is a command further.
     pub counted_on : {result : Result ℕ Refusal} → Counted p.written reply result

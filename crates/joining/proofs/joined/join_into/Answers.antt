@@ -4,7 +4,7 @@ use native.Mathlib.Omega.{arith}
 use lib.ListN.{length}
 use Rattle.std.proofs.Common.{Ok}
 use Rattle.std.proofs.lemmas.Result.{err_from_is_err_and}
-use Rattle.joining.proofs.Stages.{counted_puttable, room_for_seams, left_uncounted, left_looked, left_put, joined_so, refused_so}
+use Rattle.joining.proofs.Stages.{looked_puttable, room_for_seams, left_uncounted, left_looked, left_put, joined_so, refused_so}
 use Rattle.joining.proofs.joined.join_into.Goals as goal
 
 pub returns-in_err-counts : goal.returns-in_err-counts
@@ -25,7 +25,7 @@ returns-in_err-look_at c =
 
 pub put_journals-requires : goal.put_journals-requires
 put_journals-requires c =
-    counted_puttable (length c.args.work.now) c.args.first.now c.args.second.now c.args.seams.now c.args.out.now
+    looked_puttable (length c.args.work.now) c.args.first.now c.args.second.now c.args.seams.now c.args.out.now
     (sym c.in_ok-counts.was ∙ c.count_both.ensures.counts_are)
 
 pub returns-in_err-front : goal.returns-in_err-front
