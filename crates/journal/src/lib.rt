@@ -1,6 +1,7 @@
 // The entries that a planner calls. Of a run: the refusals before the journal is read, the run, and the report. Of the forecast: its three numbers.
 // Of the forecast to the byte: the refusals before the journal is read, the run without answers, and the three numbers. Of rewriting: its three
-// numbers, and the result. Of joining: its two numbers, and the result.
+// numbers, and the result. Of joining: its two numbers, and the result. They return numbers, 0 or a refusal's, and tell others through references,
+// as C has them.
 #![tactic(auto)]
 
 ghost use Rattle.std.specs.Prelude.{OnOk, map, ◌≡◌, ◌<◌, length};
@@ -76,6 +77,7 @@ pub fn register_run(
 ) -> u32
     ensures { RegisterPromise (record { cabinets = c; spans = s }) journal.now (record { work = work.old; answers = answers.old; report = report.old }) result (record { work = work.new; answers = answers.new; report = report.new }) }
 {
+    // the entry returns the number itself, and reports nothing where the start is refused
     let limits = match start(c, s, journal.len(), work.len(), report.len()) {
         Ok(limits) => limits,
         Err(refusal) => return refusal.into(),
@@ -144,6 +146,7 @@ fn told_of(p: Progress) -> Result<u32, RefusedAt>
 fn count_answers(c: u32, s: u32, journal: &[u8], work: &mut [u32]) -> Result<u32, RefusedAt>
     ensures { Counts (record { cabinets = c; spans = s }) journal.now (foretold (length journal.now) result) work.old work.new }
 {
+    // a match and no `map_err` with `?`: with a closure that adds the place the proof has a step more and the text is no plainer
     let limits = match start(c, s, journal.len(), work.len(), REPORTED) {
         Ok(limits) => limits,
         Err(refusal) => return Err(RefusedAt { refusal, place: 0 }),
