@@ -7,6 +7,7 @@ ghost use Rattle.commands.specs.Forecast.{forecast};
 ghost use Rattle.forecast.specs.Promise.{foretold};
 ghost use Rattle.forecast.specs.Inside.Tallies.{Few, entry_more, counted_by, length_of, PassedAt};
 
+use reading::LONGEST;
 use reading::read::{Taken, entry_of};
 use reading::reader::Reader;
 use refusals::{Refusal, RefusedAt};
@@ -123,6 +124,7 @@ fn scan(journal: &[u8]) -> Result<u32, RefusedAt>
 {
     let mut tally = Tally::default();
     let mut reader = Reader::new(journal, 0);
+    // by the reader, which is no iterator (reading/src/reader.rt)
     while reader.place < reader.journal.len() {
         let passed = command_at(reader)?;
         tally = tally.counted(passed.command);
@@ -136,7 +138,7 @@ fn scan(journal: &[u8]) -> Result<u32, RefusedAt>
 pub fn forecast_of(journal: &[u8]) -> Result<u32, RefusedAt>
     ensures { foretold (length journal.now) result ≡ forecast journal.now }
 {
-    if 65536 < journal.len() {
+    if LONGEST < journal.len() {
         return Err(RefusedAt {
             refusal: Refusal::LongJournal,
             place: 0,

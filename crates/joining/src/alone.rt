@@ -6,19 +6,13 @@ ghost use Rattle.commands.specs.Join.{join_capacities};
 ghost use Rattle.forest.specs.Promise.{SameBeyond};
 ghost use Rattle.joining.specs.Inside.Alone.{greatest, alone_of, CountsBoth};
 
-use crate::LONGEST;
 use crate::seams::Counts;
 use forest::clear;
-use numbers::Limits;
+use numbers::GREATEST;
+use reading::LONGEST;
 use refusals::Refusal;
 use run::unanswered::run_unanswered;
 use run::work_needed;
-
-// The greatest capacities.
-const GREATEST: Limits = Limits {
-    vertices: 4096,
-    edges: 8192,
-};
 
 // How many cabinets and spans a network has.
 #[derive(Clone, Copy)]

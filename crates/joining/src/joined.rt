@@ -3,10 +3,10 @@ ghost use Rattle.std.specs.Prelude.{◌≡◌};
 ghost use Rattle.joining.specs.Promise.{Joined};
 ghost use Rattle.joining.specs.Inside.Joined.{Puttable, put_journals};
 
-use crate::LONGEST;
 use crate::alone::count_both;
 use crate::raising::put_raised;
 use crate::seams::{Counts, SEAM_BYTES, Seam, look_at, put_seams};
+use reading::LONGEST;
 use refusals::Refusal;
 use storing::copy;
 

@@ -9,6 +9,3 @@ mod seams;
 
 pub use joined::join_into;
 pub use seams::Seam;
-
-// The most bytes that a journal may have.
-const LONGEST: usize = 65536;

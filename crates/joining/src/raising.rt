@@ -119,6 +119,7 @@ pub(crate) fn put_raised(journal: &[u8], out: &mut [u8], at: usize, by: Counts)
     ensures { out.new ≡ sets out.old at (journal_bytes (map (raise_command (one_of by)) (commands_in journal.now))) }
 {
     let mut reader = Reader::new(journal, 0);
+    // by the reader, which is no iterator (reading/src/reader.rt)
     while reader.place < reader.journal.len() {
         let Ok(taken) = reader.take() else {
             return;

@@ -17,14 +17,12 @@ ghost use Rattle.journal.specs.Promise.{RegisterPromise, ForecastPromise, ExactP
 use forecast::forecast_of;
 use forest::clear;
 use joining::{Seam, join_into};
-use numbers::Limits;
+use numbers::{GREATEST, Limits};
+use reading::LONGEST;
 use refusals::{Refusal, RefusedAt, number_of};
 use rewriting::rewrite_into;
 use run::unanswered::run_unanswered;
 use run::{Progress, run, work_needed};
-
-// The most bytes that a journal may have.
-const LONGEST: usize = 65536;
 
 // How many numbers a report has.
 const REPORTED: usize = 6;
@@ -34,7 +32,9 @@ const REPORTED: usize = 6;
 fn start(c: u32, s: u32, journal: usize, work: usize, report: usize) -> Result<Limits, Refusal>
     ensures { Starts (record { cabinets = c; spans = s }) journal work report result }
 {
-    if !(1..=4096).contains(&c) || !(1..=8192).contains(&s) {
+    if !(1..=u32::from(GREATEST.vertices)).contains(&c)
+        || !(1..=u32::from(GREATEST.edges)).contains(&s)
+    {
         return Err(Refusal::BadCapacity);
     }
     let limits = Limits {

@@ -5,7 +5,7 @@ ghost use Rattle.std.specs.Prelude.{◌<◌, IfSome};
 ghost use Rattle.forest.specs.Promise.{IsSame};
 
 use forest::{Growth, Network, VertexGroups, bridge_at, cut_at, edge_change_at, vertex_change_at};
-use numbers::{Duct, Edge, Limits, Vertex};
+use numbers::{Duct, Edge, GREATEST, Limits, Vertex};
 use std::io;
 
 // Prints a list in a line: a label, how many items there are, and the items.
@@ -166,7 +166,10 @@ fn show(
 ) -> io::Result<()> {
     let limits = Limits { vertices, edges };
     let mut words = [0u32; 256];
-    if 4096 < vertices || 8192 < edges || words.len() < forest::words_needed(limits) {
+    if GREATEST.vertices < vertices
+        || GREATEST.edges < edges
+        || words.len() < forest::words_needed(limits)
+    {
         return Ok(());
     }
     println!(rt; "{title}")?;

@@ -35,3 +35,9 @@ pub struct Shape {
     pub vertices: u32,
     pub edges: u32,
 }
+
+// The greatest limits of a table: the greatest capacities of a run.
+pub const GREATEST: Limits = Limits {
+    vertices: 4096,
+    edges: 8192,
+};

@@ -3,3 +3,6 @@
 
 pub mod read;
 pub mod reader;
+
+// The most bytes that a journal may have.
+pub const LONGEST: usize = 65536;

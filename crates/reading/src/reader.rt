@@ -6,6 +6,8 @@ ghost use Rattle.reading.specs.Inside.Reads.{reading_of, passing_of, pass_over};
 
 use crate::read::{Order, Taken, Unread, pass_at, take_at};
 
+// A loop holds the reader, and it is no iterator: a loop needs each command's place and the bytes from there on besides what is read, and what
+// is known of a journal is said of a place.
 #[derive(Clone, Copy)]
 pub struct Reader<'a> {
     pub journal: &'a [u8],

@@ -8,6 +8,7 @@ ghost use Rattle.commands.specs.Entry.{number_of};
 ghost use Rattle.commands.specs.Register.{ending};
 ghost use Rattle.register.specs.Output.{Put, ProgramOutput};
 
+use reading::LONGEST;
 use std::io;
 use std::io::Read;
 
@@ -18,9 +19,6 @@ const SPANS: u32 = 512;
 // The words of a working table for these capacities.
 const WORDS: usize = 10304;
 
-// The most bytes that a journal may have, and as many for its answers.
-const LONGEST: usize = 65536;
-
 // The most bytes that end the output.
 const ENDING: usize = 6;
 
@@ -29,6 +27,7 @@ fn read_input(from: &mut impl Read, buf: &mut [u8]) -> io::Result<usize>
     ensures { IfOk result (λ got. got ≤ length buf.new) }
 {
     let mut done = 0;
+    // how many bytes a turn adds, the read alone tells
     while done < buf.len() {
         let got = from.read(&mut buf[done..])?;
         if got == 0 {

@@ -16,6 +16,7 @@ ghost use Rattle.rewriting.specs.Inside.Measures.{size_of, Measures};
 ghost use Rattle.rewriting.specs.Inside.Writes.{spans_behind, rewritten_at, Writable, result_stored, Result};
 
 use forecast::forecast_of;
+use reading::LONGEST;
 use reading::read::Taken;
 use reading::reader::Reader;
 use refusals::{Refusal, RefusedAt};
@@ -64,6 +65,7 @@ fn measure(journal: &[u8]) -> Result<usize, RefusedAt>
 {
     let mut length = 0;
     let mut reader = Reader::new(journal, 0);
+    // by the reader, which is no iterator (reading/src/reader.rt)
     while reader.place < reader.journal.len() {
         let head = head_at(reader);
         if head.command == 11 {
@@ -118,6 +120,7 @@ fn write(journal: &[u8], out: &mut [u8])
     let mut spans = 0;
     let mut at = 0;
     let mut reader = Reader::new(journal, 0);
+    // by the reader, which is no iterator (reading/src/reader.rt)
     while reader.place < reader.journal.len() {
         let head = head_at(reader);
         put_command(reader, head, spans, out, at);
@@ -132,7 +135,7 @@ fn write_within(journal: &[u8], out: &mut [u8], length: usize) -> Result<u32, Re
     requires { Result journal.now length }
     ensures { Rewrote journal.now out.old out.new result }
 {
-    if 65536 < length || out.len() < length {
+    if LONGEST < length || out.len() < length {
         return Err(RefusedAt {
             refusal: Refusal::LongResult,
             place: 0,

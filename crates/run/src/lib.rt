@@ -114,6 +114,7 @@ fn run_from<A: Answers>(journal: &[u8], n: &mut Network, answers: &mut A) -> Pro
         commands: 0,
         written: 0,
     };
+    // by the reader's place, and no iterator (reading/src/reader.rt); a match, since a refusal ends the run with what it had come to
     while pace.place < journal.len() {
         let shape = n.table.shape;
         match run_one(journal, n, answers, pace) {

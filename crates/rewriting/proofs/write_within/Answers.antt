@@ -7,8 +7,8 @@ use native.Mathlib.Omega.{arith}
 use Rattle.rewriting.proofs.Ends.{refused_as_long, result_told}
 use Rattle.rewriting.proofs.write_within.Goals as goal
 
-pub returns-then-length-gt65536 : goal.returns-then-length-gt65536
-returns-then-length-gt65536 c =
+pub returns-then-length-gt-LONGEST : goal.returns-then-length-gt-LONGEST
+returns-then-length-gt-LONGEST c =
     let long : (65536 < c.args.length) ⊎ (length c.args.out.now < c.args.length) = grind arith in
     refused_as_long c.requires long refl refl
 
