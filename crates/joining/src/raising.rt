@@ -1,5 +1,6 @@
-// The second journal's commands, raised by what the first network holds, and their bytes in a buffer that the caller lends.
-ghost use Rattle.std.specs.Prelude.{◌∷◌, ◌++◌, map, ◌≡◌, ◌+◌, ◌*◌, ◌≤◌, ◌<◌, length};
+// The second journal's commands, raised by what the first network holds, and their bytes in a buffer that the caller lends. (The
+// buffer goes with a place, as storing says.)
+ghost use Rattle.std.specs.Prelude.{map, ◌≡◌, ◌+◌, ◌≤◌, ◌<◌, length};
 ghost use Rattle.std.proofs.lemmas.List.Edits.{sets};
 ghost use Rattle.commands.specs.Facts.{command_bytes};
 ghost use Rattle.commands.specs.Text.{commands_in, journal_bytes};
@@ -7,13 +8,13 @@ ghost use Rattle.commands.specs.Join.{raise_command};
 ghost use Rattle.reading.specs.Inside.Reads.{meaning};
 ghost use Rattle.reading.specs.Inside.Places.{Readable};
 ghost use Rattle.joining.specs.Inside.Seams.{one_of};
-ghost use Rattle.joining.specs.Inside.Raising.{Fits, operand_bytes};
+ghost use Rattle.joining.specs.Inside.Raising.{Fits};
 
 use crate::seams::Counts;
 use numbers::{Edge, Vertex};
 use reading::read::Order;
 use reading::reader::Reader;
-use storing::{put_byte, put_two};
+use storing::put_numbers;
 
 impl Counts {
     // A cabinet of the second network among those of both.
@@ -70,18 +71,6 @@ impl Counts {
     }
 }
 
-// Stores a command byte, and the operands behind it.
-#[tactic(auto, using(crate::proofs::Orders::operand_stored))]
-fn put_command(out: &mut [u8], at: usize, byte: u8, operands: &[u32])
-    requires { at + 1 + 2 * length operands.now ≤ length out.old }
-    ensures { out.new ≡ sets out.old at (byte ∷ operand_bytes operands.now) }
-{
-    put_byte(out, at, byte);
-    for (k, operand) in operands.iter().enumerate() {
-        put_two(out, at + 1 + 2 * k, *operand);
-    }
-}
-
 // Stores a command.
 #[tactic(auto, unfolding(reading::specs::Inside::Reads::meaning, reading::specs::Inside::Reads::span_command, commands::specs::Facts::command_bytes, commands::specs::Field::fields_bytes, commands::specs::Field::field_bytes, commands::specs::Command::command_byte, commands::specs::Facts::facts, commands::specs::Facts::asks, commands::specs::Facts::operands_of, graph::specs::Network::edge_between, graph::specs::Network::edge_in_duct, commands::specs::Bytes::two_bytes))]
 pub(crate) fn put_order(out: &mut [u8], at: usize, order: Order)
@@ -89,26 +78,26 @@ pub(crate) fn put_order(out: &mut [u8], at: usize, order: Order)
     ensures { out.new ≡ sets out.old at (command_bytes (meaning order)) }
 {
     match order {
-        Order::AddCabinet => put_command(out, at, 1, &[]),
-        Order::AddSpan(a, b, None) => put_command(out, at, 2, &[a.0, b.0]),
-        Order::AddSpan(a, b, Some(d)) => put_command(out, at, 11, &[a.0, b.0, u32::from(d.0)]),
-        Order::DistrictName(a) => put_command(out, at, 3, &[a.0]),
-        Order::RingName(a) => put_command(out, at, 4, &[a.0]),
-        Order::SharedMesh(a, b) => put_command(out, at, 5, &[a.0, b.0]),
-        Order::SoleSpans(a, b) => put_command(out, at, 6, &[a.0, b.0]),
-        Order::CutCabinets(a, b) => put_command(out, at, 7, &[a.0, b.0]),
-        Order::IsSole(s) => put_command(out, at, 8, &[s.0]),
-        Order::MarkExchange(a) => put_command(out, at, 9, &[a.0]),
-        Order::HoldsExchange(a) => put_command(out, at, 10, &[a.0]),
-        Order::RoutesBetween(a, b) => put_command(out, at, 12, &[a.0, b.0]),
-        Order::RecordLength(s, m) => put_command(
+        Order::AddCabinet => put_numbers(out, at, 1, &[]),
+        Order::AddSpan(a, b, None) => put_numbers(out, at, 2, &[a.0, b.0]),
+        Order::AddSpan(a, b, Some(d)) => put_numbers(out, at, 11, &[a.0, b.0, u32::from(d.0)]),
+        Order::DistrictName(a) => put_numbers(out, at, 3, &[a.0]),
+        Order::RingName(a) => put_numbers(out, at, 4, &[a.0]),
+        Order::SharedMesh(a, b) => put_numbers(out, at, 5, &[a.0, b.0]),
+        Order::SoleSpans(a, b) => put_numbers(out, at, 6, &[a.0, b.0]),
+        Order::CutCabinets(a, b) => put_numbers(out, at, 7, &[a.0, b.0]),
+        Order::IsSole(s) => put_numbers(out, at, 8, &[s.0]),
+        Order::MarkExchange(a) => put_numbers(out, at, 9, &[a.0]),
+        Order::HoldsExchange(a) => put_numbers(out, at, 10, &[a.0]),
+        Order::RoutesBetween(a, b) => put_numbers(out, at, 12, &[a.0, b.0]),
+        Order::RecordLength(s, m) => put_numbers(
             out,
             at,
             13,
             &[s.0, u32::from(m.day), u32::from(m.metres)],
         ),
-        Order::SpanLength(s) => put_command(out, at, 14, &[s.0]),
-        Order::ExchangeShare => put_command(out, at, 15, &[]),
+        Order::SpanLength(s) => put_numbers(out, at, 14, &[s.0]),
+        Order::ExchangeShare => put_numbers(out, at, 15, &[]),
     }
 }
 

@@ -1,4 +1,5 @@
-// The seams that the caller lends: each is read by one thin function, and looked at or stored.
+// The seams that the caller lends: each is read by one thin function, and looked at or stored. (The buffer goes with a
+// place, as storing says.)
 ghost use Rattle.std.specs.Prelude.{true, OnOk, ◌≡◌, ◌+◌, ◌*◌, ◌<◌, ◌≤◌, length};
 ghost use Rattle.std.proofs.lemmas.List.Edits.{sets};
 ghost use Rattle.commands.specs.Facts.{command_bytes};
@@ -76,7 +77,8 @@ fn put_seam(out: &mut [u8], at: usize, counts: Counts, seam: Seam)
     );
 }
 
-// Stores the commands for all seams, in order, from a place on, and gives the place behind them.
+// Stores the commands for all seams, in order, from a place on, and gives the place behind them. (A loop of its own, since joining doesn't stand on
+// writing, which stores items of one width, and since a seam is read by its number alone.)
 #[tactic(auto, using(crate::proofs::SeamSteps::stored_none, crate::proofs::SeamSteps::stored_one, crate::proofs::SeamSteps::stored_all))]
 pub(crate) fn put_seams(seams: &[Seam], out: &mut [u8], counts: Counts, front: usize) -> usize
     requires { front + length seams.now * 7 ≤ length out.old }

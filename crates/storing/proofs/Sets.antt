@@ -1,15 +1,17 @@
 -- A run of stores: one behind another, over the front of a buffer, and of what stands in another list.
 use mathlib.Core.List.{List, [], ◌∷◌, ◌++◌, append_assoc}
 use mathlib.Core.Path.{◌≡◌, sym, ◌∙◌, ap}
-use Prim.Native.Nat.{ℕ, suc, ◌+◌, ◌-◌, ◌≤◌}
+use Prim.Native.Nat.{ℕ, suc, ◌+◌, ◌*◌, ◌-◌, ◌≤◌, ◌<◌}
 use native.Mathlib.Numerals.{add-one}
 use native.Mathlib.Omega.{arith}
 use borrow.Rule.Slice.PartMut.{put_mid}
-use lib.ListN.{length, take, drop, set, length-append}
-use lib.Seq.{sets, sets-eq, slice, length-slice, drop-drop}
+use lib.ListN.{length, get_or, take, drop, set, length-append}
+use lib.Seq.{sets, sets-eq, slice, length-slice, drop-cons, drop-drop}
 use Rattle.std.specs.List.{between}
 use Rattle.std.proofs.lemmas.Slice.{between_is}
+use Rattle.commands.specs.Bytes.{two_bytes}
 use Rattle.commands.specs.Entry.{over}
+use Rattle.storing.specs.Numbers.{number_bytes}
 
 -- stores that begin where others end are one run of stores
 pub sets_behind : (l : List ℕ) (i j : ℕ) (xs ys : List ℕ) → j ≡ i + length xs → sets (sets l i xs) j ys ≡ sets l i (xs ++ ys)
@@ -21,6 +23,17 @@ pub stored_behind_one : (l : List ℕ) (i j x : ℕ) (xs ys : List ℕ) → j �
     → sets (sets (set l i x) (i + 1) xs) j ys ≡ sets l i (x ∷ xs ++ ys)
 stored_behind_one l i j x xs ys e =
     sets_behind (set l i x) (i + 1) j xs ys e ∙ ap (λ (k : ℕ). sets (set l i x) k (xs ++ ys)) (add-one i)
+
+-- with a number's bytes stored, and behind them those of the numbers behind it, those from it on are stored
+pub number_stored : (out : List ℕ) (at k : ℕ) (numbers : List ℕ) → k < length numbers
+    → sets (sets out (at + 1 + 2 * k) (two_bytes (get_or numbers k 0))) (at + 1 + 2 * (k + 1)) (number_bytes (drop (k + 1) numbers))
+    ≡ sets out (at + 1 + 2 * k) (number_bytes (drop k numbers))
+unfolding two_bytes
+number_stored out at k numbers h =
+    let x = get_or numbers k 0 in
+    let here : drop k numbers ≡ x ∷ drop (k + 1) numbers = rw add-one (drop-cons numbers k 0 h) in
+    sets_behind out (at + 1 + 2 * k) (at + 1 + 2 * (k + 1)) (two_bytes x) (number_bytes (drop (k + 1) numbers)) (omega arith)
+    ∙ ap (λ l. sets out (at + 1 + 2 * k) (number_bytes l)) (sym here)
 
 -- four runs of stores, each behind the one before it
 pub sets_four : (l a b c d : List ℕ) (i j k : ℕ) → i ≡ length a → j ≡ i + length b → k ≡ j + length c

@@ -1,42 +1,31 @@
 -- Laws of the writers: the bytes of one item more, how many bytes there are, and the answers that they are.
 use mathlib.Core.Bool.{Bool, true, false}
-use mathlib.Core.List.{List, ◌∷◌, ◌++◌, map}
+use mathlib.Core.List.{List, [], ◌∷◌, ◌++◌, map}
 use mathlib.Core.Path.{◌≡◌, refl, ◌∙◌, ap}
 use mir.Val as Machine
 use Prim.Native.Nat.{ℕ, ◌+◌, ◌*◌, ◌≤◌}
 use native.Mathlib.Omega.{arith}
-use lib.ListN.{length, set}
+use lib.ListN.{length}
 use lib.Seq.{sets}
 use Rattle.std.specs.Prelude.{Option, None, Some}
 use Rattle.graph.specs.Below.{tabulate, length_tabulate}
 use Rattle.commands.specs.Bytes.{two_bytes}
-use Rattle.commands.specs.Field.{Kind, district, ring, mesh, field_bytes, fields_bytes}
+use Rattle.commands.specs.Field.{Field, Kind, cabinet, span, district, ring, mesh, field_bytes, fields_bytes}
 use Rattle.commands.specs.Answer.{notices_fields, bool_byte, plain_fields, span_added, plain, answer_fields, answer_bytes}
 use Rattle.commands.specs.Entry.{over}
 use Rattle.commands.proofs.Bytes.{InTwoBytes, cabinets_in_two_bytes, spans_in_two_bytes}
 use Rattle.commands.proofs.NoticeBytes.{length_notices_bytes, notices_bytes_append}
 use Rattle.numbers.specs.declared.Edge.{Edge}
 use Rattle.numbers.specs.declared.Shape.{Shape}
-use Rattle.forest.specs.declared.Group.{Group}
 use Rattle.forest.specs.declared.Growth.{Growth}
-use Rattle.forest.specs.declared.VertexGroups.{VertexGroups}
-use Rattle.forest.specs.declared.VertexGroups.TheVariants as G
-use Rattle.step.specs.declared.Listed.{Listed}
 use Rattle.step.specs.declared.Listed.TheVariants as L
 use Rattle.step.specs.declared.Reply.{Reply}
-use Rattle.step.specs.Promise.{notice_at, notices_of, notice_count, growth_notices, group_told, group_answer, shared_answer, list_answer, length_told, reply_answer, reply_size}
+use Rattle.step.specs.Promise.{notice_at, notices_of, notice_count, growth_notices, shared_answer, list_answer, length_told, reply_answer, reply_size}
 use Rattle.step.proofs.Replies.{count_notices_lem, reply_counted}
-use Rattle.writing.specs.Inside.Items.{each_bytes}
-use Rattle.writing.specs.Inside.Notices.{head_bytes}
-use Rattle.writing.specs.Inside.Writes.{group_code, list_code, list_field, number_of, option_bytes}
+use Rattle.writing.specs.Inside.Writes.{list_bytes, number_of, option_bytes}
+use Rattle.storing.specs.Numbers.{number_bytes}
 use Rattle.storing.proofs.Sets.{sets_four, sets_front}
 use Rattle.writing.proofs.ItemSteps.{each_number}
-
--- the items of the lists have two bytes
-listed_in_two_bytes : (list : Listed) → InTwoBytes (list_field list)
-unfolding list_field
-listed_in_two_bytes L.Spans = spans_in_two_bytes
-listed_in_two_bytes L.Cabinets = cabinets_in_two_bytes
 
 -- a test as a byte
 pub flag_byte : (b : Bool) → Machine.bool_byte b ≡ bool_byte b
@@ -44,31 +33,19 @@ unfolding bool_byte
 flag_byte true = refl
 flag_byte false = refl
 
--- the answer to 03 or 04 is its code, the name and the size
-pub group_bytes : (groups : VertexGroups) (group : Group)
-    → answer_bytes (plain (group_answer groups group)) ≡ group_code groups ∷ two_bytes group.name.0 ++ two_bytes group.size
-unfolding group_answer group_told group_code answer_bytes answer_fields plain_fields fields_bytes field_bytes two_bytes
-group_bytes G.Components group = refl
-group_bytes G.BridgeBlocks group = refl
+-- the answers to 06 and 07 are their code, their count and their items
+pub list_bytes_lem : (field : ℕ → Field) → InTwoBytes field → (code : ℕ) (f : ℕ → ℕ) (n : ℕ)
+    → list_bytes code f n ≡ code ∷ two_bytes (length (tabulate n f)) ++ fields_bytes (map field (tabulate n f))
+unfolding list_bytes
+list_bytes_lem field two code f n = rw (each_number field two f n, length_tabulate n f) refl
 
--- the answer to 06 or 07 is its code, its count and its items
-pub list_bytes : (list : Listed) (items : List ℕ)
-    → answer_bytes (plain (list_answer list items)) ≡ list_code list ∷ two_bytes (length items) ++ fields_bytes (map (list_field list) items)
-unfolding list_answer list_code list_field answer_bytes answer_fields plain_fields fields_bytes field_bytes two_bytes
-list_bytes L.Spans items = refl
-list_bytes L.Cabinets items = refl
+pub spans_listed : (f : ℕ → ℕ) (n : ℕ) → list_bytes 0x86 f n ≡ answer_bytes (plain (list_answer L.Spans (tabulate n f)))
+unfolding list_answer answer_bytes answer_fields plain_fields fields_bytes field_bytes two_bytes
+spans_listed f n = list_bytes_lem span spans_in_two_bytes 0x86 f n
 
--- which are written one behind another
-pub list_written : (list : Listed) (l : List ℕ) (count : ℕ) (f : ℕ → ℕ)
-    → sets (sets (set l 0 (list_code list)) 1 (two_bytes count)) 3 (each_bytes (λ i. two_bytes (f i)) count)
-    ≡ sets l 0 (answer_bytes (plain (list_answer list (tabulate count f))))
-unfolding two_bytes
-list_written list l count f =
-    rw (
-      list_bytes list (tabulate count f),
-      length_tabulate count f,
-      each_number (list_field list) (listed_in_two_bytes list) f count,
-    )
+pub cabinets_listed : (f : ℕ → ℕ) (n : ℕ) → list_bytes 0x87 f n ≡ answer_bytes (plain (list_answer L.Cabinets (tabulate n f)))
+unfolding list_answer answer_bytes answer_fields plain_fields fields_bytes field_bytes two_bytes
+cabinets_listed f n = list_bytes_lem cabinet cabinets_in_two_bytes 0x87 f n
 
 -- how many bytes the first n notices of a kind have
 length_told_lem : (kind : Kind) (shape : Shape) (t : List ℕ) (n : ℕ)
@@ -102,12 +79,12 @@ module _ (shape : Shape) (t : List ℕ) (growth : Growth) where
   meshes = told mesh growth.blocks
 
   abbrev head : ℕ → List ℕ
-  head span = head_bytes span growth.block.0 (notice_count growth)
+  head number = 0x82 ∷ number_bytes (number ∷ growth.block.0 ∷ notice_count growth ∷ [])
 
   -- its head and the notices of each kind
-  span_bytes_lem : (span : ℕ) → head span ++ districts ++ rings ++ meshes ≡ answer_bytes (span_added span growth.block.0 (growth_notices shape t growth))
-  unfolding head_bytes answer_bytes answer_fields fields_bytes field_bytes two_bytes
-  span_bytes_lem span =
+  span_bytes_lem : (number : ℕ) → head number ++ districts ++ rings ++ meshes ≡ answer_bytes (span_added number growth.block.0 (growth_notices shape t growth))
+  unfolding answer_bytes answer_fields fields_bytes field_bytes two_bytes
+  span_bytes_lem number =
       rw (
         count_notices_lem shape t growth,
         notices_bytes_append
@@ -117,27 +94,16 @@ module _ (shape : Shape) (t : List ℕ) (growth : Growth) where
       )
 
   -- written one behind another they are the answer
-  pub span_written : (l : List ℕ) (span : ℕ)
-      → sets
-      (sets (sets (sets l 0 (head span)) 7 districts) (7 + 5 * growth.components) rings)
-      (7 + 5 * (growth.components + growth.bridge_blocks))
-      meshes
-      ≡ sets l 0 (answer_bytes (span_added span growth.block.0 (growth_notices shape t growth)))
-  unfolding head_bytes two_bytes
-  span_written l span =
-      sets_four
-      l
-      (head span)
-      districts
-      rings
-      meshes
-      7
-      (7 + 5 * growth.components)
-      (7 + 5 * (growth.components + growth.bridge_blocks))
+  pub span_written : (l : List ℕ) (number p q : ℕ) → p ≡ 7 + 5 * growth.components → q ≡ p + 5 * growth.bridge_blocks
+      → sets (sets (sets (sets l 0 (head number)) 7 districts) p rings) q meshes
+      ≡ sets l 0 (answer_bytes (span_added number growth.block.0 (growth_notices shape t growth)))
+  unfolding two_bytes
+  span_written l number p q first second =
+      sets_four l (head number) districts rings meshes 7 p q
       refl
-      (omega (arith, length_told_lem district shape t growth.components))
-      (omega (arith, length_told_lem ring shape t growth.bridge_blocks))
-      ∙ ap (λ (b : List ℕ). sets l 0 b) (span_bytes_lem span)
+      (omega (arith, first, length_told_lem district shape t growth.components))
+      (omega (arith, second, length_told_lem ring shape t growth.bridge_blocks))
+      ∙ ap (λ (b : List ℕ). sets l 0 b) (span_bytes_lem number)
 
 -- an answer that fits is written over the front of the buffer
 pub reply_written : (shape : Shape) (t : List ℕ) (reply : Reply) (out : List ℕ) → reply_size reply ≤ length out

@@ -6,8 +6,7 @@ ghost use Rattle.writing.specs.Inside.Items.{each_bytes, length_two_bytes};
 
 use storing::put_two;
 
-// What an answer has many of: its bytes, which are always as many, and how they are stored from a place on. The place is told, and not the
-// tail lent, since promises speak of one run of stores in the whole buffer.
+// What an answer has many of: its bytes, which are always as many, and how they are stored from a place on.
 pub(crate) trait Item: Copy {
     ghost bytes: { Self → List ℕ };
 
@@ -37,15 +36,22 @@ impl Item for u32 {
     }
 }
 
-// Stores the items that a closure gives for 0, 1, .., one behind another from a place on.
-pub(crate) fn put_items<T: Item, F: Fn(u32) -> T>(out: &mut [u8], at: usize, count: u32, item: F)
+// Stores the items that a closure gives for 0, 1, .., one behind another from a place on, and gives the place behind them.
+pub(crate) fn put_items<T: Item, F: Fn(u32) -> T>(
+    out: &mut [u8],
+    at: usize,
+    count: u32,
+    item: F,
+) -> usize
     requires callable { F.IsAlwaysCallable item }
     requires room { at + T.WIDTH * count ≤ length out.old }
-    ensures { (f : ℕ → List ℕ) → ((i : ℕ) → i < count → (x : T) → F.post item i x → T.bytes x ≡ f i) → out.new ≡ sets out.old at (each_bytes f count) }
+    ensures place { result ≡ at + T.WIDTH * count }
+    ensures stored { (f : ℕ → List ℕ) → ((i : ℕ) → i < count → (x : T) → F.post item i x → T.bytes x ≡ f i) → out.new ≡ sets out.old at (each_bytes f count) }
 {
     let mut next = at;
     for i in 0..count {
         item(i).put(out, next);
         next += T::WIDTH;
     }
+    next
 }

@@ -1,8 +1,7 @@
 // Writing the answer to 0C: two routes that are written down in the table.
-ghost use Rattle.std.specs.Prelude.{map, ◌≡◌, ◌+◌, ◌*◌, ◌≤◌, length};
+ghost use Rattle.std.specs.Prelude.{◌≡◌, ◌+◌, ◌*◌, ◌≤◌, length};
 ghost use Rattle.std.proofs.lemmas.List.Edits.{sets};
 ghost use Rattle.graph.specs.Below.{tabulate};
-ghost use Rattle.commands.specs.Field.{span};
 ghost use Rattle.commands.specs.Answer.{plain, answer_bytes};
 ghost use Rattle.routes.specs.Promise.{edge_at};
 ghost use Rattle.step.specs.Promise.{routes_told};
@@ -13,13 +12,14 @@ use forest::Table;
 use routes::{Lengths, Route, edge_at};
 use storing::{put_byte, put_two};
 
-// The count of a route's spans, and the spans, from a place on.
-fn put_route(t: &Table, out: &mut [u8], route: Route, count: u32, from: usize)
+// The count of a route's spans, and the spans, from a place on. Gives the place behind them.
+fn put_route(t: &Table, out: &mut [u8], route: Route, count: u32, from: usize) -> usize
     requires { from + 2 + 2 * count ≤ length out.old }
-    ensures { out.new ≡ sets out.old from (route_bytes (tabulate count (edge_at t.now.shape t.now.words.now route))) }
+    ensures place { result ≡ from + 2 + 2 * count }
+    ensures stored { out.new ≡ sets out.old from (route_bytes (tabulate count (edge_at t.now.shape t.now.words.now route))) }
 {
     put_two(out, from, count);
-    put_items(out, from + 2, count, |i| edge_at(t, route, i).0);
+    put_items(out, from + 2, count, |i| edge_at(t, route, i).0)
 }
 
 // The answer to 0C: the one route behind the other.
@@ -29,12 +29,6 @@ pub(crate) fn write_routes(t: &Table, out: &mut [u8], lengths: Lengths)
     ensures { out.new ≡ sets out.old 0 (answer_bytes (plain (routes_told t.now.shape t.now.words.now lengths))) }
 {
     put_byte(out, 0, 0x8C);
-    put_route(t, out, Route::First, lengths.first, 1);
-    put_route(
-        t,
-        out,
-        Route::Second,
-        lengths.second,
-        3 + 2 * (lengths.first as usize),
-    );
+    let second = put_route(t, out, Route::First, lengths.first, 1);
+    put_route(t, out, Route::Second, lengths.second, second);
 }

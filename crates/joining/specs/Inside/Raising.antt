@@ -1,8 +1,7 @@
 -- The second journal as it is stored, command by command.
-use Rattle.std.specs.Prelude.{List, [], ◌∷◌, ◌++◌, map, ◌≡◌, ℕ, ◌+◌, ◌≤◌, ◌<◌, length, drop}
+use Rattle.std.specs.Prelude.{List, map, ◌≡◌, ℕ, ◌+◌, ◌≤◌, ◌<◌, length, drop}
 use Rattle.std.proofs.Math.Option.{none}
 use Rattle.std.proofs.lemmas.List.Edits.{sets}
-use Rattle.commands.specs.Bytes.{two_bytes}
 use Rattle.commands.specs.Text.{text_from, journal_bytes}
 use Rattle.commands.specs.Join.{Counts, raise_command}
 use Rattle.reading.specs.declared.read.Order.{Order}
@@ -25,11 +24,6 @@ Fits (O.RoutesBetween a b) = (a.0 < 65536) × (b.0 < 65536)
 Fits (O.RecordLength s measure) = s.0 < 65536
 Fits (O.SpanLength s) = s.0 < 65536
 Fits O.ExchangeShare = Unit
-
--- The bytes of a command's operands, in order.
-abbrev pub operand_bytes : List ℕ → List ℕ
-operand_bytes [] = []
-operand_bytes (x ∷ operands) = two_bytes x ++ operand_bytes operands
 
 -- The bytes of the commands from a place of a journal on, raised.
 abbrev pub raised_from : Counts → List ℕ → ℕ → List ℕ

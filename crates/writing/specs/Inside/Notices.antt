@@ -1,5 +1,5 @@
 -- The notices in the code's own types.
-use Rattle.std.specs.Prelude.{List, ◌∷◌, ◌++◌, ℕ, ◌≡◌, length, refl}
+use Rattle.std.specs.Prelude.{◌≡◌, length, refl}
 use Rattle.commands.specs.Bytes.{two_bytes}
 use Rattle.commands.specs.Field as Paper
 use Rattle.commands.specs.Field.{district, ring, mesh, field_bytes, fields_bytes}
@@ -28,7 +28,3 @@ unfolding notice_of notice_fields item_field fields_bytes field_bytes two_bytes
 length_notice (N.District c) = refl
 length_notice (N.Ring c) = refl
 length_notice (N.Mesh c) = refl
-
--- The number of an added span, its mesh name and the count of its notices.
-unfoldable pub head_bytes : ℕ → ℕ → ℕ → List ℕ
-head_bytes span name total = 0x82 ∷ two_bytes span ++ two_bytes name ++ two_bytes total

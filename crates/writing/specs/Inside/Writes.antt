@@ -1,26 +1,9 @@
 -- The codes and fields of answers without notices.
 use Rattle.std.specs.Prelude.{Option, None, Some, List, ◌∷◌, map, ◌++◌, ℕ, length}
 use Rattle.commands.specs.Bytes.{two_bytes}
-use Rattle.commands.specs.Field.{Field, cabinet, span, fields_bytes}
+use Rattle.commands.specs.Field.{span, fields_bytes}
 use Rattle.numbers.specs.declared.Edge.{Edge}
-use Rattle.forest.specs.declared.VertexGroups.{VertexGroups}
-use Rattle.forest.specs.declared.VertexGroups.TheVariants as G
-use Rattle.step.specs.declared.Listed.{Listed}
-use Rattle.step.specs.declared.Listed.TheVariants as L
-
--- The codes of the answers to 03 and 04.
-unfoldable pub group_code : VertexGroups → ℕ
-group_code G.Components = 0x83
-group_code G.BridgeBlocks = 0x84
-
--- The codes of the answers to 06 and 07, and what their lists hold.
-unfoldable pub list_code : Listed → ℕ
-list_code L.Spans = 0x86
-list_code L.Cabinets = 0x87
-
-unfoldable pub list_field : Listed → ℕ → Field
-list_field L.Spans n = span n
-list_field L.Cabinets n = cabinet n
+use Rattle.writing.specs.Inside.Items.{each_bytes}
 
 -- The number of an edge, if there is one.
 abbrev pub number_of : Option Edge → Option ℕ
@@ -31,6 +14,10 @@ number_of None = None
 unfoldable pub option_bytes : ℕ → Option ℕ → List ℕ
 option_bytes code (Some n) = code ∷ 1 ∷ two_bytes n
 option_bytes code None = code ∷ 0 ∷ two_bytes 0
+
+-- The answers to 06 and 07: a byte, a count and as many numbers.
+unfoldable pub list_bytes : ℕ → (ℕ → ℕ) → ℕ → List ℕ
+list_bytes code f count = code ∷ two_bytes count ++ each_bytes (λ i. two_bytes (f i)) count
 
 -- A route in the answer to 0C: the count of its spans, and the spans.
 unfoldable pub route_bytes : List ℕ → List ℕ

@@ -25,7 +25,7 @@ loop-i-preserved g c =
           (given now.i (omega arith) _ c.item.ensures) (g.met.T.Item.counted c.item.result) c.put.ensures;
     }
 
-pub returns : goal.returns
-returns g c = λ f given.
+pub returns-clause-stored : goal.returns-clause-stored
+returns-clause-stored g c = λ f given.
     let e : c.loop-i.i ≡ c.args.count = omega arith in
     rw e at (c.loop-i.invariant.stored f given).stored

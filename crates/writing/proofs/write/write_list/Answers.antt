@@ -1,21 +1,15 @@
--- `write::write_list` writes an answer of a byte, a count and a list that is written down in the table.
-use mathlib.Core.Path.{◌∙◌, ap}
-use Rattle.std.proofs.Common.{rules}
+-- `write::write_list` writes a byte, a count and numbers.
+use mathlib.Core.List.{◌∷◌}
+use mathlib.Core.Path.{◌∙◌, refl, ap}
 use Rattle.commands.specs.Bytes.{two_bytes}
-use Rattle.step.specs.Promise.{item_at}
-use Rattle.writing.proofs.WriteSteps.{list_written}
+use Rattle.storing.proofs.Sets.{sets_behind}
+use Rattle.writing.specs.Inside.Items.{each_bytes}
+use Rattle.writing.specs.Inside.Writes.{list_bytes}
 use Rattle.writing.proofs.write.write_list.Goals as goal
 
-pub returns-in-Spans : goal.returns-in-Spans
-unfolding item_at
-returns-in-Spans c =
-    let at = item_at c.args.list c.args.t.now.shape c.args.t.now.words.now in
-    c.put_items.ensures (λ i. two_bytes (at i)) (λ i h x given. rw c.in-Spans.is (ap two_bytes (search rules)))
-    ∙ rw (c.put_two.ensures, c.put_byte.ensures, c.list_code.ensures) (list_written c.args.list c.args.out.now c.args.count at)
-
-pub returns-in-Cabinets : goal.returns-in-Cabinets
-unfolding item_at
-returns-in-Cabinets c =
-    let at = item_at c.args.list c.args.t.now.shape c.args.t.now.words.now in
-    c.put_items-in-Cabinets.ensures (λ i. two_bytes (at i)) (λ i h x given. rw c.in-Cabinets.is (ap two_bytes (search rules)))
-    ∙ rw (c.put_two.ensures, c.put_byte.ensures, c.list_code.ensures) (list_written c.args.list c.args.out.now c.args.count at)
+pub returns : goal.returns
+unfolding list_bytes two_bytes
+returns g c = λ f given.
+    c.put_items.ensures.stored (λ i. two_bytes (f i)) (λ i h x is. ap two_bytes (given i h x is))
+    ∙ rw c.put_numbers.ensures
+    (sets_behind c.args.out.now 0 3 (c.args.code ∷ two_bytes c.args.count) (each_bytes (λ i. two_bytes (f i)) c.args.count) refl)

@@ -1,0 +1,2 @@
+-- What is stored where several numbers are.
+pub mod Numbers
