@@ -139,10 +139,7 @@ pub fn forecast_of(journal: &[u8]) -> Result<u32, RefusedAt>
     ensures { foretold (length journal.now) result ≡ forecast journal.now }
 {
     if LONGEST < journal.len() {
-        return Err(RefusedAt {
-            refusal: Refusal::LongJournal,
-            place: 0,
-        });
+        return Err(Refusal::LongJournal.into());
     }
     scan(journal)
 }

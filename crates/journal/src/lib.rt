@@ -146,11 +146,7 @@ fn told_of(p: Progress) -> Result<u32, RefusedAt>
 fn count_answers(c: u32, s: u32, journal: &[u8], work: &mut [u32]) -> Result<u32, RefusedAt>
     ensures { Counts (record { cabinets = c; spans = s }) journal.now (foretold (length journal.now) result) work.old work.new }
 {
-    // a match and no `map_err` with `?`: with a closure that adds the place the proof has a step more and the text is no plainer
-    let limits = match start(c, s, journal.len(), work.len(), REPORTED) {
-        Ok(limits) => limits,
-        Err(refusal) => return Err(RefusedAt { refusal, place: 0 }),
-    };
+    let limits = start(c, s, journal.len(), work.len(), REPORTED)?;
     let p = run_unanswered(journal, work, limits);
     clear(work, work_needed(limits));
     told_of(p)

@@ -66,6 +66,15 @@ impl From<Refusal> for u32 {
     }
 }
 
+// A refusal that has no place of its own is told at the journal's start.
+impl From<Refusal> for RefusedAt {
+    ghost from_gives = { λ refusal refused. refused ≡ record { refusal = refusal; place = 0 } };
+
+    fn from(refusal: Refusal) -> RefusedAt {
+        RefusedAt { refusal, place: 0 }
+    }
+}
+
 // What an entry returns: the refusal's number, or 0.
 #[tactic(auto, unfolding(commands::specs::Entry::number_of))]
 pub fn number_of(refusal: Option<Refusal>) -> u32

@@ -136,10 +136,7 @@ fn write_within(journal: &[u8], out: &mut [u8], length: usize) -> Result<u32, Re
     ensures { Rewrote journal.now out.old out.new result }
 {
     if LONGEST < length || out.len() < length {
-        return Err(RefusedAt {
-            refusal: Refusal::LongResult,
-            place: 0,
-        });
+        return Err(Refusal::LongResult.into());
     }
     write(journal, out);
     Ok(length as u32)
