@@ -10,7 +10,8 @@ use table::words::{DEPTH, NAME, PATH_EDGE, PATH_VERTEX, RIGHT_EDGE, RIGHT_VERTEX
 // How many steps of a climb nest in one another at most: what bounds the stack. A climb of no more steps is one nest of calls.
 const NESTED: u32 = 12;
 
-// Two vertices on their ways up, and how many steps each side has made.
+// Two vertices on their ways up, and how many steps each side has made. Which side a step is on is told by a bool, that it is the right
+// one, since it comes from a comparison of depths, and the definitions tell it so.
 #[derive(Clone, Copy)]
 pub struct Trail {
     pub a: Vertex,
@@ -26,13 +27,11 @@ pub struct Route {
     pub top: Vertex,
 }
 
-// An edge of the block above the vertex; none at a root. The table has one more than the edge's number, and 0 at a root.
+// An edge of the block above the vertex; none at a root.
 pub(crate) fn up(t: &Table, x: Vertex) -> Option<Edge>
     ensures { MatchOption result (up_of t.now.words.now t.now.shape.limits x.0 ≡ 0) (λ e. (up_of t.now.words.now t.now.shape.limits x.0 ≡ e.0 + 1) × (e.0 < 4294967295)) }
 {
-    t.word(t.vertex_area(), UP, x.0)
-        .checked_sub(1)
-        .map(|e| Edge(e))
+    Edge::in_word(t.word(t.vertex_area(), UP, x.0))
 }
 
 // A number that falls on the way up.
@@ -156,7 +155,8 @@ fn goes_on(r: Trail, remaining: u32) -> bool
     0 < remaining && r.a != r.b
 }
 
-// The whole climb: where the path is longer than one nest of calls, the next nest takes it up where the one before has come.
+// The whole climb: where the path is longer than one nest of calls, the next nest takes it up where the one before has come. It is a `while`,
+// since it ends where the two sides meet, and the last nest is of fewer steps.
 #[tactic(auto, using(crate::proofs::ClimbSteps::climb_stays, crate::proofs::ClimbSteps::steps_left_lem))]
 fn climb_on(t: &mut Table, start: Trail, steps: u32) -> Trail
     requires { start.left + start.right + steps < 4294967295 }
@@ -215,7 +215,7 @@ fn join(t: &mut Table, kept: u32, right: u32)
 fn reach_of(t: &Table, a: Vertex, b: Vertex) -> u32
     ensures { result ≡ reach t.now.words.now t.now.shape.limits a.0 b.0 }
 {
-    let both = (depth(t, a) as u64) + (depth(t, b) as u64);
+    let both = u64::from(depth(t, a)) + u64::from(depth(t, b));
     both.min(2147483648) as u32
 }
 

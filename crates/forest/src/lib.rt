@@ -28,7 +28,8 @@ use table::words::{
     WORDS_PER_VERTEX,
 };
 
-// The two kinds of groups of vertices.
+// The two kinds of groups of vertices. A kind is told by a value, and not by a closure, since the promises name a kind's groups, names and
+// changes by it.
 #[derive(Clone, Copy)]
 pub enum VertexGroups {
     Components,
@@ -77,8 +78,8 @@ pub struct Network<'a> {
 pub fn words_needed(limits: Limits) -> usize
     ensures { result ≡ words_needed limits }
 {
-    (limits.vertices as usize) * (WORDS_PER_VERTEX as usize)
-        + (limits.edges as usize) * (WORDS_PER_EDGE as usize)
+    usize::from(limits.vertices) * (WORDS_PER_VERTEX as usize)
+        + usize::from(limits.edges) * (WORDS_PER_EDGE as usize)
 }
 
 // Sets the first `count` words to 0, or all where there are fewer.
@@ -293,6 +294,9 @@ impl Network<'_> {
     }
 }
 
+// What is told of vertices below, and what is told of edges, are functions of their own, here as above: the numbers of the two are types of
+// their own, and stand in columns of their own.
+//
 // The words of a kind of groups of vertices.
 fn area_of(t: &Table, groups: VertexGroups) -> Area
     ensures { result ≡ group_area t.now.shape.limits groups }

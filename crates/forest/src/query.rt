@@ -64,7 +64,8 @@ pub(crate) fn lost_together(t: &Table, s: Edge, other: Edge) -> bool
     duct_of(t, s) == duct_of(t, other) && ends_agree(ends_of(t, s), ends_of(t, other))
 }
 
-// Vertex x hangs below a block, and y is the vertex above that block.
+// Vertex x hangs below a block, and y is the vertex above that block. It is a `match`, since with `is_some_and` the check does not see what
+// holds of the edge.
 #[tactic(auto, unfolding(crate::specs::Inside::Queries::hangs_from))]
 fn hangs_from(t: &Table, x: Vertex, y: Vertex) -> bool
     ensures { result ≡ hangs_from t.now.words.now t.now.shape.limits x.0 y.0 }

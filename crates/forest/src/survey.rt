@@ -28,7 +28,7 @@ fn is_surveyed(t: &Table, s: Edge) -> bool
 fn is_replaced(t: &Table, s: Edge, day: u16) -> bool
     ensures { result ≡ is_replaced t.now.words.now t.now.shape.limits s.0 day }
 {
-    !is_surveyed(t, s) || t.word(t.edge_area(), SURVEY, s.0) / 65536 < (day as u32)
+    !is_surveyed(t, s) || t.word(t.edge_area(), SURVEY, s.0) / 65536 < u32::from(day)
 }
 
 // Keeps a survey of an edge.
@@ -37,7 +37,7 @@ fn store_survey(t: &mut Table, s: Edge, measure: Measure)
     ensures words { t.new.words.now ≡ survey_stored t.old.words.now t.old.shape.limits s.0 measure.day measure.metres }
     ensures same { IsSame t.old t.new }
 {
-    let kept = (measure.day as u32) * 65536 + (measure.metres as u32);
+    let kept = u32::from(measure.day) * 65536 + u32::from(measure.metres);
     let flagged = 65536 + duct_of(t, s);
     t.set_word(t.edge_area(), SURVEY, s.0, kept);
     t.set_word(t.edge_area(), DUCT, s.0, flagged);

@@ -72,7 +72,8 @@ pub(crate) fn mark_vertex(t: &mut Table, x: Vertex)
     t.set_word(t.vertex_area(), MARK, x.0, 1);
 }
 
-// Raises the depths of the vertices written down as changed.
+// Raises the depths of the vertices written down as changed. The words are named once, before the loop, since each store would have them read
+// anew.
 #[tactic(auto, using(crate::proofs::TreeSteps::raise_step, crate::proofs::TreeSteps::raise_end))]
 fn raise(t: &mut Table, changed: u32, by: u32)
     ensures words { t.new.words.now ≡ raise_from changed t.old.words.now t.old.shape.limits by 0 }
@@ -97,7 +98,7 @@ fn turn_one(t: &mut Table, s: Turning) -> Option<Turning>
 {
     let at = s.at;
     let above = up(t, at);
-    t.set_word(t.vertex_area(), UP, at.0, s.by.0 + 1);
+    t.set_word(t.vertex_area(), UP, at.0, s.by.to_word());
     t.set_word(t.vertex_area(), DEPTH, at.0, s.depth);
     let e = above?;
     let block = block_of(t, e);
@@ -253,7 +254,7 @@ fn store_edge(t: &mut Table, e: Edge, a: Vertex, b: Vertex, duct: Duct)
 {
     let ends = (a.0 % 65536) * 65536 + b.0 % 65536;
     t.set_word(t.edge_area(), ENDS, e.0, ends);
-    t.set_word(t.edge_area(), DUCT, e.0, duct.0 as u32);
+    t.set_word(t.edge_area(), DUCT, e.0, u32::from(duct.0));
 }
 
 // One edge more, between two different vertices, in a duct, which is 0 where none is told.

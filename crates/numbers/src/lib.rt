@@ -2,6 +2,8 @@
 // edges a table has words for, and how many it holds.
 #![tactic(auto)]
 
+ghost use Rattle.std.specs.Prelude.{MatchOption, ◌≡◌, ◌+◌, ◌<◌};
+
 // The number of a vertex. Component and bridge-block names are vertices.
 #[derive(Clone, Copy, PartialEq, Eq)]
 pub struct Vertex(pub u32);
@@ -9,6 +11,23 @@ pub struct Vertex(pub u32);
 // The number of an edge. Block names are edges.
 #[derive(Clone, Copy, PartialEq, Eq)]
 pub struct Edge(pub u32);
+
+impl Edge {
+    // The edge that a word tells: 0 where there is none, and else one more than its number.
+    pub fn in_word(word: u32) -> Option<Edge>
+        ensures { MatchOption result (word ≡ 0) (λ e. (word ≡ e.0 + 1) × (e.0 < 4294967295)) }
+    {
+        word.checked_sub(1).map(|e| Edge(e))
+    }
+
+    // The word that tells this edge.
+    pub fn to_word(self) -> u32
+        requires { self.0 < 4294967295 }
+        ensures { result ≡ self.0 + 1 }
+    {
+        self.0 + 1
+    }
+}
 
 // The number of a duct; 0 where none is told.
 #[derive(Clone, Copy, PartialEq, Eq)]

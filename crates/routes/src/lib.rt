@@ -31,7 +31,7 @@ pub(crate) const ORDER: u8 = 2;
 
 pub(crate) const FIRST: u8 = 3;
 
-// Which of the two routes.
+// Which of the two routes. It is told by a value, and not by a closure, since it says where a route stands, and not what is to be done.
 #[derive(Clone, Copy, PartialEq, Eq)]
 pub enum Route {
     First,

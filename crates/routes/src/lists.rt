@@ -9,13 +9,6 @@ use crate::HEAD;
 use forest::{Ends, Network, Table, edge_scratch, vertex_scratch};
 use numbers::{Edge, Vertex};
 
-// The edge of an entry's word.
-pub(crate) fn entry_of(word: u32) -> Option<Edge>
-    ensures { entry_number result ≡ word }
-{
-    word.checked_sub(1).map(|s| Edge(s))
-}
-
 // Clears a column of the vertices.
 #[tactic(auto, using(forest::specs::Promise::vertices_fit, crate::proofs::ListsSteps::cleared_next))]
 pub(crate) fn clear_column(n: &mut Network, column: u8)
@@ -39,8 +32,9 @@ fn enter_edge(n: &mut Network, s: Edge)
     let left = vertex_scratch(&n.table, HEAD, ends.left) % 16384;
     let right = vertex_scratch(&n.table, HEAD, ends.right) % 16384;
     n.set_edge_scratch(s, left * 65536 + right * 4);
-    n.set_vertex_scratch(HEAD, ends.left, s.0 + 1);
-    n.set_vertex_scratch(HEAD, ends.right, s.0 + 1);
+    let entry = s.to_word();
+    n.set_vertex_scratch(HEAD, ends.left, entry);
+    n.set_vertex_scratch(HEAD, ends.right, entry);
 }
 
 // Builds the lists: first every list is empty, and then the edges are entered, from the first to the last.
@@ -87,9 +81,9 @@ pub(crate) fn entry_behind(n: &Network, x: Vertex, s: Edge) -> Option<Edge>
     let ends = n.ends_of(s);
     let entries = edge_scratch(&n.table, s) / 4;
     if ends.left == x {
-        entry_of((entries / 16384).min(s.0))
+        Edge::in_word((entries / 16384).min(s.0))
     } else {
-        entry_of((entries % 16384).min(s.0))
+        Edge::in_word((entries % 16384).min(s.0))
     }
 }
 
@@ -97,5 +91,5 @@ pub(crate) fn entry_behind(n: &Network, x: Vertex, s: Edge) -> Option<Edge>
 pub(crate) fn first_entry(t: &Table, x: Vertex) -> Option<Edge>
     ensures { entry_number result ≡ min (vertex_scratch t.now.shape t.now.words.now head_column x.0) t.now.shape.edges }
 {
-    entry_of(vertex_scratch(t, HEAD, x).min(t.shape.edges))
+    Edge::in_word(vertex_scratch(t, HEAD, x).min(t.shape.edges))
 }

@@ -61,7 +61,7 @@ fn reach(n: &mut Network, x: Vertex, s: Edge, found: u32) -> u32
     ensures same { IsSame n.old.table n.new.table }
 {
     if found < n.table.shape.vertices {
-        n.set_vertex_scratch(NEXT, x, s.0 + 1);
+        n.set_vertex_scratch(NEXT, x, s.to_word());
         n.set_vertex_scratch(ORDER, Vertex(found), x.0);
         return found + 1;
     }
@@ -114,7 +114,8 @@ fn turn(n: &mut Network, allowance: Allowance, i: u32, found: u32) -> u32
     found
 }
 
-// No vertex is reached but the goal.
+// No vertex is reached but the goal. There is no step from the goal, and its word, which is 1, tells only that it is reached; so whether a
+// vertex is reached is asked of its word, and not of the edge that the word tells.
 #[tactic(auto, using(forest::specs::Promise::vertices_fit))]
 fn begin_search(n: &mut Network, b: Vertex)
     requires { b.0 < n.old.table.shape.vertices }

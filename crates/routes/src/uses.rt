@@ -3,7 +3,8 @@ ghost use Rattle.std.specs.Prelude.{◌≡◌, ◌%◌, leb};
 ghost use Rattle.routes.specs.Inside.Lists.{bits_of, used_along};
 ghost use Rattle.routes.specs.Inside.Walks.{taken_use, mates_use};
 
-// How an edge is used: neither it nor a mate of it is, or a mate but not the edge is, or it is, from its left end or from its right.
+// How an edge is used: neither it nor a mate of it is, or a mate but not the edge is, or it is, from its left end or from its right. Which end
+// a step is from is told by a bool, that it is the left one, since it comes from a comparison of vertices, and the definitions tell it so.
 #[derive(Clone, Copy, PartialEq, Eq)]
 pub(crate) enum Use {
     Free,

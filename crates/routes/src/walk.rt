@@ -4,7 +4,7 @@ ghost use Rattle.forest.specs.Promise.{IsSame, network_in};
 ghost use Rattle.routes.specs.Inside.Frame.{column_of};
 ghost use Rattle.routes.specs.Inside.Walks.{WayWritten, is_other_mate, UsesSet, MatesSet, StepDone, WayDone, TakesBack};
 
-use crate::lists::{entry_behind, entry_of, far_end, first_entry};
+use crate::lists::{entry_behind, far_end, first_entry};
 use crate::uses::Use;
 use crate::{NEXT, Route, edge_at};
 use forest::{Network, Table, edge_scratch, vertex_scratch};
@@ -21,7 +21,7 @@ pub(crate) fn write_way(n: &mut Network, route: Route, a: Vertex, b: Vertex) -> 
         if x == b {
             return i;
         }
-        let Some(s) = entry_of(vertex_scratch(&n.table, NEXT, x)) else {
+        let Some(s) = Edge::in_word(vertex_scratch(&n.table, NEXT, x)) else {
             return i;
         };
         n.set_vertex_scratch(route.column(), Vertex(i), s.0);

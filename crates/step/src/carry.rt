@@ -51,7 +51,8 @@ fn shared_mesh(n: &Network, a: Vertex, b: Vertex) -> Reply
     Reply::Found(Finding::Mesh(n.shared_block(a, b)))
 }
 
-// 06: the sole spans between two cabinets.
+// 06: the sole spans between two cabinets. This and the next are functions of their own, as each command is, since each promises what its
+// command's definition says.
 fn sole_spans(n: &mut Network, a: Vertex, b: Vertex) -> Reply
     requires { (a.0 < n.old.table.shape.vertices) × (b.0 < n.old.table.shape.vertices) × (component (network_in n.old.table.shape n.old.table.words.now) a.0 b.0 ≡ true) }
     ensures { CarriedIn (sole_spans a.0 b.0) n.old n.new result }

@@ -14,14 +14,15 @@ pub(crate) fn ring_holds_exchange(n: &Network, a: Vertex) -> bool
     0 < n.marks_with(a)
 }
 
-// How many cabinets have a ring that holds an exchange: one pass over them.
+// How many cabinets have a ring that holds an exchange: one pass over them. It is a sum in a loop, since a filtered range that is counted takes
+// more than twice the time.
 fn with_exchange(n: &Network) -> u32
     ensures { result ≡ with_exchange (state_of n.now.table.shape n.now.table.words.now) }
 {
     let mut found: u32 = 0;
     for i in 0..n.table.shape.vertices {
         let held = ring_holds_exchange(n, Vertex(i));
-        found += held as u32;
+        found += u32::from(held);
     }
     found
 }
@@ -40,7 +41,7 @@ fn thousandths_of(part: u32, whole: u32) -> u32
     let up = if twice_over == whole {
         below % 2
     } else {
-        (whole < twice_over) as u32
+        u32::from(whole < twice_over)
     };
     below + up
 }

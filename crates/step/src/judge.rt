@@ -81,7 +81,8 @@ fn new_span(n: &Network, a: Vertex, b: Vertex, duct: Option<Duct>) -> Result<(),
     )
 }
 
-// 6, then 10: the two cabinets are in two districts.
+// 6, then 10: the two cabinets are in two districts. That they are in one, and in one ring, is asked by a function each: what is demanded
+// before and what it is refused by differ too.
 fn share_district(n: &Network, a: Vertex, b: Vertex) -> Result<(), Refusal>
     ensures { result ≡ share_district n.now.table.shape n.now.table.words.now a.0 b.0 }
 {

@@ -18,7 +18,8 @@ use reading::read::Order;
 use refusals::Refusal;
 use routes::Lengths;
 
-// Which list the table has written down.
+// Which list the table has written down. It is told by a value, and not by a closure, since a reply is a value that the answer is written by
+// later.
 #[derive(Clone, Copy)]
 pub enum Listed {
     Spans,

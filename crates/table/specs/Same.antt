@@ -1,4 +1,5 @@
--- What no store changes.
+-- What no store changes. Of a struct that is lent its caller knows afterwards only what is promised, so each function that stores promises
+-- this too.
 use Rattle.std.specs.Prelude.{◌≡◌}
 use Rattle.table.specs.declared.words.Table.{Table}
 

@@ -79,7 +79,7 @@ pub struct Table<'a> {
 fn place_of(area: Area, column: u8, item: u32) -> usize
     ensures { result ≡ place area column item }
 {
-    (area.base as usize) + (column as usize) * (area.size as usize) + (item as usize)
+    (area.base as usize) + usize::from(column) * usize::from(area.size) + (item as usize)
 }
 
 impl Table<'_> {
@@ -101,7 +101,7 @@ impl Table<'_> {
         ensures { result ≡ bridge_block_area self.now.shape.limits }
     {
         Area {
-            base: (self.shape.limits.vertices as u32) * (COMPONENT_COLUMNS as u32),
+            base: u32::from(self.shape.limits.vertices) * u32::from(COMPONENT_COLUMNS),
             size: self.shape.limits.vertices,
             columns: BRIDGE_BLOCK_COLUMNS,
         }
@@ -112,7 +112,7 @@ impl Table<'_> {
         ensures { result ≡ edge_area self.now.shape.limits }
     {
         Area {
-            base: (self.shape.limits.vertices as u32) * WORDS_PER_VERTEX,
+            base: u32::from(self.shape.limits.vertices) * WORDS_PER_VERTEX,
             size: self.shape.limits.edges,
             columns: BLOCK_COLUMNS,
         }
@@ -124,11 +124,7 @@ impl Table<'_> {
         ensures { result ≡ cell self.now.words.now area column item }
     {
         let at = place_of(area, column, item);
-        if at < self.words.len() {
-            self.words[at]
-        } else {
-            0
-        }
+        self.words.get(at).copied().unwrap_or(0)
     }
 
     // The word of the item behind an item, in a column; 0 where the table has no such word.
@@ -137,11 +133,7 @@ impl Table<'_> {
         ensures { result ≡ cell self.now.words.now area column (suc item) }
     {
         let at = place_of(area, column, item) + 1;
-        if at < self.words.len() {
-            self.words[at]
-        } else {
-            0
-        }
+        self.words.get(at).copied().unwrap_or(0)
     }
 
     // Stores the word of an item in a column; nothing where the table has no such word.

@@ -12,5 +12,5 @@ returns-clause-entered c =
     c.ends_of-ends.ensures.right
     (rw (c.vertex_scratch-left.ensures, c.vertex_scratch-right.ensures))
     c.set_edge_scratch.ensures.stored
-    (rw same at c.set_vertex_scratch.ensures.stored)
-    (rw (c.set_vertex_scratch.ensures.same.shape ∙ same) at c.set_vertex_scratch-2.ensures.stored)
+    (rw (c.to_word-entry.ensures, same) at c.set_vertex_scratch.ensures.stored)
+    (rw (c.to_word-entry.ensures, c.set_vertex_scratch.ensures.same.shape ∙ same) at c.set_vertex_scratch-2.ensures.stored)

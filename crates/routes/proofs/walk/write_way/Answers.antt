@@ -33,7 +33,7 @@ returns-in_default-clause-written c =
       written = λ g f is o n e short.
           absurd (step_stands o (now.invariant.1 g f is o n e) c.args.n.now.table.words.now is n (column_above c.args.route) now.invariant.0
           (eqb_ne _ _ (sym c.eq.ensures ∙ c.if-eq.false))
-          (sym (rw now.invariant.2.shape at c.vertex_scratch.ensures) ∙ sym c.in_default.ensures));
+          (sym (rw now.invariant.2.shape at c.vertex_scratch.ensures) ∙ c.in_default.ensures));
     }
 
 pub loop-i-preserved : goal.loop-i-preserved
@@ -45,7 +45,7 @@ loop-i-preserved c =
       λ g f is o n e.
           write_goes_on o (now.invariant.1 g f is o n e) c.args.n.now.table.words.now _ c.in-Some.s.0 is n (column_above c.args.route) (column_known c.args.route)
           (omega arith) now.invariant.0 (eqb_ne _ _ (sym c.eq.ensures ∙ c.if-eq.false))
-          (c.in-Some.ensures ∙ rw same at c.vertex_scratch.ensures) stored
+          (omega (arith, c.in-Some.ensures.0, rw same at c.vertex_scratch.ensures)) stored
           c.far_end-x.result.0 (rw (c.set_vertex_scratch.ensures.same.shape ∙ same) at c.far_end-x.ensures),
       search rules,
     )

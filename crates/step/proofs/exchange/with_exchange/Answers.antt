@@ -22,7 +22,7 @@ overflow_add-found c =
     }
 
 pub loop-i-preserved : goal.loop-i-preserved
-loop-i-preserved c = counted_next _ _ _ _ c.loop-i.invariant c.ring_holds_exchange-held.ensures
+loop-i-preserved c = rw c.from-found.ensures (counted_next _ _ _ _ c.loop-i.invariant c.ring_holds_exchange-held.ensures)
 
 pub returns : goal.returns
 returns c = all_counted _ _ _ _ (omega arith) c.loop-i.invariant
