@@ -123,7 +123,7 @@ fn three_operands(byte: u8, operands: [u16; 3]) -> Order
     }
 }
 
-// What stands at a place of the journal.
+// What stands at a place of the journal. (The byte decides all that follows: an arm for each number of operands.)
 #[tactic(auto, using(crate::proofs::ReadSteps::read_unknown), unfolding(commands::specs::Command::forms, commands::specs::Command::form, commands::specs::Command::read_command, commands::specs::Command::read_form, crate::specs::Inside::Reads::reading_of, crate::specs::Inside::Reads::meaning))]
 pub(crate) fn take_at(journal: &[u8], at: usize) -> Result<Taken<Order>, Unread>
     requires { at < length journal.now }
@@ -201,7 +201,7 @@ fn pass_over(journal: &[u8], byte: u8, from: usize, entry: u8) -> Result<Taken<u
 }
 
 // What stands at a place of the journal, the operands passed over: of a command its byte. The commands that come in long rows have arms of
-// their own.
+// their own, which is faster on such rows.
 #[tactic(auto, using(crate::proofs::ReadSteps::read_unknown, crate::proofs::ReadSteps::widths_are), unfolding(commands::specs::Command::forms, commands::specs::Command::form, commands::specs::Command::read_command, commands::specs::Command::read_form, crate::specs::Inside::Reads::form_width, crate::specs::Inside::Reads::entry_width, crate::specs::Inside::Reads::passing_of, crate::specs::Inside::Reads::pass_over))]
 pub(crate) fn pass_at(journal: &[u8], at: usize) -> Result<Taken<u8>, Unread>
     requires { at < length journal.now }

@@ -10,7 +10,9 @@ pub const WORDS_PER_VERTEX: u32 = 24;
 
 pub const WORDS_PER_EDGE: u32 = 8;
 
-// A column is a number and no enum, since it is a place in the layout that is counted, added and looped over.
+// A column is a number and no enum, since it is a place in the layout that is counted, added and looped over. A word that has two numbers of 16
+// bits is put together and taken apart by `* 65536 +`, `/` and `%` where it is used: the definitions say it so, and whether a number is cut to its
+// 16 bits differs from word to word.
 //
 // The columns of each kind of group: an item's name; by a name, the range of its group's items; the items that changed their name; by a
 // name, its group's size. From SIZE on, up to the last column of the kind, merging adds up what groups have.
