@@ -1,6 +1,6 @@
 // The words of the working table, laid out column by column: first the columns of the vertices, then those of the edges. The numbers
 // below stand in specs/Inside/Column too, by which the contracts speak.
-ghost use Rattle.std.specs.Prelude.{◌≡◌, suc};
+ghost use Rattle.std.specs.Prelude.{◌≡◌, suc, slice_index};
 ghost use Rattle.table.specs.Inside.Layout.{place, cell, put, vertex_area, bridge_block_area, edge_area};
 
 use numbers::Shape;
@@ -120,13 +120,23 @@ impl Table<'_> {
         }
     }
 
+    // The word at a place; 0 where the table has no such word.
+    fn word_at(&self, at: usize) -> u32
+        ensures { result ≡ slice_index self.now.words.now at }
+    {
+        if at < self.words.len() {
+            self.words[at]
+        } else {
+            0
+        }
+    }
+
     // The word of an item in a column; 0 where the table has no such word.
     #[tactic(auto, unfolding(crate::specs::Inside::Layout::cell))]
     pub fn word(&self, area: Area, column: u8, item: u32) -> u32
         ensures { result ≡ cell self.now.words.now area column item }
     {
-        let at = place_of(area, column, item);
-        self.words.get(at).copied().unwrap_or(0)
+        self.word_at(place_of(area, column, item))
     }
 
     // The word of the item behind an item, in a column; 0 where the table has no such word.
@@ -134,8 +144,7 @@ impl Table<'_> {
     pub fn word_behind(&self, area: Area, column: u8, item: u32) -> u32
         ensures { result ≡ cell self.now.words.now area column (suc item) }
     {
-        let at = place_of(area, column, item) + 1;
-        self.words.get(at).copied().unwrap_or(0)
+        self.word_at(place_of(area, column, item) + 1)
     }
 
     // Stores the word of an item in a column; nothing where the table has no such word.
