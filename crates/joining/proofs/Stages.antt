@@ -25,7 +25,8 @@ use Rattle.refusals.specs.declared.Refusal.TheVariants.{ShortBuffer, RefusedJour
 use Rattle.refusals.specs.Causes.{cause_of}
 use Rattle.joining.specs.declared.seams.Counts.{Counts}
 use Rattle.joining.specs.declared.seams.Seam.{Seam}
-use Rattle.joining.specs.Promise.{seam_of, ducts_fit, tells_number, tells_length, Joined}
+use Rattle.joining.specs.Promise.{seam_of}
+use Rattle.joining.specs.Told.{ducts_fit, tells_number, tells_length, Joined}
 use Rattle.joining.specs.Inside.Seams.{one_of, look_at, seam_bytes}
 use Rattle.joining.specs.Inside.Alone.{alone_of, both_of, counted_of, CountsBoth}
 use Rattle.joining.specs.Inside.Joined.{Puttable, Stored, put_journals}

@@ -1,6 +1,6 @@
 // The result: both journals stored where it fits, and the seams behind them.
 ghost use Rattle.std.specs.Prelude.{◌≡◌};
-ghost use Rattle.joining.specs.Promise.{Joined};
+ghost use Rattle.joining.specs.Told.{Joined};
 ghost use Rattle.joining.specs.Inside.Joined.{Puttable, put_journals};
 
 use crate::alone::count_both;

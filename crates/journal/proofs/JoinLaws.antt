@@ -16,7 +16,8 @@ use Rattle.commands.specs.Join.{join_capacities, is_refused, joined_bytes, join,
 use Rattle.joining.proofs.JoinExactly.{join_nought_exactly, join_with_nought}
 use Rattle.joining.proofs.JoinedAnswers.{Joinable, answered_joined}
 use Rattle.joining.specs.declared.seams.Seam.{Seam}
-use Rattle.joining.specs.Promise.{seam_of, ducts_fit, tells_number, tells_length, Joined}
+use Rattle.joining.specs.Promise.{seam_of}
+use Rattle.joining.specs.Told.{ducts_fit, tells_number, tells_length, Joined}
 use Rattle.journal.specs.Promise.{JoinPromise}
 use Rattle.journal.proofs.RewriteLaws.{front_of_over}
 

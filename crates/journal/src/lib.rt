@@ -8,7 +8,8 @@ ghost use Rattle.std.specs.Prelude.{OnOk, map, ◌≡◌, ◌<◌, length};
 ghost use Rattle.commands.specs.Entry.{over};
 ghost use Rattle.forecast.specs.Promise.{foretold};
 ghost use Rattle.run.specs.Promise.{six_numbers};
-ghost use Rattle.joining.specs.Promise.{seam_of, tells_number, tells_length};
+ghost use Rattle.joining.specs.Promise.{seam_of};
+ghost use Rattle.joining.specs.Told.{tells_number, tells_length};
 ghost use Rattle.journal.specs.Inside.Start.{Starts};
 ghost use Rattle.journal.specs.Inside.Report.{Reportable};
 ghost use Rattle.journal.specs.Inside.Counted.{told_of, Counts};
@@ -89,7 +90,7 @@ pub fn register_run(
 }
 
 // Tells the length of a result, or a refusal: the number to return, and the length.
-#[tactic(auto, unfolding(joining::specs::Promise::tells_number, joining::specs::Promise::tells_length))]
+#[tactic(auto, unfolding(joining::specs::Told::tells_number, joining::specs::Told::tells_length))]
 fn tell(told: Result<u32, Refusal>, length: &mut u32) -> u32
     ensures { (result ≡ tells_number told) × (length.new ≡ tells_length told) }
 {
@@ -106,7 +107,7 @@ fn tell(told: Result<u32, Refusal>, length: &mut u32) -> u32
 }
 
 // The same of a journal that ends at this place, and a place: the journal's end, or that of the refusal.
-#[tactic(auto, unfolding(joining::specs::Promise::tells_number, joining::specs::Promise::tells_length, forecast::specs::Promise::foretold, commands::specs::Forecast::no_forecast))]
+#[tactic(auto, unfolding(joining::specs::Told::tells_number, joining::specs::Told::tells_length, forecast::specs::Promise::foretold, commands::specs::Forecast::no_forecast))]
 fn tell_at(told: Result<u32, RefusedAt>, end: usize, place: &mut u32, length: &mut u32) -> u32
     requires { OnOk told (end < 4294967296) }
     ensures { record { number = result; place = place.new; length = length.new } ≡ foretold end told }

@@ -8,7 +8,8 @@ use Rattle.refusals.specs.declared.Refusal.{Refusal}
 use Rattle.refusals.specs.declared.Refusal.TheVariants.{BadSeam}
 use Rattle.joining.specs.declared.seams.Counts.{Counts}
 use Rattle.joining.specs.declared.seams.Seam.{Seam}
-unfoldable pub use Rattle.joining.specs.Promise.{seam_of, ducts_fit}
+unfoldable pub use Rattle.joining.specs.Promise.{seam_of}
+unfoldable pub use Rattle.joining.specs.Told.{ducts_fit}
 
 -- What the first network has, in the paper's words.
 unfoldable pub one_of : Counts → Join.Counts
