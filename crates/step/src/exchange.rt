@@ -15,7 +15,7 @@ pub(crate) fn ring_holds_exchange(n: &Network, a: Vertex) -> bool
 }
 
 // How many cabinets have a ring that holds an exchange: one pass over them. It is a sum in a loop, since a filtered range that is counted takes
-// more than twice the time.
+// twice the time.
 fn with_exchange(n: &Network) -> u32
     ensures { result ≡ with_exchange (state_of n.now.table.shape n.now.table.words.now) }
 {

@@ -120,7 +120,7 @@ impl Table<'_> {
         }
     }
 
-    // The word at a place; 0 where the table has no such word.
+    // The word at a place; 0 where the table has no such word. It is a test, since with `get` a pass over all vertices takes a quarter longer.
     fn word_at(&self, at: usize) -> u32
         ensures { result ≡ slice_index self.now.words.now at }
     {
