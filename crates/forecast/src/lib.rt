@@ -29,7 +29,7 @@ fn highest_bit(k: u32) -> u32
 {
     // bound before the loop, so that the loop's invariant can speak of it
     let table = HIGHEST_BITS;
-    // what is left of k above the bytes passed over, and how many bits these have
+    // what is left of k above the bytes passed over, and how many bits these have: the table has one byte, and k up to four
     let mut high = k;
     let mut below = 0;
     while 255 < high {

@@ -17,6 +17,8 @@ use reading::reader::Reader;
 use storing::put_numbers;
 
 impl Counts {
+    // Cabinets and spans have a function each, since their numbers are types of their own, and none is raised by the other's count.
+    //
     // A cabinet of the second network among those of both.
     fn raise_vertex(self, a: Vertex) -> Vertex
         requires { a.0 < 65536 }

@@ -76,6 +76,8 @@ fn operands<const N: usize>(journal: &[u8], from: usize) -> Result<[u16; N], Unr
     Ok(values)
 }
 
+// The commands are made by a function for each number of operands, as the match on the byte below has an arm for each.
+//
 // The command of 03, 04, 08, 09, 0A or 0E.
 #[tactic(auto, unfolding(commands::specs::Command::forms, commands::specs::Command::form, crate::specs::Inside::Reads::made, crate::specs::Inside::Reads::meaning, crate::specs::Inside::Reads::span_command))]
 fn one_operand(byte: u8, operands: [u16; 1]) -> Order

@@ -30,7 +30,7 @@ impl<'a> Reader<'a> {
         take_at(self.journal, self.place)
     }
 
-    // The same, the operands passed over.
+    // The same, the operands passed over: a reading of its own, since the forecast needs no operands and is faster without them.
     pub fn pass(self) -> Result<Taken<u8>, Unread>
         requires { self.place < length self.journal.now }
         ensures { passing_of result ≡ pass_over (get_or self.entry.journal.now self.entry.place 0) (read_command (get_or self.entry.journal.now self.entry.place 0) (drop (self.entry.place + 1) self.entry.journal.now)) }

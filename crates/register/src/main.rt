@@ -39,7 +39,8 @@ fn read_input(from: &mut impl Read, buf: &mut [u8]) -> io::Result<usize>
 }
 
 // Puts what ends the output at the front of the buffer: 80, or FF, the refusal's number in one byte, and its place in four, high
-// byte first. Gives how many bytes that is. (A number and no enum: the program calls the entry as C does.)
+// byte first. Gives how many bytes that is. (A number and no enum: the program calls the entry as C does;
+// its low byte, since the clause holds for whatever number stands for a refusal.)
 fn put_ending(out: &mut [u8], refusal: u32, place: u32) -> usize
     requires { 6 ≤ length out.old }
     ensures { (o : Option Refusal) → refusal ≡ number_of o → Put (ending o place) out.old out.new result }

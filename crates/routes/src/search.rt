@@ -95,6 +95,7 @@ fn look_all(n: &mut Network, allowance: Allowance, y: Vertex, found: u32) -> u32
 {
     let mut reached = found;
     let mut entry = first_entry(&n.table, y);
+    // a list in the words is followed, and no index counted
     while let Some(s) = entry {
         entry = entry_behind(n, y, s);
         reached = look(n, allowance, y, s, reached);

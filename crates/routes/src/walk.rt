@@ -71,6 +71,7 @@ fn set_mates_use(n: &mut Network, x: Vertex, s: Edge, used: Use)
     ensures same { IsSame n.old.table n.new.table }
 {
     let mut entry = first_entry(&n.table, x);
+    // a list in the words is followed, and no index counted
     while let Some(r) = entry {
         set_mate_use(n, s, r, used);
         entry = entry_behind(n, x, r);

@@ -47,7 +47,7 @@ impl Answers for Count {
     ghost goes_on = { λ p order width journal old new reply x y result ready done taken. counted_on ready done taken };
 }
 
-// The whole run.
+// The whole run: the one run, its replies counted, under a promise of its own.
 pub fn run_unanswered(journal: &[u8], work: &mut [u32], limits: Limits) -> Progress
     requires { (limits.vertices ≤ 4096) × (limits.edges ≤ 8192) × (words_needed limits ≤ length work.old) × (length journal.now ≤ 65536) }
     ensures { UnansweredPromise limits (ample_run register_routes (capacities_of limits) journal.now) result work.old work.new }
