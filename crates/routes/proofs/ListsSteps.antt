@@ -3,7 +3,7 @@ use mathlib.Core.Bool.{Bool, true, false, cond, ◌&&◌, ◌||◌}
 use mathlib.Core.List.{List}
 use mathlib.Core.Logic.{◌⊎◌, inl, inr}
 use mathlib.Core.Path.{◌≡◌, refl, sym, ◌∙◌, ap, subst}
-use Prim.Native.Nat.{ℕ, suc, ◌+◌, ◌*◌, ◌/◌, ◌%◌, ◌≤◌, ◌<◌}
+use Prim.Native.Nat.{ℕ, suc, ◌+◌, ◌*◌, ◌/◌, ◌%◌, ◌<◌}
 use native.Mathlib.Numerals.{add-one}
 use native.Mathlib.Omega.{arith}
 use lib.Dec.{eqb}
@@ -42,11 +42,6 @@ cleared_next {shape} {column} {i} {t₀} {t} {t'} few w h v =
     go : (x : ℕ) → x < i + 1 → (eqb x i ≡ true) ⊎ (eqb x i ≡ false) → cond (eqb x i) 0 (vertex_scratch shape t column x) ≡ 0
     go x l (inl p) = rw p
     go x l (inr p) = rw p (w.cleared x (omega (arith, eqb_ne x i p)))
-
--- at all
-pub all_cleared : {shape : Shape} {column i : ℕ} {old new : List ℕ} → ClearedBelow shape column i old new → shape.vertices ≤ i
-    → ColumnCleared shape column old new
-all_cleared w h = record { only = w.only; cleared = λ x l. w.cleared x (omega arith) }
 
 -- the ends of an edge are vertices, and have their words
 module _ (shape : Shape) (t : List ℕ) (holds : Holds shape t) (s : ℕ) (h : s < shape.edges) where

@@ -104,10 +104,3 @@ module _ (shape : Shape) (g : Network) (x s : ℕ) (used : Use) (old : List ℕ)
           up d = ⊎_elim (λ k. or_right (leb entry i) k)
               (λ k. or_left (le-leb entry i (omega (arith, passed d, q, eqb_ne r i k))) (eqb r i)) (true_or_false (eqb r i))
       tests i (inr n) = rw (n, and-false (eqb r i))
-
-  -- at the list's end all is done
-  pub mates_end : (entry : ℕ) (t : List ℕ) → MatesFrom shape g x s used entry old t → entry ≡ 0
-      → UsesSet shape (is_other_mate g s) used old t
-  mates_end entry t m q =
-      uses_same (λ i. is_other_mate g s i && leb entry i) (is_other_mate g s)
-      (λ i h. rw (le-leb entry i (omega (arith, q)), and-true (is_other_mate g s i))) m.done

@@ -49,11 +49,6 @@ pub record TakenTo (shape : Shape) (g : Network) (u : Used) (a : ℕ) (ps : List
   pub edges_left : drop i (edges_of ps) ≡ edges_of rest
 
 module _ {shape : Shape} {g : Network} {u : Used} {a : ℕ} {ps : List Step} where
-  -- at first none is
-  pub take_begins : {t : List ℕ} → Listed shape g u t → Usable g u → WayFits g u a ps → TakenTo shape g u a ps t a 0
-  take_begins listed usable fits =
-      record { used = u; rest = ps; listed = listed; usable = usable; fits = fits; same_whole = refl; edges_left = refl }
-
   module _ (column count : ℕ) (old : List ℕ) (written : Written shape column count old (edges_of ps)) where
     -- where as many are taken as were written down, all are
     pub take_ends : {t : List ℕ} {x i : ℕ} → TakenTo shape g u a ps t x i → count ≤ i → Listed shape g (way_taken u a ps) t
