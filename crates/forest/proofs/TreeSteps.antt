@@ -1,5 +1,5 @@
 -- How the models of growing the forest go on, one vertex more and none left; and how many steps a path has at most.
-use Rattle.std.proofs.Common.{◌≡◌, ℕ, zero, suc, ◌+◌, ◌-◌, ◌%◌, ◌^◌, ◌<◌, ◌≤◌, Bool, true, false, cond, eqb, ◌⊎◌, List, sym, refl, inl, inr, add-one, arith}
+use Rattle.std.proofs.Common.{◌≡◌, ℕ, zero, suc, ◌+◌, ◌-◌, ◌%◌, ◌^◌, ◌<◌, ◌≤◌, Bool, true, false, cond, eqb, ◌⊎◌, List, refl, inl, inr, ap, ◌∙◌, add-one, arith}
 use Rattle.std.specs.Prelude as P
 use Rattle.numbers.specs.declared.Limits.{Limits}
 use Rattle.table.specs.Inside.Column
@@ -29,39 +29,37 @@ raise_end t limits by i n h = let e : n - i ≡ 0 = omega arith in rw e
 abbrev pub turn_all : ℕ → List ℕ → Limits → Turning → List ℕ
 turn_all k t limits s = turn_from k t limits s.at.0 (suc s.by.0) s.depth
 
-none_is_some : {next : Turning} → P.None ≡ P.Some next → ⊥
-none_is_some e = cc
+-- the way up turned round from the next vertex, if there is one
+abbrev pub turn_rest : ℕ → List ℕ → Limits → P.Option Turning → List ℕ
+turn_rest k t limits P.None = t
+turn_rest k t limits (P.Some next) = turn_all k t limits next
 
-some_is : {s next : Turning} → P.Some s ≡ P.Some next → s ≡ next
-some_is e = cc
-
--- one vertex turned, and then the rest
-pub turn_step : (steps step : ℕ) (t : List ℕ) (limits : Limits) (s next : Turning) → step < steps → turned_next t limits s ≡ P.Some next
-    → turn_all (steps - step) t limits s ≡ turn_all (steps - (step + 1)) (turned_table t limits s) limits next
+-- one vertex turned, and then the rest: nothing where the vertex was a root
+pub turn_step : (k : ℕ) (t : List ℕ) (limits : Limits) (s : Turning)
+    → turn_all (suc k) t limits s ≡ turn_rest k (turned_table t limits s) limits (turned_next t limits s)
 unfolding turn_from turned_table turned_next
-turn_step steps step t limits s next h e =
-    let one_more : steps - step ≡ suc (steps - (step + 1)) = omega arith in
-    rw one_more (go (true_or_false (eqb (up_of t limits s.at.0) 0)))
+turn_step k t limits s = go (true_or_false (eqb (up_of t limits s.at.0) 0))
   where
     go : (eqb (up_of t limits s.at.0) 0 ≡ true) ⊎ (eqb (up_of t limits s.at.0) 0 ≡ false)
-        → turn_all (suc (steps - (step + 1))) t limits s ≡ turn_all (steps - (step + 1)) (turned_table t limits s) limits next
-    go (inl root) = absurd (none_is_some (rw root at e))
-    go (inr q) =
-        let above : suc (up_of t limits s.at.0 - 1) ≡ up_of t limits s.at.0 = omega (arith, eqb_ne _ _ q) in
-        rw (q, ← some_is (rw q at e), above)
+        → turn_all (suc k) t limits s ≡ turn_rest k (turned_table t limits s) limits (turned_next t limits s)
+    go (inl root) = rw root refl
+    go (inr q) = let above : suc (up_of t limits s.at.0 - 1) ≡ up_of t limits s.at.0 = omega (arith, eqb_ne _ _ q) in rw (q, above) refl
 
--- a root turned, and nothing is left
+-- the same, step by step, of a vertex that is no root
+pub turn_on : (steps step : ℕ) (t : List ℕ) (limits : Limits) (s next : Turning) → step < steps → turned_next t limits s ≡ P.Some next
+    → turn_all (steps - step) t limits s ≡ turn_all (steps - (step + 1)) (turned_table t limits s) limits next
+turn_on steps step t limits s next h e =
+    let rest = steps - (step + 1) in
+    let one_more : steps - step ≡ suc rest = omega arith in
+    rw one_more (turn_step rest t limits s ∙ ap (turn_rest rest (turned_table t limits s) limits) e)
+
+-- and of a root, behind which nothing is left
 pub turn_root : (steps step : ℕ) (t : List ℕ) (limits : Limits) (s : Turning) → step < steps → turned_next t limits s ≡ P.None
     → turn_all (steps - step) t limits s ≡ turned_table t limits s
-unfolding turn_from turned_table turned_next
 turn_root steps step t limits s h e =
-    let one_more : steps - step ≡ suc (steps - (step + 1)) = omega arith in
-    rw one_more (go (true_or_false (eqb (up_of t limits s.at.0) 0)))
-  where
-    go : (eqb (up_of t limits s.at.0) 0 ≡ true) ⊎ (eqb (up_of t limits s.at.0) 0 ≡ false)
-        → turn_all (suc (steps - (step + 1))) t limits s ≡ turned_table t limits s
-    go (inl root) = rw root
-    go (inr q) = absurd (none_is_some (sym (rw q at e)))
+    let rest = steps - (step + 1) in
+    let one_more : steps - step ≡ suc rest = omega arith in
+    rw one_more (turn_step rest t limits s ∙ ap (turn_rest rest (turned_table t limits s) limits) e)
 
 -- with no step left the table stays
 pub turn_end : (steps step : ℕ) (t : List ℕ) (limits : Limits) (s : Turning) → steps ≤ step → turn_all (steps - step) t limits s ≡ t

@@ -1,11 +1,13 @@
 // Climbing the block forest: from vertex to block and from block to vertex, turn about, until two vertices' ways up meet.
-ghost use Rattle.std.specs.Prelude.{MatchOption, ◌≡◌, ◌+◌, ◌<◌, ◌≤◌, cond, not, ◌&&◌, ◌==◌, nat_lt};
+ghost use Rattle.std.specs.Prelude.{MatchOption, ◌≡◌, ◌+◌, ◌<◌, ◌≤◌, cond, min, not, ◌&&◌, ◌==◌, nat_lt};
 ghost use Rattle.table.specs.Same.{IsSame};
 ghost use Rattle.forest.specs.Inside.Climb.{up_of, depth_of, block_of, top_of, above_edge, right_deeper, record_table, record_trail};
-ghost use Rattle.forest.specs.Inside.Climb.{climb_from, climb_from_block, kept_left, join_from, reach, climb_table, climb_route};
+ghost use Rattle.forest.specs.Inside.Climb.{climb_from, climb_from_block, nested_most, kept_left, join_from, reach, climb_table, climb_route};
 
 use numbers::{Edge, Vertex};
-use table::words::{DEPTH, NAME, PATH_EDGE, PATH_VERTEX, RIGHT_EDGE, RIGHT_VERTEX, TOP, Table, UP};
+use table::words::{
+    DEPTH, NAME, PATH_EDGE, PATH_VERTEX, RIGHT_EDGE, RIGHT_VERTEX, Readable, TOP, Table, UP,
+};
 
 // How many steps of a climb nest in one another at most: what bounds the stack. A climb of no more steps is one nest of calls.
 const NESTED: u32 = 12;
@@ -28,29 +30,29 @@ pub struct Route {
 }
 
 // An edge of the block above the vertex; none at a root.
-pub(crate) fn up(t: &Table, x: Vertex) -> Option<Edge>
-    ensures { MatchOption result (up_of t.now.words.now t.now.shape.limits x.0 ≡ 0) (λ e. (up_of t.now.words.now t.now.shape.limits x.0 ≡ e.0 + 1) × (e.0 < 4294967295)) }
+pub(crate) fn up<T: Readable>(t: &T, x: Vertex) -> Option<Edge>
+    ensures { MatchOption result (up_of (T.words t.now) (T.shape t.now).limits x.0 ≡ 0) (λ e. (up_of (T.words t.now) (T.shape t.now).limits x.0 ≡ e.0 + 1) × (e.0 < 4294967295)) }
 {
     Edge::in_word(t.word(t.vertex_area(), UP, x.0))
 }
 
 // A number that falls on the way up.
-pub(crate) fn depth(t: &Table, x: Vertex) -> u32
-    ensures { result ≡ depth_of t.now.words.now t.now.shape.limits x.0 }
+pub(crate) fn depth<T: Readable>(t: &T, x: Vertex) -> u32
+    ensures { result ≡ depth_of (T.words t.now) (T.shape t.now).limits x.0 }
 {
     t.word(t.vertex_area(), DEPTH, x.0)
 }
 
 // The name of an edge's block.
-pub(crate) fn block_of(t: &Table, e: Edge) -> Edge
-    ensures { result.0 ≡ block_of t.now.words.now t.now.shape.limits e.0 }
+pub(crate) fn block_of<T: Readable>(t: &T, e: Edge) -> Edge
+    ensures { result.0 ≡ block_of (T.words t.now) (T.shape t.now).limits e.0 }
 {
     Edge(t.word(t.edge_area(), NAME, e.0))
 }
 
 // The vertex above a block, by its name.
-pub(crate) fn top(t: &Table, block: Edge) -> Vertex
-    ensures { result.0 ≡ top_of t.now.words.now t.now.shape.limits block.0 }
+pub(crate) fn top<T: Readable>(t: &T, block: Edge) -> Vertex
+    ensures { result.0 ≡ top_of (T.words t.now) (T.shape t.now).limits block.0 }
 {
     Vertex(t.word(t.edge_area(), TOP, block.0))
 }
@@ -155,6 +157,13 @@ fn goes_on(r: Trail, remaining: u32) -> bool
     0 < remaining && r.a != r.b
 }
 
+// How many of the steps that remain are taken in one nest of calls.
+fn nested(remaining: u32) -> u32
+    ensures { result ≡ min remaining nested_most }
+{
+    remaining.min(NESTED)
+}
+
 // The whole climb: where the path is longer than one nest of calls, the next nest takes it up where the one before has come. It is a `while`,
 // since it ends where the two sides meet, and the last nest is of fewer steps.
 #[tactic(auto, using(crate::proofs::ClimbSteps::climb_stays, crate::proofs::ClimbSteps::steps_left_lem))]
@@ -168,7 +177,7 @@ fn climb_on(t: &mut Table, start: Trail, steps: u32) -> Trail
     let mut r = start;
     let mut remaining = steps;
     while goes_on(r, remaining) {
-        let some = remaining.min(NESTED);
+        let some = nested(remaining);
         r = from_vertex(t, r.a, r.b, r.left, r.right, some);
         remaining -= some;
     }

@@ -22,7 +22,7 @@ pub mod survey;
 pub mod tree;
 
 use numbers::{Duct, Edge, Limits, Measure, Shape, Vertex};
-pub use table::words::Table;
+pub use table::words::{Readable, Table, View};
 use table::words::{
     Area, CHANGED, MARK, MARK_COUNT, NAME, PATH_VERTEX, RIGHT_EDGE, SIZE, WORDS_PER_EDGE,
     WORDS_PER_VERTEX,
@@ -73,6 +73,13 @@ pub struct Network<'a> {
     pub ghost holds: { Holds table.shape table.words.now } by { holds_prop table.shape table.words.now },
 }
 
+// The same where the words are lent only to be read.
+#[derive(Clone, Copy)]
+pub struct NetworkView<'a> {
+    pub table: View<'a>,
+    pub ghost holds: { Holds table.shape table.words.now } by { holds_prop table.shape table.words.now },
+}
+
 // How many words a table takes.
 #[tactic(auto, unfolding(crate::specs::Promise::words_needed))]
 pub fn words_needed(limits: Limits) -> usize
@@ -80,6 +87,18 @@ pub fn words_needed(limits: Limits) -> usize
 {
     usize::from(limits.vertices) * (WORDS_PER_VERTEX as usize)
         + usize::from(limits.edges) * (WORDS_PER_EDGE as usize)
+}
+
+// The size at which a run begins: whatever the words are, the table holds a network without vertices and edges.
+pub fn begin(words: &[u32], limits: Limits) -> Shape
+    requires { (limits.vertices ≤ 4096) × (limits.edges ≤ 8192) × (words_needed limits ≤ length words.now) }
+    ensures { Begun limits words.now result }
+{
+    Shape {
+        limits,
+        vertices: 0,
+        edges: 0,
+    }
 }
 
 // Sets the first `count` words to 0, or all where there are fewer.
@@ -92,59 +111,20 @@ pub fn clear(t: &mut [u32], count: usize)
 
 impl<'a> Network<'a> {
     // Begins a run: whatever the words are, the table holds a network without vertices and edges.
-    #[tactic(auto, using(crate::proofs::EmptyTable::begun))]
     pub fn new(words: &'a mut [u32], limits: Limits) -> Network<'a>
         requires { (limits.vertices ≤ 4096) × (limits.edges ≤ 8192) × (words_needed limits ≤ length words.old) }
         ensures begun { Begun limits result.table.words.now result.table.shape }
         ensures words { result.table.words.now ≡ words.old }
         ensures reference { result.table.words.ghost_name ≡ words.entry.ghost_name }
     {
-        let shape = Shape {
-            limits,
-            vertices: 0,
-            edges: 0,
-        };
+        let shape = begin(words, limits);
         Network {
             table: Table { words, shape },
         }
     }
 }
 
-impl Network<'_> {
-    // Adds the next vertex.
-    pub fn add_vertex(&mut self)
-        requires { self.old.table.shape.vertices < self.old.table.shape.limits.vertices }
-        ensures added { VertexAdded self.old.table.shape self.old.table.words.now self.new.table.words.now }
-        ensures shape { self.new.table.shape ≡ one_vertex_more self.old.table.shape }
-        ensures reference { self.new.table.words.ghost_name ≡ self.old.table.words.ghost_name }
-    {
-        let x = Vertex(self.table.shape.vertices);
-        tree::grow_vertex(&mut self.table, x);
-        self.table.shape.vertices += 1;
-    }
-
-    // Adds the next edge, between two different vertices, in a duct, which is 0 where none is told.
-    pub fn add_edge(&mut self, a: Vertex, b: Vertex, duct: Duct) -> Growth
-        requires { (self.old.table.shape.edges < self.old.table.shape.limits.edges) × (a.0 < self.old.table.shape.vertices) × (b.0 < self.old.table.shape.vertices) × (a.0 ≢ b.0) }
-        ensures added { EdgeAdded self.old.table.shape a.0 b.0 duct.0 self.old.table.words.now self.new.table.words.now result }
-        ensures shape { self.new.table.shape ≡ one_edge_more self.old.table.shape }
-        ensures reference { self.new.table.words.ghost_name ≡ self.old.table.words.ghost_name }
-    {
-        let s = Edge(self.table.shape.edges);
-        let growth = tree::grow_edge(&mut self.table, s, a, b, duct);
-        self.table.shape.edges += 1;
-        growth
-    }
-
-    // Marks a vertex that is not marked.
-    pub fn mark(&mut self, x: Vertex)
-        requires { (x.0 < self.old.table.shape.vertices) × ((state_of self.old.table.shape self.old.table.words.now).marked x.0 ≡ false) }
-        ensures marked { VertexMarked self.old.table.shape x.0 self.old.table.words.now self.new.table.words.now }
-        ensures same { IsSame self.old.table self.new.table }
-    {
-        tree::mark_vertex(&mut self.table, x);
-    }
-
+impl NetworkView<'_> {
     // Whether a vertex is marked.
     #[tactic(auto, using(crate::proofs::Marks::marked_is))]
     pub fn is_marked(&self, x: Vertex) -> bool
@@ -163,15 +143,6 @@ impl Network<'_> {
         let area = self.table.bridge_block_area();
         let name = self.table.word(area, NAME, x.0);
         self.table.word(area, MARK_COUNT, name)
-    }
-
-    // Enters a survey of an edge.
-    pub fn enter_survey(&mut self, s: Edge, measure: Measure)
-        requires { s.0 < self.old.table.shape.edges }
-        ensures entered { SurveyEntered self.old.table.shape (record { measured = s.0; day = measure.day; metres = measure.metres }) self.old.table.words.now self.new.table.words.now }
-        ensures same { IsSame self.old.table self.new.table }
-    {
-        survey::keep_survey(&mut self.table, s, measure);
     }
 
     // The length of an edge in metres, by the survey that holds, if there is one.
@@ -254,6 +225,143 @@ impl Network<'_> {
     {
         query::ends_differ(&self.table, s)
     }
+}
+
+impl Network<'_> {
+    // The network, to be read.
+    pub fn view(&self) -> NetworkView<'_>
+        ensures words { result.table.words.now ≡ self.now.table.words.now }
+        ensures shape { result.table.shape ≡ self.now.table.shape }
+    {
+        NetworkView {
+            table: self.table.view(),
+        }
+    }
+
+    // Adds the next vertex.
+    pub fn add_vertex(&mut self)
+        requires { self.old.table.shape.vertices < self.old.table.shape.limits.vertices }
+        ensures added { VertexAdded self.old.table.shape self.old.table.words.now self.new.table.words.now }
+        ensures shape { self.new.table.shape ≡ one_vertex_more self.old.table.shape }
+        ensures reference { self.new.table.words.ghost_name ≡ self.old.table.words.ghost_name }
+    {
+        let x = Vertex(self.table.shape.vertices);
+        tree::grow_vertex(&mut self.table, x);
+        self.table.shape.vertices += 1;
+    }
+
+    // Adds the next edge, between two different vertices, in a duct, which is 0 where none is told.
+    pub fn add_edge(&mut self, a: Vertex, b: Vertex, duct: Duct) -> Growth
+        requires { (self.old.table.shape.edges < self.old.table.shape.limits.edges) × (a.0 < self.old.table.shape.vertices) × (b.0 < self.old.table.shape.vertices) × (a.0 ≢ b.0) }
+        ensures added { EdgeAdded self.old.table.shape a.0 b.0 duct.0 self.old.table.words.now self.new.table.words.now result }
+        ensures shape { self.new.table.shape ≡ one_edge_more self.old.table.shape }
+        ensures reference { self.new.table.words.ghost_name ≡ self.old.table.words.ghost_name }
+    {
+        let s = Edge(self.table.shape.edges);
+        let growth = tree::grow_edge(&mut self.table, s, a, b, duct);
+        self.table.shape.edges += 1;
+        growth
+    }
+
+    // Marks a vertex that is not marked.
+    pub fn mark(&mut self, x: Vertex)
+        requires { (x.0 < self.old.table.shape.vertices) × ((state_of self.old.table.shape self.old.table.words.now).marked x.0 ≡ false) }
+        ensures marked { VertexMarked self.old.table.shape x.0 self.old.table.words.now self.new.table.words.now }
+        ensures same { IsSame self.old.table self.new.table }
+    {
+        tree::mark_vertex(&mut self.table, x);
+    }
+
+    // Whether a vertex is marked.
+    pub fn is_marked(&self, x: Vertex) -> bool
+        requires { x.0 < self.now.table.shape.vertices }
+        ensures { result ≡ (state_of self.now.table.shape self.now.table.words.now).marked x.0 }
+    {
+        self.view().is_marked(x)
+    }
+
+    // How many of the vertices in a vertex's bridge-block are marked.
+    pub fn marks_with(&self, x: Vertex) -> u32
+        requires { x.0 < self.now.table.shape.vertices }
+        ensures { result ≡ marks_with (state_of self.now.table.shape self.now.table.words.now) x.0 }
+    {
+        self.view().marks_with(x)
+    }
+
+    // Enters a survey of an edge.
+    pub fn enter_survey(&mut self, s: Edge, measure: Measure)
+        requires { s.0 < self.old.table.shape.edges }
+        ensures entered { SurveyEntered self.old.table.shape (record { measured = s.0; day = measure.day; metres = measure.metres }) self.old.table.words.now self.new.table.words.now }
+        ensures same { IsSame self.old.table self.new.table }
+    {
+        survey::keep_survey(&mut self.table, s, measure);
+    }
+
+    // The length of an edge in metres, by the survey that holds, if there is one.
+    pub fn length_of(&self, s: Edge) -> Option<u32>
+        requires { s.0 < self.now.table.shape.edges }
+        ensures { result ≡ length_given (holding (state_of self.now.table.shape self.now.table.words.now).surveys s.0) }
+    {
+        self.view().length_of(s)
+    }
+
+    // The group of a vertex.
+    pub fn group_of(&self, groups: VertexGroups, x: Vertex) -> Group
+        requires { x.0 < self.now.table.shape.vertices }
+        ensures name { result.name.0 ≡ name_of (vertex_names groups (book_in self.now.table.shape self.now.table.words.now)) x.0 }
+        ensures size { result.size ≡ size self.now.table.shape.vertices (vertex_groups groups (network_in self.now.table.shape self.now.table.words.now)) x.0 }
+    {
+        self.view().group_of(groups, x)
+    }
+
+    // Whether two vertices share a group.
+    pub fn same_group(&self, groups: VertexGroups, a: Vertex, b: Vertex) -> bool
+        requires { (a.0 < self.now.table.shape.vertices) × (b.0 < self.now.table.shape.vertices) }
+        ensures { result ≡ vertex_groups groups (network_in self.now.table.shape self.now.table.words.now) a.0 b.0 }
+    {
+        self.view().same_group(groups, a, b)
+    }
+
+    // The block name of an edge.
+    pub fn block_name(&self, s: Edge) -> Edge
+        requires { s.0 < self.now.table.shape.edges }
+        ensures { result.0 ≡ name_of (book_in self.now.table.shape self.now.table.words.now).blocks s.0 }
+    {
+        self.view().block_name(s)
+    }
+
+    // The two ends of an edge.
+    pub fn ends_of(&self, s: Edge) -> Ends
+        requires { s.0 < self.now.table.shape.edges }
+        ensures left { result.left.0 ≡ (edge (network_in self.now.table.shape self.now.table.words.now) s.0).left }
+        ensures right { result.right.0 ≡ (edge (network_in self.now.table.shape self.now.table.words.now) s.0).right }
+    {
+        self.view().ends_of(s)
+    }
+
+    // Whether two edges are mates: one edge, or lost together.
+    pub fn are_mates(&self, s: Edge, other: Edge) -> bool
+        requires { (s.0 < self.now.table.shape.edges) × (other.0 < self.now.table.shape.edges) }
+        ensures { result ≡ mates (network_in self.now.table.shape self.now.table.words.now) s.0 other.0 }
+    {
+        self.view().are_mates(s, other)
+    }
+
+    // The block that has an edge at each of two different vertices, by its name, if there is one.
+    pub fn shared_block(&self, a: Vertex, b: Vertex) -> Option<Edge>
+        requires { (a.0 < self.now.table.shape.vertices) × (b.0 < self.now.table.shape.vertices) × (a.0 ≢ b.0) }
+        ensures { result ≡ shared_name (book_in self.now.table.shape self.now.table.words.now).blocks (shared_block (network_in self.now.table.shape self.now.table.words.now) a.0 b.0) }
+    {
+        self.view().shared_block(a, b)
+    }
+
+    // Whether an edge is a bridge.
+    pub fn is_bridge(&self, s: Edge) -> bool
+        requires { s.0 < self.now.table.shape.edges }
+        ensures { result ≡ bridge (network_in self.now.table.shape self.now.table.words.now) s.0 }
+    {
+        self.view().is_bridge(s)
+    }
 
     // Writes down the bridges between two vertices of one component, in travelling order; gives their number.
     pub fn bridges_between(&mut self, a: Vertex, b: Vertex) -> u32
@@ -298,8 +406,8 @@ impl Network<'_> {
 // their own, and stand in columns of their own.
 //
 // The words of a kind of groups of vertices.
-fn area_of(t: &Table, groups: VertexGroups) -> Area
-    ensures { result ≡ group_area t.now.shape.limits groups }
+fn area_of<T: Readable>(t: &T, groups: VertexGroups) -> Area
+    ensures { result ≡ group_area (T.shape t.now).limits groups }
 {
     match groups {
         VertexGroups::Components => t.vertex_area(),
@@ -309,25 +417,25 @@ fn area_of(t: &Table, groups: VertexGroups) -> Area
 
 // Bridge i of those that are written down.
 #[tactic(auto, unfolding(crate::specs::Promise::bridge_at))]
-pub fn bridge_at(t: &Table, i: u32) -> Edge
-    ensures { result.0 ≡ bridge_at t.now.shape t.now.words.now i }
+pub fn bridge_at<T: Readable>(t: &T, i: u32) -> Edge
+    ensures { result.0 ≡ bridge_at (T.shape t.now) (T.words t.now) i }
 {
     Edge(t.word(t.vertex_area(), RIGHT_EDGE, i))
 }
 
 // Cut vertex i of those that are written down.
 #[tactic(auto, unfolding(crate::specs::Promise::cut_at))]
-pub fn cut_at(t: &Table, i: u32) -> Vertex
-    ensures { result.0 ≡ cut_at t.now.shape t.now.words.now i }
+pub fn cut_at<T: Readable>(t: &T, i: u32) -> Vertex
+    ensures { result.0 ≡ cut_at (T.shape t.now) (T.words t.now) i }
 {
     Vertex(t.word_behind(t.vertex_area(), PATH_VERTEX, i))
 }
 
 // Change i of the vertices' names of a kind, of those that are written down.
 #[tactic(auto, unfolding(crate::specs::Promise::vertex_change_at))]
-pub fn vertex_change_at(t: &Table, groups: VertexGroups, i: u32) -> Change<Vertex>
-    ensures item { result.item.0 ≡ (vertex_change_at t.now.shape groups t.now.words.now i).item }
-    ensures name { result.name.0 ≡ (vertex_change_at t.now.shape groups t.now.words.now i).name }
+pub fn vertex_change_at<T: Readable>(t: &T, groups: VertexGroups, i: u32) -> Change<Vertex>
+    ensures item { result.item.0 ≡ (vertex_change_at (T.shape t.now) groups (T.words t.now) i).item }
+    ensures name { result.name.0 ≡ (vertex_change_at (T.shape t.now) groups (T.words t.now) i).name }
 {
     let area = area_of(t, groups);
     let x = t.word(area, CHANGED, i);
@@ -340,9 +448,9 @@ pub fn vertex_change_at(t: &Table, groups: VertexGroups, i: u32) -> Change<Verte
 
 // Change i of the edges' names, of those that are written down.
 #[tactic(auto, unfolding(crate::specs::Promise::edge_change_at))]
-pub fn edge_change_at(t: &Table, i: u32) -> Change<Edge>
-    ensures item { result.item.0 ≡ (edge_change_at t.now.shape t.now.words.now i).item }
-    ensures name { result.name.0 ≡ (edge_change_at t.now.shape t.now.words.now i).name }
+pub fn edge_change_at<T: Readable>(t: &T, i: u32) -> Change<Edge>
+    ensures item { result.item.0 ≡ (edge_change_at (T.shape t.now) (T.words t.now) i).item }
+    ensures name { result.name.0 ≡ (edge_change_at (T.shape t.now) (T.words t.now) i).name }
 {
     let s = t.word(t.edge_area(), CHANGED, i);
     let name = t.word(t.edge_area(), NAME, s);
@@ -354,17 +462,17 @@ pub fn edge_change_at(t: &Table, i: u32) -> Change<Edge>
 
 // Scratch word k of a vertex.
 #[tactic(auto, unfolding(crate::specs::Promise::vertex_scratch))]
-pub fn vertex_scratch(t: &Table, k: u8, x: Vertex) -> u32
+pub fn vertex_scratch<T: Readable>(t: &T, k: u8, x: Vertex) -> u32
     requires { k < scratch_words }
-    ensures { result ≡ vertex_scratch t.now.shape t.now.words.now k x.0 }
+    ensures { result ≡ vertex_scratch (T.shape t.now) (T.words t.now) k x.0 }
 {
     t.word(t.vertex_area(), PATH_VERTEX + k, x.0)
 }
 
 // The scratch word of an edge.
 #[tactic(auto, unfolding(crate::specs::Promise::edge_scratch))]
-pub fn edge_scratch(t: &Table, s: Edge) -> u32
-    ensures { result ≡ edge_scratch t.now.shape t.now.words.now s.0 }
+pub fn edge_scratch<T: Readable>(t: &T, s: Edge) -> u32
+    ensures { result ≡ edge_scratch (T.shape t.now) (T.words t.now) s.0 }
 {
     t.word(t.edge_area(), CHANGED, s.0)
 }

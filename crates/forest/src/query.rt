@@ -11,12 +11,12 @@ use crate::Ends;
 use crate::climb::{block_of, climb, top, up};
 use crate::survey::duct_of;
 use numbers::{Edge, Vertex};
-use table::words::{ENDS, NAME, PATH_EDGE, PATH_VERTEX, RIGHT_EDGE, Table};
+use table::words::{ENDS, NAME, PATH_EDGE, PATH_VERTEX, RIGHT_EDGE, Readable, Table};
 
 // The two ends of an edge, which are kept in one word.
-pub(crate) fn ends_of(t: &Table, s: Edge) -> Ends
-    ensures left { result.left.0 ≡ cell t.now.words.now (edge_area t.now.shape.limits) Column.ends s.0 / 65536 }
-    ensures right { result.right.0 ≡ cell t.now.words.now (edge_area t.now.shape.limits) Column.ends s.0 % 65536 }
+pub(crate) fn ends_of<T: Readable>(t: &T, s: Edge) -> Ends
+    ensures left { result.left.0 ≡ cell (T.words t.now) (edge_area (T.shape t.now).limits) Column.ends s.0 / 65536 }
+    ensures right { result.right.0 ≡ cell (T.words t.now) (edge_area (T.shape t.now).limits) Column.ends s.0 % 65536 }
 {
     let ends = t.word(t.edge_area(), ENDS, s.0);
     Ends {
@@ -27,8 +27,8 @@ pub(crate) fn ends_of(t: &Table, s: Edge) -> Ends
 
 // The bridge-block names of two vertices differ.
 #[tactic(auto, unfolding(crate::specs::Inside::Queries::bridge_blocks_differ))]
-fn bridge_blocks_differ(t: &Table, x: Vertex, y: Vertex) -> bool
-    ensures { result ≡ bridge_blocks_differ t.now.words.now t.now.shape.limits x.0 y.0 }
+fn bridge_blocks_differ<T: Readable>(t: &T, x: Vertex, y: Vertex) -> bool
+    ensures { result ≡ bridge_blocks_differ (T.words t.now) (T.shape t.now).limits x.0 y.0 }
 {
     let left = t.word(t.bridge_block_area(), NAME, x.0);
     let right = t.word(t.bridge_block_area(), NAME, y.0);
@@ -37,8 +37,8 @@ fn bridge_blocks_differ(t: &Table, x: Vertex, y: Vertex) -> bool
 
 // The bridge-block names of an edge's two ends differ.
 #[tactic(auto, unfolding(crate::specs::Inside::Queries::bridge_in))]
-pub(crate) fn ends_differ(t: &Table, s: Edge) -> bool
-    ensures { result ≡ bridge_in t.now.words.now t.now.shape.limits s.0 }
+pub(crate) fn ends_differ<T: Readable>(t: &T, s: Edge) -> bool
+    ensures { result ≡ bridge_in (T.words t.now) (T.shape t.now).limits s.0 }
 {
     let ends = ends_of(t, s);
     bridge_blocks_differ(t, ends.left, ends.right)
@@ -58,8 +58,8 @@ fn ends_agree(ends: Ends, other: Ends) -> bool
 
 // Two edges lie in one duct, between the same two vertices.
 #[tactic(auto, unfolding(crate::specs::Inside::Queries::lost_together, crate::specs::Inside::Queries::ends_agree))]
-pub(crate) fn lost_together(t: &Table, s: Edge, other: Edge) -> bool
-    ensures { result ≡ lost_together t.now.words.now t.now.shape.limits s.0 other.0 }
+pub(crate) fn lost_together<T: Readable>(t: &T, s: Edge, other: Edge) -> bool
+    ensures { result ≡ lost_together (T.words t.now) (T.shape t.now).limits s.0 other.0 }
 {
     duct_of(t, s) == duct_of(t, other) && ends_agree(ends_of(t, s), ends_of(t, other))
 }
@@ -67,8 +67,8 @@ pub(crate) fn lost_together(t: &Table, s: Edge, other: Edge) -> bool
 // Vertex x hangs below a block, and y is the vertex above that block. It is a `match`, since with `is_some_and` the check does not see what
 // holds of the edge.
 #[tactic(auto, unfolding(crate::specs::Inside::Queries::hangs_from))]
-fn hangs_from(t: &Table, x: Vertex, y: Vertex) -> bool
-    ensures { result ≡ hangs_from t.now.words.now t.now.shape.limits x.0 y.0 }
+fn hangs_from<T: Readable>(t: &T, x: Vertex, y: Vertex) -> bool
+    ensures { result ≡ hangs_from (T.words t.now) (T.shape t.now).limits x.0 y.0 }
 {
     match up(t, x) {
         Some(e) => top(t, block_of(t, e)) == y,
@@ -78,8 +78,8 @@ fn hangs_from(t: &Table, x: Vertex, y: Vertex) -> bool
 
 // Vertices x and y hang below one block.
 #[tactic(auto, unfolding(crate::specs::Inside::Queries::hang_together))]
-fn hang_together(t: &Table, x: Vertex, y: Vertex) -> bool
-    ensures { result ≡ hang_together t.now.words.now t.now.shape.limits x.0 y.0 }
+fn hang_together<T: Readable>(t: &T, x: Vertex, y: Vertex) -> bool
+    ensures { result ≡ hang_together (T.words t.now) (T.shape t.now).limits x.0 y.0 }
 {
     match (up(t, x), up(t, y)) {
         (Some(e), Some(d)) => block_of(t, e) == block_of(t, d),
@@ -89,8 +89,8 @@ fn hang_together(t: &Table, x: Vertex, y: Vertex) -> bool
 
 // The name of the block above a vertex; none at a root.
 #[tactic(auto, unfolding(crate::specs::Inside::Queries::block_above))]
-fn block_above(t: &Table, x: Vertex) -> Option<Edge>
-    ensures { MatchOption result (up_of t.now.words.now t.now.shape.limits x.0 ≡ 0) (λ e. e.0 ≡ block_above t.now.words.now t.now.shape.limits x.0) }
+fn block_above<T: Readable>(t: &T, x: Vertex) -> Option<Edge>
+    ensures { MatchOption result (up_of (T.words t.now) (T.shape t.now).limits x.0 ≡ 0) (λ e. e.0 ≡ block_above (T.words t.now) (T.shape t.now).limits x.0) }
 {
     let e = up(t, x)?;
     Some(block_of(t, e))
@@ -98,8 +98,8 @@ fn block_above(t: &Table, x: Vertex) -> Option<Edge>
 
 // The block that two different vertices share.
 #[tactic(auto, unfolding(crate::specs::Inside::Queries::shared_in, crate::specs::Inside::Queries::hang_together, crate::specs::Inside::Queries::hangs_from))]
-pub(crate) fn find_shared(t: &Table, a: Vertex, b: Vertex) -> Option<Edge>
-    ensures { result ≡ shared_in t.now.words.now t.now.shape.limits a.0 b.0 }
+pub(crate) fn find_shared<T: Readable>(t: &T, a: Vertex, b: Vertex) -> Option<Edge>
+    ensures { result ≡ shared_in (T.words t.now) (T.shape t.now).limits a.0 b.0 }
 {
     if hang_together(t, a, b) || hangs_from(t, a, b) {
         return block_above(t, a);

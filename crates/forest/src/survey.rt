@@ -6,19 +6,19 @@ ghost use Rattle.forest.specs.Inside.Words.{duct_of};
 ghost use Rattle.forest.specs.Inside.Surveys.{is_surveyed, is_replaced, survey_stored, survey_table, length_in};
 
 use numbers::{Edge, Measure};
-use table::words::{DUCT, SURVEY, Table};
+use table::words::{DUCT, Readable, SURVEY, Table};
 
 // The duct of an edge.
-pub(crate) fn duct_of(t: &Table, s: Edge) -> u32
-    ensures { result ≡ duct_of t.now.words.now t.now.shape.limits s.0 }
+pub(crate) fn duct_of<T: Readable>(t: &T, s: Edge) -> u32
+    ensures { result ≡ duct_of (T.words t.now) (T.shape t.now).limits s.0 }
 {
     t.word(t.edge_area(), DUCT, s.0) % 65536
 }
 
 // Whether a survey of an edge is kept.
 #[tactic(auto, unfolding(crate::specs::Inside::Surveys::is_surveyed))]
-fn is_surveyed(t: &Table, s: Edge) -> bool
-    ensures { result ≡ is_surveyed t.now.words.now t.now.shape.limits s.0 }
+fn is_surveyed<T: Readable>(t: &T, s: Edge) -> bool
+    ensures { result ≡ is_surveyed (T.words t.now) (T.shape t.now).limits s.0 }
 {
     65536 <= t.word(t.edge_area(), DUCT, s.0)
 }
@@ -56,8 +56,8 @@ pub(crate) fn keep_survey(t: &mut Table, s: Edge, measure: Measure)
 
 // The metres of the survey that is kept of an edge.
 #[tactic(auto, unfolding(crate::specs::Inside::Surveys::length_in))]
-pub(crate) fn kept_length(t: &Table, s: Edge) -> Option<u32>
-    ensures { result ≡ length_in t.now.words.now t.now.shape.limits s.0 }
+pub(crate) fn kept_length<T: Readable>(t: &T, s: Edge) -> Option<u32>
+    ensures { result ≡ length_in (T.words t.now) (T.shape t.now).limits s.0 }
 {
     if is_surveyed(t, s) {
         return Some(t.word(t.edge_area(), SURVEY, s.0) % 65536);

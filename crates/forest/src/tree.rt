@@ -112,7 +112,7 @@ fn turn_one(t: &mut Table, s: Turning) -> Option<Turning>
 }
 
 // The way up from a vertex turned round, with at most so many steps.
-#[tactic(auto, using(crate::proofs::TreeSteps::turn_step, crate::proofs::TreeSteps::turn_root, crate::proofs::TreeSteps::turn_end))]
+#[tactic(auto, using(crate::proofs::TreeSteps::turn_on, crate::proofs::TreeSteps::turn_root, crate::proofs::TreeSteps::turn_end))]
 fn turn(t: &mut Table, start: Turning, steps: u64)
     requires { start.by.0 < 4294967295 }
     ensures words { t.new.words.now ≡ turn_from steps t.old.words.now t.old.shape.limits start.at.0 (suc start.by.0) start.depth }

@@ -41,7 +41,7 @@ fn run_alone(journal: &[u8], work: &mut [u32]) -> Result<Size, Refusal>
 
 // Runs both journals alone, one after the other, in a working table that is long enough, and clears it behind them. Gives what is known of both
 // networks.
-pub(crate) fn count_both(first: &[u8], second: &[u8], work: &mut [u32]) -> Result<Counts, Refusal>
+pub fn count_both(first: &[u8], second: &[u8], work: &mut [u32]) -> Result<Counts, Refusal>
     ensures { CountsBoth first.now second.now result work.old work.new }
 {
     let needed = work_needed(GREATEST);

@@ -15,7 +15,7 @@ const MOST: usize = LONGEST / SEAM_BYTES;
 
 // Stores both journals, the second raised, where they and so many seams fit into a journal and into the buffer. Gives the place behind them.
 #[tactic(auto, using(crate::proofs::Both::too_long))]
-fn put_journals(
+pub fn put_journals(
     first: &[u8],
     second: &[u8],
     out: &mut [u8],

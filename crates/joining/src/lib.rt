@@ -2,10 +2,10 @@
 // result fits is anything stored in the buffer that the caller lends.
 #![tactic(auto)]
 
-mod alone;
-mod joined;
-mod raising;
-mod seams;
+pub mod alone;
+pub mod joined;
+pub mod raising;
+pub mod seams;
 
 pub use joined::join_into;
 pub use seams::Seam;

@@ -50,7 +50,7 @@ fn seam_at(seams: &[Seam], i: usize) -> Seam
 
 // Looks at every seam, in order, up to one that is not good.
 #[tactic(auto, using(crate::proofs::SeamSteps::looked_at_none, crate::proofs::SeamSteps::looked_at_one, crate::proofs::SeamSteps::not_good, crate::proofs::SeamSteps::looked_at_all, crate::proofs::SeamSteps::ducts_looked_at))]
-pub(crate) fn look_at(seams: &[Seam], counts: Counts) -> Result<(), Refusal>
+pub fn look_at(seams: &[Seam], counts: Counts) -> Result<(), Refusal>
     ensures looked { result ≡ look_at counts seams.now }
     ensures ducts { OnOk result (ducts_fit seams.now ≡ true) }
 {
@@ -80,7 +80,7 @@ fn put_seam(out: &mut [u8], at: usize, counts: Counts, seam: Seam)
 // Stores the commands for all seams, in order, from a place on, and gives the place behind them. (A loop of its own, since joining doesn't stand on
 // writing, which stores items of one width, and since a seam is read by its number alone.)
 #[tactic(auto, using(crate::proofs::SeamSteps::stored_none, crate::proofs::SeamSteps::stored_one, crate::proofs::SeamSteps::stored_all))]
-pub(crate) fn put_seams(seams: &[Seam], out: &mut [u8], counts: Counts, front: usize) -> usize
+pub fn put_seams(seams: &[Seam], out: &mut [u8], counts: Counts, front: usize) -> usize
     requires { front + length seams.now * 7 ≤ length out.old }
     ensures place { result ≡ front + length seams.now * 7 }
     ensures stored { out.new ≡ sets out.old front (seam_bytes counts seams.now) }

@@ -85,7 +85,9 @@ fn mark_one(n: &mut Network, x: Vertex)
 }
 
 // Marks the first vertex and the last, where there are any.
-fn mark_ends(n: &mut Network) {
+fn mark_ends(n: &mut Network)
+    ensures { IsSame n.old.table n.new.table }
+{
     if let Some(last) = last_vertex(n) {
         mark_one(n, Vertex(0));
         mark_one(n, last);

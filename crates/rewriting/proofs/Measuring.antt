@@ -47,7 +47,7 @@ module _ {journal : List ℕ} {so_far place : ℕ} (m : MeasuredTo journal so_fa
   module _ (are : all_bytes journal ≡ true) (at_byte : place < length journal) (byte width : ℕ) (passed : whole byte width ≡ passing_here journal place at_byte) where
     -- a 0B is the first
     pub first_duct_told_lem : byte ≡ 11 → Measures journal (Err (record { refusal = R.DuctTold; place = place }))
-    first_duct_told_lem e = (sym m.same_told ∙ told_here journal are place at_byte byte width passed e, refl)
+    first_duct_told_lem e = (sym m.same_told ∙ told_here journal are place at_byte byte width passed e, refl, m.in_journal)
 
     -- behind any other the journal is measured with its size
     pub measured_behind : byte ≢ 11 → MeasuredTo journal (so_far + size_of byte width) (place + 1 + width)

@@ -17,7 +17,7 @@ pub mod walk;
 use crate::lists::build_lists;
 use crate::search::{Allowance, search};
 use crate::walk::{take_way, takes_back, write_way};
-use forest::{Network, Table, vertex_scratch};
+use forest::{Network, Readable, vertex_scratch};
 use numbers::{Edge, Vertex};
 
 // The vertices' scratch words: the first entry of a vertex's list of edges, its step towards the goal, the vertices in the order in which they
@@ -102,8 +102,8 @@ pub fn find(n: &mut Network, a: Vertex, b: Vertex) -> Lengths
 
 // Edge i of a route that is written down.
 #[tactic(auto, unfolding(crate::specs::Promise::edge_at))]
-pub fn edge_at(t: &Table, route: Route, i: u32) -> Edge
-    ensures { result.0 ≡ edge_at t.now.shape t.now.words.now route i }
+pub fn edge_at<T: Readable>(t: &T, route: Route, i: u32) -> Edge
+    ensures { result.0 ≡ edge_at (T.shape t.now) (T.words t.now) route i }
 {
     Edge(vertex_scratch(t, route.column(), Vertex(i)))
 }

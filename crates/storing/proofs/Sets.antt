@@ -1,14 +1,11 @@
 -- A run of stores: one behind another, over the front of a buffer, and of what stands in another list.
-use mathlib.Core.List.{List, [], ◌∷◌, ◌++◌, append_assoc}
-use mathlib.Core.Path.{◌≡◌, sym, ◌∙◌, ap}
+use mathlib.Core.List.{List, [], ◌∷◌, ◌++◌}
+use mathlib.Core.Path.{◌≡◌, sym, refl, ◌∙◌, ap}
 use Prim.Native.Nat.{ℕ, suc, ◌+◌, ◌*◌, ◌-◌, ◌≤◌, ◌<◌}
 use native.Mathlib.Numerals.{add-one}
 use native.Mathlib.Omega.{arith}
-use borrow.Rule.Slice.PartMut.{put_mid}
 use lib.ListN.{length, get_or, take, drop, set, length-append}
-use lib.Seq.{sets, sets-eq, slice, length-slice, drop-cons, drop-drop}
-use Rattle.std.specs.List.{between}
-use Rattle.std.proofs.lemmas.Slice.{between_is}
+use lib.Seq.{sets, sets-eq, slice, slice-cons, drop-cons}
 use Rattle.commands.specs.Bytes.{two_bytes}
 use Rattle.commands.specs.Entry.{over}
 use Rattle.storing.specs.Numbers.{number_bytes}
@@ -52,15 +49,10 @@ sets_front l bytes h =
     sets-eq bytes l 0 (omega arith)
     ∙ ap (λ (k : ℕ). bytes ++ drop k l) (let e : 0 + length bytes ≡ length bytes = omega arith in e)
 
--- so is a part of the buffer over which as many elements of another list are copied
-pub part_stored : (out source bytes : List ℕ) (at from to count : ℕ) → to ≤ length source → at + (to - from) ≤ length out
-    → bytes ≡ between from to source → count ≡ to - from → put_mid at count out bytes ≡ sets out at (slice from to source)
-part_stored out source bytes at from to count h room e n =
-    let these : bytes ≡ slice from to source = e ∙ between_is source from to in
-    let long : length (slice from to source) ≡ to - from = length-slice from to source h in
-    rw (these, drop-drop count at out, ← append_assoc)
-    (sym
-    (sets-eq (slice from to source) out at (omega arith)
-    ∙ ap
-    (λ (k : ℕ). take at out ++ slice from to source ++ drop k out)
-    (let d : at + length (slice from to source) ≡ at + count = omega arith in d)))
+-- with an element stored of those from one place up to another, and those behind it, all from it on are stored
+pub copied_one : (out source : List ℕ) (at from to k : ℕ) → k < to - from → to ≤ length source
+    → sets (set out (at + k) (get_or source (from + k) 0)) (at + (k + 1)) (slice (from + (k + 1)) to source) ≡ sets out (at + k) (slice (from + k) to source)
+copied_one out source at from to k h long =
+    let here : at + (k + 1) ≡ suc (at + k) = omega arith in
+    let there : from + (k + 1) ≡ suc (from + k) = omega arith in
+    rw (here, there, slice-cons (from + k) to source 0 (omega arith) long) refl

@@ -41,10 +41,14 @@ pub fn put_numbers(out: &mut [u8], at: usize, byte: u8, numbers: &[u32])
     }
 }
 
-// Stores the bytes that stand in `source` from one place up to another. (Both places are told, and no part is lent, as promises tell it: `slice`.)
+// Stores the bytes that stand in `source` from one place up to another. (Both places are told, and no part is lent, as promises tell it: `slice`.
+// One by one, since what is copied is mostly a command of a few bytes: with `copy_from_slice` a call of the C library's is made for each.)
+#[tactic(auto, using(crate::proofs::Sets::copied_one))]
 pub fn copy(source: &[u8], from: usize, to: usize, out: &mut [u8], at: usize)
     requires { (from ≤ to) × (to ≤ length source.now) × (at + (to - from) ≤ length out.old) }
     ensures { out.new ≡ sets out.old at (slice from to source.now) }
 {
-    out[at..at + (to - from)].copy_from_slice(&source[from..to]);
+    for k in 0..to - from {
+        put_byte(out, at + k, source[from + k]);
+    }
 }

@@ -16,15 +16,15 @@ pub mod write;
 use crate::notice::write_span;
 use crate::route::write_routes;
 use crate::write::{write_flag, write_list, write_option};
-use forest::{Table, VertexGroups, bridge_at, cut_at};
+use forest::{Readable, VertexGroups, bridge_at, cut_at};
 use step::{Finding, Listed, Reply};
 use storing::put_numbers;
 
 // The answer with a finding: each kind by its own writer.
 #[tactic(auto, unfolding(step::specs::Promise::finding_size, step::specs::Promise::finding_answer, step::specs::Promise::group_answer, step::specs::Promise::group_told, commands::specs::Answer::answer_bytes, commands::specs::Answer::answer_fields, commands::specs::Answer::plain_fields, commands::specs::Field::fields_bytes, commands::specs::Field::field_bytes, commands::specs::Bytes::two_bytes), using(crate::proofs::WriteSteps::shared_bytes, crate::proofs::WriteSteps::length_bytes))]
-fn write_finding(t: &Table, out: &mut [u8], finding: Finding)
+fn write_finding<T: Readable>(t: &T, out: &mut [u8], finding: Finding)
     requires { finding_size finding ≤ length out.old }
-    ensures { out.new ≡ sets out.old 0 (answer_bytes (plain (finding_answer t.now.shape t.now.words.now finding))) }
+    ensures { out.new ≡ sets out.old 0 (answer_bytes (plain (finding_answer (T.shape t.now) (T.words t.now) finding))) }
 {
     match finding {
         Finding::Group(VertexGroups::Components, g) => put_numbers(
@@ -54,9 +54,9 @@ fn write_finding(t: &Table, out: &mut [u8], finding: Finding)
 
 // The answer, at the front of what is left of the answer buffer: each kind by its own writer.
 #[tactic(auto, unfolding(step::specs::Promise::reply_size, step::specs::Promise::reply_answer, commands::specs::Answer::answer_bytes, commands::specs::Answer::answer_fields, commands::specs::Field::fields_bytes, commands::specs::Field::field_bytes, commands::specs::Bytes::two_bytes), using(crate::proofs::WriteSteps::reply_written))]
-pub fn write_reply(t: &Table, out: &mut [u8], reply: Reply)
+pub fn write_reply<T: Readable>(t: &T, out: &mut [u8], reply: Reply)
     requires { (reply_size reply ≤ length out.old) × ReplyFits reply }
-    ensures { out.new ≡ over (answer_bytes (reply_answer t.now.shape t.now.words.now reply)) out.old }
+    ensures { out.new ≡ over (answer_bytes (reply_answer (T.shape t.now) (T.words t.now) reply)) out.old }
 {
     match reply {
         Reply::Cabinet(a) => put_numbers(out, 0, 0x81, &[a.0]),

@@ -7,13 +7,13 @@ ghost use Rattle.step.specs.Promise.{notice_at, notices_of, notice_count, growth
 ghost use Rattle.writing.specs.Inside.Notices.{kind_of, notice_of, length_notice};
 
 use crate::items::{Item, put_items};
-use forest::{Change, Growth, Table, VertexGroups, edge_change_at, vertex_change_at};
+use forest::{Change, Growth, Readable, VertexGroups, edge_change_at, vertex_change_at};
 use numbers::{Edge, Vertex};
 use storing::put_numbers;
 
 // The kinds of names that notices tell. A kind is told, and no closure that gives its notices, since the promises speak of the notices of a kind.
 #[derive(Clone, Copy)]
-pub(crate) enum Kind {
+pub enum Kind {
     District,
     Ring,
     Mesh,
@@ -21,7 +21,7 @@ pub(crate) enum Kind {
 
 // A notice: a cabinet's new district or ring name, or a span's new mesh name.
 #[derive(Clone, Copy)]
-pub(crate) enum Notice {
+pub enum Notice {
     District(Change<Vertex>),
     Ring(Change<Vertex>),
     Mesh(Change<Edge>),
@@ -49,8 +49,8 @@ impl Item for Notice {
 
 // Notice i of a kind, as the table has it written down.
 #[tactic(auto, unfolding(crate::specs::Inside::Notices::kind_of, crate::specs::Inside::Notices::notice_of, step::specs::Promise::notice_at, commands::specs::Answer::change_notice))]
-fn notice_at(t: &Table, kind: Kind, i: u32) -> Notice
-    ensures { notice_of result ≡ notice_at (kind_of kind) t.now.shape t.now.words.now i }
+fn notice_at<T: Readable>(t: &T, kind: Kind, i: u32) -> Notice
+    ensures { notice_of result ≡ notice_at (kind_of kind) (T.shape t.now) (T.words t.now) i }
 {
     match kind {
         Kind::District => Notice::District(vertex_change_at(t, VertexGroups::Components, i)),
@@ -60,19 +60,19 @@ fn notice_at(t: &Table, kind: Kind, i: u32) -> Notice
 }
 
 // The notices of a kind, one after another, from a place on. Gives the place behind them.
-fn put_notices(t: &Table, out: &mut [u8], at: usize, kind: Kind, count: u32) -> usize
+fn put_notices<T: Readable>(t: &T, out: &mut [u8], at: usize, kind: Kind, count: u32) -> usize
     requires { at + 5 * count ≤ length out.old }
     ensures place { result ≡ at + 5 * count }
-    ensures stored { out.new ≡ sets out.old at (fields_bytes (notices_fields (notices_of (kind_of kind) t.now.shape t.now.words.now count))) }
+    ensures stored { out.new ≡ sets out.old at (fields_bytes (notices_fields (notices_of (kind_of kind) (T.shape t.now) (T.words t.now) count))) }
 {
     put_items(out, at, count, |i| notice_at(t, kind, i))
 }
 
 // The answer to an added span.
 #[tactic(auto, unfolding(crate::specs::Inside::Notices::kind_of), using(crate::proofs::WriteSteps::span_written))]
-pub(crate) fn write_span(t: &Table, out: &mut [u8], span: Edge, growth: Growth)
+pub(crate) fn write_span<T: Readable>(t: &T, out: &mut [u8], span: Edge, growth: Growth)
     requires { (notice_count growth < 65536) × (7 + 5 * notice_count growth ≤ length out.old) }
-    ensures { out.new ≡ sets out.old 0 (answer_bytes (span_added span.0 growth.block.0 (growth_notices t.now.shape t.now.words.now growth))) }
+    ensures { out.new ≡ sets out.old 0 (answer_bytes (span_added span.0 growth.block.0 (growth_notices (T.shape t.now) (T.words t.now) growth))) }
 {
     let total = growth.components + growth.bridge_blocks + growth.blocks;
     put_numbers(out, 0, 0x82, &[span.0, growth.block.0, total]);

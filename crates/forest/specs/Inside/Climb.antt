@@ -73,6 +73,10 @@ climb_from (suc k) t limits r =
     cond (r.a.0 == r.b.0) (record { table = t; trail = r })
     (cond (above == 0) (record { table = t; trail = r }) next)
 
+-- How many steps of a climb nest in one another at most.
+abbrev pub nested_most : ℕ
+nested_most = 12
+
 -- The climb that goes on from the block of an edge.
 unfoldable pub climb_from_block : ℕ → List ℕ → Limits → Trail → ℕ → Bool → Climbed
 climb_from_block k t limits r e right =

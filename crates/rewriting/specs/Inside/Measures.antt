@@ -15,7 +15,7 @@ size_of byte width = cond (eqb byte 2) (3 + width) (1 + width)
 -- What is measured of a journal: the length of the result, or the place of the first 0B, for which it is refused.
 abbrev pub Measures : List ℕ → P.Result ℕ RefusedAt → Type 0
 Measures journal (P.Ok n) = (first_duct_told (text_of journal).commands ≡ none) × (n ≡ length (rewritten_bytes journal))
-Measures journal (P.Err refused) = (first_duct_told (text_of journal).commands ≡ some refused.place) × (refused.refusal ≡ R.DuctTold)
+Measures journal (P.Err refused) = (first_duct_told (text_of journal).commands ≡ some refused.place) × (refused.refusal ≡ R.DuctTold) × (refused.place ≤ length journal)
 
 -- A journal that is measured up to a place, with so many spans and no 0B before it: what is left leads to its first 0B and to the length of
 -- its result.

@@ -9,8 +9,8 @@ use Rattle.writing.proofs.write_finding.Goals as goal
 
 pub returns-in-List-Spans-default : goal.returns-in-List-Spans-default
 unfolding finding_answer item_at
-returns-in-List-Spans-default c =
-    let at = item_at L.Spans c.args.t.now.shape c.args.t.now.words.now in
+returns-in-List-Spans-default g c =
+    let at = item_at L.Spans (g.T.Readable.shape c.args.t.now) (g.T.Readable.words c.args.t.now) in
     let count = c.in-List-Spans-default.count in
     let listed : c.in-List-Spans-default.field-0 ≡ L.Spans = rw c.in-List-Spans-default.is at c.in-List-Spans-default.field-0-is in
     rw (c.in-List-Spans-default.is, listed)
@@ -18,8 +18,8 @@ returns-in-List-Spans-default c =
 
 pub returns-in-List-Cabinets-default : goal.returns-in-List-Cabinets-default
 unfolding finding_answer item_at
-returns-in-List-Cabinets-default c =
-    let at = item_at L.Cabinets c.args.t.now.shape c.args.t.now.words.now in
+returns-in-List-Cabinets-default g c =
+    let at = item_at L.Cabinets (g.T.Readable.shape c.args.t.now) (g.T.Readable.words c.args.t.now) in
     let count = c.in-List-Cabinets-default.count in
     let listed : c.in-List-Cabinets-default.field-0 ≡ L.Cabinets = rw c.in-List-Cabinets-default.is at c.in-List-Cabinets-default.field-0-is in
     rw (c.in-List-Cabinets-default.is, listed)

@@ -7,4 +7,4 @@ use Rattle.forest.proofs.climb.climb_on.Goals as goal
 pub loop-some-preserved : goal.loop-some-preserved
 loop-some-preserved c =
     let l = c.loop-some in
-    grind (arith, common_steps, climb_rest c.min-some.result l.remaining l.t.words.now l.t.shape.limits l.r)
+    grind (arith, common_steps, climb_rest c.nested-some.result l.remaining l.t.words.now l.t.shape.limits l.r)

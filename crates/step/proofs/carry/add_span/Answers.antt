@@ -1,5 +1,7 @@
 -- `carry::add_span` adds a span.
 use mathlib.Core.Path.{◌≡◌, refl, ◌∙◌, ap}
+use native.Mathlib.Omega.{arith}
+use Rattle.std.proofs.lemmas.Grind.{common_steps}
 use Rattle.std.specs.Prelude.{Option, None, Some, unwrap_or}
 use Rattle.numbers.specs.declared.Duct.{Duct}
 use Rattle.step.specs.Inside.Asked.{duct_of}
@@ -17,6 +19,6 @@ returns c =
     let lies : c.unwrap_or.result.0 ≡ duct_of c.args.duct = ap (λ (d : Duct). d.0) c.unwrap_or.ensures ∙ duct_told c.args.duct _ refl in
     record {
       carried = span_carried _ (rw lies at c.add_edge-growth.ensures.added) c.args.n.now.holds;
-      shape = c.add_edge-growth.ensures.shape;
+      shape = grind (arith, common_steps, c.add_edge-growth.ensures.shape);
       reference = c.add_edge-growth.ensures.reference;
     }

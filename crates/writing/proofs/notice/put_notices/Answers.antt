@@ -9,8 +9,8 @@ use Rattle.writing.proofs.ItemSteps.{each_notice}
 use Rattle.writing.proofs.notice.put_notices.Goals as goal
 
 pub returns-clause-stored : goal.returns-clause-stored
-returns-clause-stored c =
-    let told = notice_at (kind_of c.args.kind) c.args.t.now.shape c.args.t.now.words.now in
+returns-clause-stored g c =
+    let told = notice_at (kind_of c.args.kind) (g.T.Readable.shape c.args.t.now) (g.T.Readable.words c.args.t.now) in
     rw (← each_notice told c.args.count)
     (c.put_items.ensures.stored (λ i. fields_bytes (notice_fields (told i)))
     (λ i h x given. ap (λ n. fields_bytes (notice_fields n)) (search rules)))

@@ -12,8 +12,8 @@ use Rattle.writing.proofs.RouteSteps.{route_written}
 use Rattle.writing.proofs.route.put_route.Goals as goal
 
 pub returns-clause-stored : goal.returns-clause-stored
-returns-clause-stored c =
-    let at = edge_at c.args.t.now.shape c.args.t.now.words.now c.args.route in
+returns-clause-stored g c =
+    let at = edge_at (g.T.Readable.shape c.args.t.now) (g.T.Readable.words c.args.t.now) c.args.route in
     c.put_items.ensures.stored (λ i. two_bytes (at i)) (λ i h x given. ap two_bytes (search rules))
     ∙ rw (each_number span spans_in_two_bytes at c.args.count, c.put_two.ensures)
     (route_written c.args.out.now c.args.from (c.args.from + 2) c.args.count at (omega arith))
