@@ -4,7 +4,10 @@
 ghost use Rattle.std.specs.Prelude.{◌<◌, IfSome};
 ghost use Rattle.forest.specs.Promise.{IsSame};
 
-use forest::{Growth, Network, VertexGroups, bridge_at, cut_at, edge_change_at, vertex_change_at};
+use forest::{
+    Growth, Network, NetworkView, VertexGroups, View, bridge_at, cut_at, edge_change_at,
+    vertex_change_at,
+};
 use numbers::{Duct, Edge, GREATEST, Limits, Vertex};
 use std::io;
 
@@ -20,18 +23,18 @@ fn say_list<F: Fn(u32) -> u32>(rt: &impl Print, label: &str, count: u32, item: F
 }
 
 // Prints an edge that was added, its block, and the items of each kind that changed their name.
-fn say_growth(rt: &impl Print, n: &Network, s: Edge, growth: Growth) -> io::Result<()> {
+fn say_growth(rt: &impl Print, t: &View, s: Edge, growth: Growth) -> io::Result<()> {
     println!(rt; "added edge {}, block {}; changed", s.0, growth.block.0)?;
     say_list(rt, "  components ", growth.components, |i| {
-        let change = vertex_change_at(&n.table, VertexGroups::Components, i);
+        let change = vertex_change_at(t, VertexGroups::Components, i);
         change.item.0
     })?;
     say_list(rt, "  bridge-blocks ", growth.bridge_blocks, |i| {
-        let change = vertex_change_at(&n.table, VertexGroups::BridgeBlocks, i);
+        let change = vertex_change_at(t, VertexGroups::BridgeBlocks, i);
         change.item.0
     })?;
     say_list(rt, "  blocks ", growth.blocks, |i| {
-        edge_change_at(&n.table, i).item.0
+        edge_change_at(t, i).item.0
     })
 }
 
@@ -48,7 +51,7 @@ fn grow(rt: &impl Print, n: &mut Network, a: Vertex, b: Vertex, d: Duct) -> io::
     let room = shape.edges < u32::from(shape.limits.edges);
     if room && a.0 < shape.vertices && b.0 < shape.vertices && a != b {
         let growth = n.add_edge(a, b, d);
-        say_growth(rt, n, Edge(shape.edges), growth)?;
+        say_growth(rt, &n.table.view(), Edge(shape.edges), growth)?;
     }
     Ok(())
 }
@@ -57,7 +60,7 @@ fn grow(rt: &impl Print, n: &mut Network, a: Vertex, b: Vertex, d: Duct) -> io::
 fn say_group(
     rt: &impl Print,
     label: &str,
-    n: &Network,
+    n: &NetworkView,
     groups: VertexGroups,
     x: Vertex,
 ) -> io::Result<()>
@@ -95,7 +98,7 @@ fn mark_ends(n: &mut Network)
 }
 
 // Prints the names of a vertex, the sizes of its groups, and how many vertices of its bridge-block are marked.
-fn say_vertex(rt: &impl Print, n: &Network, x: Vertex) -> io::Result<()>
+fn say_vertex(rt: &impl Print, n: &NetworkView, x: Vertex) -> io::Result<()>
     requires { x.0 < n.now.table.shape.vertices }
 {
     print!(rt; "vertex {}", x.0)?;
@@ -105,7 +108,7 @@ fn say_vertex(rt: &impl Print, n: &Network, x: Vertex) -> io::Result<()>
 }
 
 // Prints the block of an edge, and whether it is a bridge.
-fn say_edge(rt: &impl Print, n: &Network, s: Edge) -> io::Result<()>
+fn say_edge(rt: &impl Print, n: &NetworkView, s: Edge) -> io::Result<()>
     requires { s.0 < n.now.table.shape.edges }
 {
     print!(rt; "edge {}: block {}", s.0, n.block_name(s).0)?;
@@ -116,7 +119,7 @@ fn say_edge(rt: &impl Print, n: &Network, s: Edge) -> io::Result<()>
 }
 
 // Prints the block that two vertices share, where they differ.
-fn say_shared(rt: &impl Print, n: &Network, a: Vertex, b: Vertex) -> io::Result<()>
+fn say_shared(rt: &impl Print, n: &NetworkView, a: Vertex, b: Vertex) -> io::Result<()>
     requires { (a.0 < n.now.table.shape.vertices) × (b.0 < n.now.table.shape.vertices) }
 {
     if a == b {
@@ -144,16 +147,16 @@ fn say_between(rt: &impl Print, n: &mut Network, a: Vertex, b: Vertex) -> io::Re
 // Prints all that the network tells of its vertices and edges, and of the first and the last vertex.
 fn tell(rt: &impl Print, n: &mut Network) -> io::Result<()> {
     for x in 0..n.table.shape.vertices {
-        say_vertex(rt, n, Vertex(x))?;
+        say_vertex(rt, &n.view(), Vertex(x))?;
     }
     for s in 0..n.table.shape.edges {
-        say_edge(rt, n, Edge(s))?;
+        say_edge(rt, &n.view(), Edge(s))?;
     }
     let Some(last) = last_vertex(n) else {
         return Ok(());
     };
     println!(rt; "from vertex 0 to vertex {}", last.0)?;
-    say_shared(rt, n, Vertex(0), last)?;
+    say_shared(rt, &n.view(), Vertex(0), last)?;
     say_between(rt, n, Vertex(0), last)
 }
 

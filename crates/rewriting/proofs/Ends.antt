@@ -8,9 +8,11 @@ use lib.ListN.{length}
 use Rattle.graph.proofs.Truth.{ltb_ge, ge_ltb}
 use Rattle.commands.specs.Entry.{over}
 use Rattle.std.specs.Prelude.{Ok, Err}
+use Rattle.std.proofs.Math.Option.{some}
 use Rattle.commands.specs.Refusal.{refusal_number}
 use Rattle.commands.specs.Forecast.{no_forecast, forecast}
-use Rattle.commands.specs.Rewrite.{Rewriting, rewritten_bytes, rewrite}
+use Rattle.commands.specs.Text.{text_of}
+use Rattle.commands.specs.Rewrite.{Rewriting, rewritten_bytes, rewrite, first_duct_told}
 use Rattle.commands.proofs.Table.{number_above_zero}
 use Rattle.commands.proofs.ForecastExactly.{forecast_nought_exactly}
 use Rattle.commands.proofs.RewriteExactly.{TooLong, rewrite_as_forecast, rewrite_of_told, rewrite_of_too_long, rewrite_of_fitting}
@@ -19,7 +21,6 @@ use Rattle.refusals.specs.Causes.{cause_of}
 use Rattle.refusals.specs.declared.Refusal.TheVariants as R
 use Rattle.refusals.specs.declared.RefusedAt.{RefusedAt}
 use Rattle.forecast.specs.Promise.{foretold}
-use Rattle.rewriting.specs.Inside.Measures.{Measures}
 use Rattle.rewriting.specs.Promise.{Rewrote}
 use Rattle.reading.specs.Inside.Places.{Readable}
 use Rattle.rewriting.specs.Inside.Writes.{result_stored, Result}
@@ -60,8 +61,8 @@ module _ {journal lent : List ℕ} where
       p
 
   -- a 0B
-  pub refused_as_told : (refused : RefusedAt) (n : ℕ) → foretold (length journal) (Ok n) ≡ forecast journal → Measures journal (Err refused)
-      → Rewrote journal lent lent (Err refused)
+  pub refused_as_told : (refused : RefusedAt) (n : ℕ) → foretold (length journal) (Ok n) ≡ forecast journal
+      → (first_duct_told (text_of journal).commands ≡ some refused.place) × (refused.refusal ≡ R.DuctTold) → Rewrote journal lent lent (Err refused)
   unfolding refusal_number foretold
   refused_as_told refused n read told =
       refused_with_lem

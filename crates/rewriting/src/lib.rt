@@ -101,13 +101,9 @@ fn put_command(reader: Reader<'_>, head: Taken<u8>, spans: u32, out: &mut [u8], 
     if head.command == 2 {
         put_span(reader, head.width, spans + 1, out, at);
     } else {
-        copy(
-            reader.journal,
-            reader.place,
-            reader.place + 1 + head.width,
-            out,
-            at,
-        );
+        let from = reader.place + 1;
+        put_byte(out, at, reader.journal[reader.place]);
+        copy(reader.journal, from, from + head.width, out, at + 1);
     }
 }
 

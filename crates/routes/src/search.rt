@@ -68,7 +68,8 @@ fn reach(n: &mut Network, x: Vertex, s: Edge, found: u32) -> u32
     found
 }
 
-// Sees edge s from vertex y: its other end is reached, if it was not and if the step from there may be taken.
+// Sees edge s from vertex y: its other end is reached, if it was not and if the step from there may be taken. (Whether it was is asked first: every
+// edge is seen from both its ends.)
 #[tactic(auto, using(crate::proofs::SearchesLook::other_known))]
 fn look(n: &mut Network, allowance: Allowance, y: Vertex, s: Edge, found: u32) -> u32
     requires { s.0 < n.old.table.shape.edges }
@@ -77,11 +78,11 @@ fn look(n: &mut Network, allowance: Allowance, y: Vertex, s: Edge, found: u32) -
 {
     let ends = n.ends_of(s);
     let x = other_end(ends, y);
-    let used = Use::in_word(edge_scratch(&n.table, s));
-    if !may_step(allowance, used, ends.left == x) {
+    if vertex_scratch(&n.table, NEXT, x) != 0 {
         return found;
     }
-    if vertex_scratch(&n.table, NEXT, x) != 0 {
+    let used = Use::in_word(edge_scratch(&n.table, s));
+    if !may_step(allowance, used, ends.left == x) {
         return found;
     }
     reach(n, x, s, found)
